@@ -1,7 +1,7 @@
 -- Reading several things one after the other, as a loop does.
 use Rattle.std.proofs.Common.{◌≡◌, List, ◌∷◌, [], ◌++◌, Option, None, Some, Result, Ok, Err, refl, ap, append_assoc}
 use Rattle.std.specs.Prelude.{IfSome}
-use Rattle.pw_outside.specs.Reading.{Fault, Rest, Read, bind, ◌>>=◌, Fails}
+use Rattle.pw_outside.specs.Reading.{Fault, Read, bind, ◌>>=◌, Fails}
 
 -- what was read before, and then what is still read
 abbrev pub with_front : {Kind X : Type 0} → List X → Read Kind (List X) → Read Kind (List X)

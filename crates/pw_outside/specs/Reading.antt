@@ -1,7 +1,7 @@
 -- Reading a format from left to right: a value and the rest, or the first fault and its place.
 -- Each format's own definitions are chains of these; each call that reads has one clause that says
 -- that it answers what its definition gives.
-use Rattle.std.specs.Prelude.{◌≡◌, ℕ, ◌+◌, List, [], length, take, drop, Option, None, Some, Bool, Result, Ok, Err, nat_lt, if◌then◌else◌, IsSome, OnOk, IfSome, unwrap_or}
+use Rattle.std.specs.Prelude.{◌≡◌, ℕ, ◌+◌, List, [], length, take, drop, Option, Bool, Result, Ok, Err, nat_lt, if◌then◌else◌, IsSome, OnOk, IfSome, unwrap_or}
 use Rattle.std.specs.Int.{Width, byte_len, from_be_bytes}
 
 -- what is wrong, and at which place of the input

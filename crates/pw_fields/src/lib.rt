@@ -1,0 +1,163 @@
+//! Big-endian numbers at the front of a slice, and the bytes of numbers.
+#![tactic(auto)]
+
+ghost use Rattle.std.specs.Prelude.{◌≡◌, ◌<◌, ◌++◌, length, IfOk, OnErr};
+ghost use Rattle.std.specs.Int.{w8, w16, w32, w64, to_be_bytes};
+
+use byteorder::{BigEndian, ByteOrder};
+use std::marker::Model;
+
+/// Fewer bytes remain than were asked for.
+#[derive(Clone, Copy, Debug, PartialEq, Eq)]
+pub struct Short;
+
+/// The bytes that remain of a slice, read from the front. A call that finds fewer bytes than it wants
+/// takes nothing.
+#[derive(Drop)]
+pub struct Fields<'a> {
+    rest: &'a [u8],
+}
+
+impl<'a> Model for Fields<'a> {
+    ghost use Rattle.std.specs.Prelude.{List, ℕ};
+
+    ghost Value = { List ℕ };
+
+    ghost view = { λ f. f.rest.now };
+}
+
+impl<'a> Fields<'a> {
+    /// Reads from the front of these bytes.
+    pub fn new(bytes: &'a [u8]) -> Fields<'a>
+        ensures { result ≡ bytes.now }
+    {
+        Fields { rest: bytes }
+    }
+
+    /// How many bytes remain.
+    pub fn left(&self) -> usize
+        ensures { result ≡ length self.now }
+    {
+        self.rest.len()
+    }
+
+    /// The next `n` bytes; `Short` where fewer remain.
+    pub fn take(&mut self, n: usize) -> Result<&'a [u8], Short>
+        ensures ok { IfOk result (λ bytes. (length bytes.now ≡ n) × (self.old ≡ bytes.now ++ self.new)) }
+        ensures short { OnErr result (length self.old < n) }
+        ensures same { OnErr result (self.new ≡ self.old) }
+    {
+        if self.rest.len() < n {
+            return Err(Short);
+        }
+        let (front, rest) = self.rest.split_at(n);
+        self.rest = rest;
+        Ok(front)
+    }
+
+    /// The next byte; `Short` where none remains.
+    pub fn u8(&mut self) -> Result<u8, Short>
+        ensures ok { IfOk result (λ n. self.old ≡ to_be_bytes w8 n ++ self.new) }
+        ensures short { OnErr result (length self.old < 1) }
+        ensures same { OnErr result (self.new ≡ self.old) }
+    {
+        let bytes = self.take(1)?;
+        Ok(bytes[0])
+    }
+
+    /// The number whose two bytes come next, the most significant first; `Short` where fewer remain.
+    pub fn u16(&mut self) -> Result<u16, Short>
+        ensures ok { IfOk result (λ n. self.old ≡ to_be_bytes w16 n ++ self.new) }
+        ensures short { OnErr result (length self.old < 2) }
+        ensures same { OnErr result (self.new ≡ self.old) }
+    {
+        let bytes = self.take(2)?;
+        Ok(u16::from_be_bytes([bytes[0], bytes[1]]))
+    }
+
+    /// The number whose four bytes come next, the most significant first; `Short` where fewer remain.
+    pub fn u32(&mut self) -> Result<u32, Short>
+        ensures ok { IfOk result (λ n. self.old ≡ to_be_bytes w32 n ++ self.new) }
+        ensures short { OnErr result (length self.old < 4) }
+        ensures same { OnErr result (self.new ≡ self.old) }
+    {
+        let bytes = self.take(4)?;
+        Ok(u32::from_be_bytes([bytes[0], bytes[1], bytes[2], bytes[3]]))
+    }
+
+    /// The number whose eight bytes come next, the most significant first; `Short` where fewer remain.
+    pub fn u64(&mut self) -> Result<u64, Short>
+        ensures ok { IfOk result (λ n. self.old ≡ to_be_bytes w64 n ++ self.new) }
+        ensures short { OnErr result (length self.old < 8) }
+        ensures same { OnErr result (self.new ≡ self.old) }
+    {
+        let bytes = self.take(8)?;
+        Ok(u64_of(bytes))
+    }
+}
+
+/// The number of these eight bytes, the most significant first.
+fn u64_of(bytes: &[u8]) -> u64
+    requires { length bytes.now ≡ 8 }
+    ensures { to_be_bytes w64 result ≡ bytes.now }
+{
+    u64::from_be_bytes([
+        bytes[0], bytes[1], bytes[2], bytes[3], bytes[4], bytes[5], bytes[6], bytes[7],
+    ])
+}
+
+/// The two bytes of a number, the most significant first.
+pub fn be16(value: u16) -> [u8; 2]
+    ensures { result ≡ to_be_bytes w16 value }
+{
+    let mut bytes = [0; 2];
+    BigEndian::write_u16(&mut bytes, value);
+    bytes
+}
+
+/// The four bytes of a number, the most significant first.
+pub fn be32(value: u32) -> [u8; 4]
+    ensures { result ≡ to_be_bytes w32 value }
+{
+    let mut bytes = [0; 4];
+    BigEndian::write_u32(&mut bytes, value);
+    bytes
+}
+
+/// The eight bytes of a number, the most significant first.
+pub fn be64(value: u64) -> [u8; 8]
+    ensures { result ≡ to_be_bytes w64 value }
+{
+    let mut bytes = [0; 8];
+    BigEndian::write_u64(&mut bytes, value);
+    bytes
+}
+
+#[cfg(test)]
+mod tests {
+    use super::*;
+
+    #[test]
+    fn reads_each_width_from_the_front(rt: HostRuntime) {
+        let bytes = [
+            0x01, 0x12, 0x34, 0x89, 0xAB, 0xCD, 0xEF, 0, 1, 2, 3, 4, 5, 6, 7, 0xFF, 0xFE,
+        ];
+        let mut fields = Fields::new(&bytes);
+        assert_eq!(rt; fields.left(), 17);
+        assert_eq!(rt; fields.u8(), Ok(0x01));
+        assert_eq!(rt; fields.u16(), Ok(0x1234));
+        assert_eq!(rt; fields.u32(), Ok(0x89AB_CDEF));
+        assert_eq!(rt; fields.u64(), Ok(0x0001_0203_0405_0607));
+        assert_eq!(rt; fields.left(), 2);
+        assert_eq!(rt; fields.u32(), Err(Short));
+        assert_eq!(rt; fields.u16(), Ok(0xFFFE));
+        assert_eq!(rt; fields.u8(), Err(Short));
+    }
+
+    #[test]
+    fn gives_the_bytes_of_each_width(rt: HostRuntime) {
+        assert_eq!(rt; be16(0x1234), [0x12, 0x34]);
+        assert_eq!(rt; be32(0x89AB_CDEF), [0x89, 0xAB, 0xCD, 0xEF]);
+        assert_eq!(rt; be64(0x0001_0203_0405_0607), [0, 1, 2, 3, 4, 5, 6, 7]);
+    }
+}
