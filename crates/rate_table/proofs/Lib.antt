@@ -1,0 +1,6 @@
+pub mod InTurn
+pub mod Chosen
+pub mod Lists
+pub mod Entries
+pub mod Enumerated
+pub mod Best

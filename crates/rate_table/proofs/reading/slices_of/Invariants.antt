@@ -1,0 +1,20 @@
+use Rattle.std.proofs.Common.{◌≡◌, ◌+◌, ◌-◌, ◌*◌, ◌≤◌, length}
+use Rattle.std.specs.Prelude.{IsSome}
+use Rattle.std.specs.List.{All}
+use Rattle.rate_table.specs.Table.{IsSlice}
+use Rattle.pw_outside.specs.Reading.{rest_of}
+use Rattle.rate_table.specs.Reading.{slices_at}
+use Rattle.pw_outside.proofs.Chains.{with_front}
+use Rattle.rate_table.proofs.reading.slices_of.Given as goal
+
+abbrev pub invariant-loop : goal.invariant-loop
+invariant-loop g l = record {
+  count : length l.slices.items ≡ l.counter;
+  place : l.place ≤ l.initial.place + 2465 * l.counter;
+  each : All IsSlice l.slices.items;
+  told : IsSome (g.S.ByteSource.left l.initial.source) → IsSome (g.S.ByteSource.left l.source);
+  bytes : IsSome (g.S.ByteSource.left l.initial.source)
+      → with_front l.slices.items (slices_at (l.count - l.counter) (rest_of l.place (g.S.ByteSource.left l.source)))
+      ≡ slices_at l.count (rest_of l.initial.place (g.S.ByteSource.left l.initial.source));
+  cause : g.S.ByteSource.faults l.source ≡ g.S.ByteSource.faults l.initial.source;
+}

@@ -1,0 +1,30 @@
+-- Laws of the best choice, over the definitions alone.
+use Rattle.std.specs.Prelude.{◌≡◌, ◌<◌, ◌↔◌, List, length}
+use Rattle.std.specs.List.{Contains}
+use Rattle.rate_table.specs.declared.entry.Entry.{Entry}
+use Rattle.rate_table.specs.Table.{Table, IsTable, IsChoice, Fits, HasNoFit, IsBest, indices, least_bytes}
+use Rattle.rate_table.specs.Choices.{all_choices, width}
+
+-- Where a choice fits there is a best one.
+abbrev pub BestExists : Type 0
+BestExists = (t : Table) (choice : List Entry) → IsTable t → IsChoice t.slices choice → Fits t choice → (best : List Entry) × IsBest t best
+
+-- There is one best choice at most.
+abbrev pub BestIsOne : Type 0
+BestIsOne = (t : Table) (first second : List Entry) → IsTable t → IsBest t first → IsBest t second → first ≡ second
+
+-- No choice fits exactly where the fixed bytes and the least sizes pass the budget.
+abbrev pub NoneFitsBelowLeast : Type 0
+NoneFitsBelowLeast = (t : Table) → IsTable t → HasNoFit t ↔ (t.budget < least_bytes t)
+
+-- The list of all choices has exactly the choices.
+abbrev pub AllChoicesAreChoices : Type 0
+AllChoicesAreChoices = (slices : List (List Entry)) (choice : List Entry) → Contains (all_choices slices) choice ↔ IsChoice slices choice
+
+-- It has as many as the product of the numbers of entries.
+abbrev pub AllChoicesCount : Type 0
+AllChoicesCount = (slices : List (List Entry)) → length (all_choices slices) ≡ width slices
+
+-- Of a table's choices one alone has these indices.
+abbrev pub IndicesTellChoice : Type 0
+IndicesTellChoice = (t : Table) (first second : List Entry) → IsTable t → IsChoice t.slices first → IsChoice t.slices second → indices first ≡ indices second → first ≡ second

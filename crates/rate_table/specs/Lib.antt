@@ -1,0 +1,4 @@
+pub mod Table
+pub mod Choices
+pub mod Laws
+pub mod Reading

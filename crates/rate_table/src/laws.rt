@@ -1,0 +1,33 @@
+//! Laws over the definitions alone.
+
+ghost use Rattle.rate_table.specs.Laws.{BestExists, BestIsOne, NoneFitsBelowLeast, AllChoicesAreChoices, AllChoicesCount, IndicesTellChoice};
+
+/// Where a choice fits there is a best one.
+pub fn best_exists()
+    ensures { BestExists }
+{}
+
+/// There is one best choice at most.
+pub fn best_is_one()
+    ensures { BestIsOne }
+{}
+
+/// No choice fits exactly where the fixed bytes and the least sizes pass the budget.
+pub fn none_fits_below_least()
+    ensures { NoneFitsBelowLeast }
+{}
+
+/// The list of all choices has exactly the choices.
+pub fn all_choices_are_choices()
+    ensures { AllChoicesAreChoices }
+{}
+
+/// It has as many as the product of the numbers of entries.
+pub fn all_choices_count()
+    ensures { AllChoicesCount }
+{}
+
+/// Of a table's choices one alone has these indices.
+pub fn indices_tell_choice()
+    ensures { IndicesTellChoice }
+{}

@@ -1,0 +1,20 @@
+//! Tables of sizes and errors, their files, and their choices.
+#![tactic(auto)]
+
+mod entry;
+mod fault;
+mod field;
+mod laws;
+mod reading;
+mod sums;
+mod table;
+
+pub use entry::{Entry, Pair};
+pub use fault::{ProofKind, TableFault};
+pub use laws::{
+    all_choices_are_choices, all_choices_count, best_exists, best_is_one, indices_tell_choice,
+    none_fits_below_least,
+};
+pub use reading::{read_body, read_file, read_table};
+pub use sums::{least, total};
+pub use table::{FrameTable, SliceTable, Slices};

@@ -1,0 +1,231 @@
+//! Tables from the bytes of a source.
+
+ghost use Rattle.std.specs.Prelude.{◌≡◌, ◌+◌, ◌<◌, ◌≤◌, ◌^◌, length, IfOk, OnOk};
+ghost use Rattle.std.specs.List.{All};
+ghost use Rattle.std.specs.Io.KnownBytes.{IsAtEnd};
+ghost use Rattle.pw_outside.specs.Ports.{CountsFault};
+ghost use Rattle.pw_outside.specs.Reading.{Gives, GivesValue, Answers, Told};
+ghost use Rattle.rate_table.specs.Reading.{told_fault, entry_at, entries_at, slice_at, slices_at, body_at, table_at, tabled, is_failed};
+ghost use Rattle.rate_table.specs.Table.{IsEntry, IndicesRise, IsSlice, IsTable};
+
+use crate::entry::Entry;
+use crate::fault::{ProofKind, TableFault, bad};
+use crate::field::{u8_of, u16_of, u32_of, u64_of};
+use crate::table::{FrameTable, SliceTable, Slices};
+use arrayvec::ArrayVec;
+use pw_outside::{ByteSource, fill};
+use std::alloc::Global;
+
+// `PWTB`
+const MAGIC: u32 = 0x5057_5442;
+
+/// The next entry, whose index is above `low`.
+#[tactic(auto, unfolding(crate::specs::Reading::entry_at, pw_outside::specs::Reading::bind))]
+fn entry_of<S: ByteSource>(source: &mut S, place: &mut u64, low: u8) -> Result<Entry, TableFault>
+    requires { place.old + 11 < 2 ^ 64 }
+    ensures bytes { Gives told_fault (λ x. x) (S.left source.old) (S.left source.new) place.old place.new result (entry_at low) }
+    ensures above { IfOk result (λ e. low < e.index) }
+    ensures entry { IfOk result IsEntry }
+    ensures place { place.new ≤ place.old + 11 }
+    ensures cause { CountsFault (S.faults source.old) (S.faults source.new) (is_failed result) }
+{
+    let at = *place;
+    let index = u8_of(source, place)?;
+    if index == 0 || 224 < index {
+        return Err(bad(ProofKind::TableLimit, at));
+    }
+    if index <= low {
+        return Err(bad(ProofKind::TableOrder, at));
+    }
+    let size = u16_of(source, place)?;
+    let at = *place;
+    let error = u64_of(source, place)?;
+    if error >= 1 << 43 {
+        return Err(bad(ProofKind::TableLimit, at));
+    }
+    Ok(Entry { index, size, error })
+}
+
+#[tactic(auto, using(pw_outside::proofs::Chains::with_front_nil))]
+fn entries_of<S: ByteSource>(
+    source: &mut S,
+    place: &mut u64,
+    count: u8,
+) -> Result<ArrayVec<Entry, 224>, TableFault>
+    requires few { count ≤ 224 }
+    requires room { place.old + 2464 < 2 ^ 64 }
+    ensures bytes { Gives told_fault (λ v. v.items) (S.left source.old) (S.left source.new) place.old place.new result (entries_at count 0) }
+    ensures count { IfOk result (λ v. length v.items ≡ count) }
+    ensures rises { IfOk result (λ v. IndicesRise v.items) }
+    ensures limits { IfOk result (λ v. All IsEntry v.items) }
+    ensures place { place.new ≤ place.old + 2464 }
+    ensures cause { CountsFault (S.faults source.old) (S.faults source.new) (is_failed result) }
+{
+    let mut entries: ArrayVec<Entry, 224> = ArrayVec::new();
+    let mut low = 0;
+    for _ in 0..count {
+        let entry = entry_of(source, place, low)?;
+        entries.push(entry);
+        low = entry.index;
+    }
+    Ok(entries)
+}
+
+#[tactic(auto, unfolding(crate::specs::Reading::slice_at, pw_outside::specs::Reading::bind))]
+fn slice_of<S: ByteSource>(source: &mut S, place: &mut u64) -> Result<SliceTable, TableFault>
+    requires { place.old + 2465 < 2 ^ 64 }
+    ensures bytes { Gives told_fault (λ t. t) (S.left source.old) (S.left source.new) place.old place.new result slice_at }
+    ensures slice { IfOk result IsSlice }
+    ensures place { place.new ≤ place.old + 2465 }
+    ensures cause { CountsFault (S.faults source.old) (S.faults source.new) (is_failed result) }
+{
+    let at = *place;
+    let count = u8_of(source, place)?;
+    if count == 0 {
+        return Err(bad(ProofKind::TableEmpty, at));
+    }
+    if 224 < count {
+        return Err(bad(ProofKind::TableLimit, at));
+    }
+    let entries = entries_of(source, place, count)?;
+    Ok(SliceTable::of(entries))
+}
+
+#[tactic(auto, using(pw_outside::proofs::Chains::with_front_nil))]
+fn slices_of<S: ByteSource>(
+    alloc: Global,
+    source: &mut S,
+    place: &mut u64,
+    count: u32,
+) -> Result<Vec<SliceTable>, TableFault>
+    requires few { count ≤ 131070 }
+    requires room { place.old < 2 ^ 63 + 100 }
+    ensures bytes { Gives told_fault (λ v. v.items) (S.left source.old) (S.left source.new) place.old place.new result (slices_at count) }
+    ensures count { IfOk result (λ v. length v.items ≡ count) }
+    ensures each { IfOk result (λ v. All IsSlice v.items) }
+    ensures cause { CountsFault (S.faults source.old) (S.faults source.new) (is_failed result) }
+{
+    let mut slices = Vec::new(alloc);
+    for _ in 0..count {
+        let slice = slice_of(source, place)?;
+        slices.push(slice)?;
+    }
+    Ok(slices)
+}
+
+#[tactic(auto, unfolding(crate::specs::Reading::body_at, pw_outside::specs::Reading::bind))]
+fn body_of<S: ByteSource>(
+    alloc: Global,
+    source: &mut S,
+    place: &mut u64,
+) -> Result<FrameTable, TableFault>
+    requires { place.old < 2 ^ 63 + 50 }
+    ensures bytes { Gives told_fault (λ t. t) (S.left source.old) (S.left source.new) place.old place.new result body_at }
+    ensures table { IfOk result IsTable }
+    ensures cause { CountsFault (S.faults source.old) (S.faults source.new) (is_failed result) }
+{
+    let at = *place;
+    let budget = u32_of(source, place)?;
+    if budget == 0 || budget >= 1 << 31 {
+        return Err(bad(ProofKind::TableLimit, at));
+    }
+    let at = *place;
+    let fixed = u32_of(source, place)?;
+    if fixed >= 1 << 31 {
+        return Err(bad(ProofKind::TableLimit, at));
+    }
+    let at = *place;
+    let count = u32_of(source, place)?;
+    if count == 0 {
+        return Err(bad(ProofKind::TableEmpty, at));
+    }
+    if 131_070 < count {
+        return Err(bad(ProofKind::TableLimit, at));
+    }
+    let slices = slices_of(alloc, source, place, count)?;
+    Ok(FrameTable {
+        budget,
+        fixed,
+        slices: Slices::from_vec(slices),
+    })
+}
+
+#[tactic(auto, unfolding(crate::specs::Reading::table_at, pw_outside::specs::Reading::bind))]
+fn table_of<S: ByteSource>(
+    alloc: Global,
+    source: &mut S,
+    place: &mut u64,
+) -> Result<FrameTable, TableFault>
+    requires { place.old ≡ 0 }
+    ensures bytes { Gives told_fault (λ t. t) (S.left source.old) (S.left source.new) place.old place.new result table_at }
+    ensures table { IfOk result IsTable }
+    ensures cause { CountsFault (S.faults source.old) (S.faults source.new) (is_failed result) }
+{
+    let magic = u32_of(source, place)?;
+    if magic != MAGIC {
+        return Err(bad(ProofKind::TableMagic, 0));
+    }
+    let at = *place;
+    let version = u8_of(source, place)?;
+    if version != 1 {
+        return Err(bad(ProofKind::TableMagic, at));
+    }
+    body_of(alloc, source, place)
+}
+
+/// Reads the body of a table, which begins at `place` of its file.
+///
+/// The errors are `Bad` with the first fault of the bytes, `Failed` where a call of the source failed, and
+/// `NoMemory`. After a table, what the source has left are the bytes behind it.
+pub fn read_body<S: ByteSource>(
+    alloc: Global,
+    source: &mut S,
+    place: u64,
+) -> Result<FrameTable, TableFault>
+    requires { place ≤ 2 ^ 63 }
+    // Where the source tells its bytes, the answer is the body that stands there, or its first fault.
+    ensures bytes { GivesValue told_fault (λ t. t) (S.left source.old) (S.left source.new) place result body_at }
+    ensures table { IfOk result IsTable }
+    // The error is `Failed` only where a call of the source failed, and each such call is answered by it.
+    ensures cause { CountsFault (S.faults source.old) (S.faults source.new) (is_failed result) }
+{
+    let mut place = place;
+    body_of(alloc, source, &mut place)
+}
+
+/// Reads a table file up to the end of its body.
+///
+/// The errors are those of [`read_body`].
+pub fn read_table<S: ByteSource>(alloc: Global, source: &mut S) -> Result<FrameTable, TableFault>
+    // Where the source tells its bytes, the answer is the table that they begin with, or their first fault.
+    ensures bytes { GivesValue told_fault (λ t. t) (S.left source.old) (S.left source.new) 0 result table_at }
+    ensures table { IfOk result IsTable }
+    // The error is `Failed` only where a call of the source failed, and each such call is answered by it.
+    ensures cause { CountsFault (S.faults source.old) (S.faults source.new) (is_failed result) }
+{
+    let mut place = 0;
+    table_of(alloc, source, &mut place)
+}
+
+/// Reads a table file with its end.
+///
+/// The errors are those of [`read_body`]; a byte behind the body is `Bad` with `TableTrailing`.
+#[tactic(auto, unfolding(crate::specs::Reading::tabled, pw_outside::specs::Reading::bind))]
+pub fn read_file<S: ByteSource>(alloc: Global, source: &mut S) -> Result<FrameTable, TableFault>
+    // Where the source tells its bytes, the answer is the table that they are, or their first fault.
+    ensures bytes { Told (S.left source.old) (λ bytes. Answers told_fault (λ t. t) result (tabled bytes)) }
+    ensures table { IfOk result IsTable }
+    // A table is given only where the input was read to its end.
+    ensures end { OnOk result (IsAtEnd (S.left source.new)) }
+    // The error is `Failed` only where a call of the source failed, and each such call is answered by it.
+    ensures cause { CountsFault (S.faults source.old) (S.faults source.new) (is_failed result) }
+{
+    let mut place = 0;
+    let table = table_of(alloc, source, &mut place)?;
+    let mut byte = [0u8; 1];
+    let count = fill(source, &mut byte)?;
+    if 0 < count {
+        return Err(bad(ProofKind::TableTrailing, place));
+    }
+    Ok(table)
+}

@@ -1,0 +1,80 @@
+//! Size and error of a choice, and the least bytes of a table.
+
+ghost use Rattle.std.specs.Prelude.{◌≡◌, ◌≤◌, ◌*◌, length, sum_by, IfSome, IfNone};
+ghost use Rattle.std.specs.List.{All, Contains};
+ghost use Rattle.rate_table.specs.declared.entry.Entry.{Entry};
+ghost use Rattle.rate_table.specs.Table.{IsSlice, HasSums, HasNoChoice, least, least_bytes};
+
+use crate::entry::Entry;
+use crate::table::{FrameTable, SliceTable};
+
+/// The entry with this index.
+fn entry_at(entries: &[Entry], index: u8) -> Option<Entry>
+    ensures some { IfSome result (λ e. Contains entries.now e × (e.index ≡ index)) }
+    ensures none { IfNone result ((e : Entry) → Contains entries.now e → e.index ≡ index → ⊥) }
+{
+    for entry in entries {
+        if entry.index == index {
+            return Some(*entry);
+        }
+    }
+    None
+}
+
+/// The size in bytes, without the fixed bytes, and the error of the choice with these indices, one for each
+/// slice; `None` where no choice has them. The size is below 2^33 and the error below 2^61. No memory is taken.
+pub fn total(table: &FrameTable, choice: &[u8]) -> Option<(u64, u64)>
+    ensures some { IfSome result (λ sums. HasSums table.now.slices choice.now sums.0 sums.1) }
+    ensures none { IfNone result (HasNoChoice table.now.slices choice.now) }
+{
+    total_of(table.slices.as_slice(), choice)
+}
+
+fn total_of(slices: &[SliceTable], choice: &[u8]) -> Option<(u64, u64)>
+    requires few { length slices.now ≤ 131070 }
+    requires each { All IsSlice slices.now }
+    ensures some { IfSome result (λ sums. HasSums slices.now choice.now sums.0 sums.1) }
+    ensures none { IfNone result (HasNoChoice slices.now choice.now) }
+{
+    if slices.len() != choice.len() {
+        return None;
+    }
+    let mut size: u64 = 0;
+    let mut error: u64 = 0;
+    for i in 0..slices.len() {
+        let entry = entry_at(slices[i].entries(), choice[i])?;
+        size += u64::from(entry.size);
+        error += entry.error;
+    }
+    Some((size, error))
+}
+
+fn least_of(entries: &[Entry]) -> u16
+    requires { 1 ≤ length entries.now }
+    ensures { result ≡ least (λ x. x.size) entries.now }
+{
+    let mut least = entries[0].size;
+    for entry in entries {
+        least = least.min(entry.size);
+    }
+    least
+}
+
+fn least_sum(slices: &[SliceTable]) -> u64
+    requires { length slices.now ≤ 131070 }
+    ensures value { result ≡ sum_by (least (λ x. x.size)) slices.now }
+    ensures small { result ≤ 65535 * length slices.now }
+{
+    let mut bytes = 0;
+    for slice in slices {
+        bytes += u64::from(least_of(slice.entries()));
+    }
+    bytes
+}
+
+/// The least bytes that a choice has: the fixed bytes and each slice's least size. No memory is taken.
+pub fn least(table: &FrameTable) -> u64
+    ensures { result ≡ least_bytes table.now }
+{
+    u64::from(table.fixed) + least_sum(table.slices.as_slice())
+}

@@ -1,0 +1,108 @@
+//! The tables of slices and of frames.
+
+use crate::entry::Entry;
+use arrayvec::ArrayVec;
+use std::marker::Model;
+
+/// The entries of one slice, 1 to 224 of them, their indices rising.
+#[derive(Drop)]
+pub struct SliceTable {
+    entries: ArrayVec<Entry, 224>,
+}
+
+impl Model for SliceTable {
+    ghost use Rattle.std.specs.Prelude.{List};
+    ghost use Rattle.rate_table.specs.declared.entry.Entry.{Entry};
+
+    ghost Value = { List Entry };
+
+    ghost use Rattle.rate_table.specs.Table.{IsSlice};
+
+    ghost view = { λ t. t.entries.items };
+
+    ghost invariant = { λ t. IsSlice t.entries.items };
+}
+
+impl SliceTable {
+    ghost use Rattle.std.specs.Prelude.{◌≡◌, ◌≤◌, length};
+    ghost use Rattle.rate_table.specs.Table.{IsSlice};
+
+    pub(crate) fn of(entries: ArrayVec<Entry, 224>) -> SliceTable
+        requires { IsSlice entries.items }
+        ensures { result ≡ entries.items }
+    {
+        SliceTable { entries }
+    }
+
+    /// The entries, by rising index.
+    pub fn entries(&self) -> &[Entry]
+        ensures entries { result.now ≡ self.now }
+        ensures slice { IsSlice self.now }
+        ensures few { length self.now ≤ 224 }
+    {
+        self.entries.as_slice()
+    }
+}
+
+/// The slices of a table, in the order of the frame.
+#[derive(Drop)]
+pub struct Slices {
+    slices: Vec<SliceTable>,
+}
+
+impl Model for Slices {
+    ghost use Rattle.std.specs.Prelude.{List};
+    ghost use Rattle.std.specs.List.{All};
+    ghost use Rattle.rate_table.specs.declared.entry.Entry.{Entry};
+
+    ghost Value = { List (List Entry) };
+
+    ghost use Rattle.rate_table.specs.Table.{IsSlice};
+
+    ghost view = { λ s. s.slices.items };
+
+    ghost invariant = { λ s. All IsSlice s.slices.items };
+}
+
+impl Slices {
+    ghost use Rattle.std.specs.Prelude.{◌≡◌};
+    ghost use Rattle.std.specs.List.{All};
+    ghost use Rattle.rate_table.specs.Table.{IsSlice};
+
+    /// These slices.
+    pub fn from_vec(slices: Vec<SliceTable>) -> Slices
+        requires { All IsSlice slices.items }
+        ensures { result ≡ slices.items }
+    {
+        Slices { slices }
+    }
+
+    /// The slices, in order.
+    pub fn as_slice(&self) -> &[SliceTable]
+        ensures slices { result.now ≡ self.now }
+        ensures each { All IsSlice self.now }
+    {
+        self.slices.as_slice()
+    }
+}
+
+/// The table of a frame: the budget, the bytes that every choice costs, and its slices.
+#[derive(Drop)]
+pub struct FrameTable {
+    /// The bytes that the frame may have, 1 to 2^31 - 1.
+    pub budget: u32,
+    /// The bytes that are always there, below 2^31.
+    pub fixed: u32,
+    /// The slices, 1 to 131,070 of them.
+    pub slices: Slices,
+}
+
+impl Model for FrameTable {
+    ghost use Rattle.rate_table.specs.Table.{Table, IsTable};
+
+    ghost Value = { Table };
+
+    ghost view = { λ t. record { budget = t.budget; fixed = t.fixed; slices = t.slices } };
+
+    ghost invariant = { λ t. IsTable (record { budget = t.budget; fixed = t.fixed; slices = t.slices }) };
+}
