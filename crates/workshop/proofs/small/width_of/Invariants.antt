@@ -1,0 +1,12 @@
+use Rattle.std.proofs.Common.{◌≡◌, ◌≤◌, ◌*◌, drop}
+use Rattle.std.specs.List.{All}
+use Rattle.rate_table.specs.Table.{IsSlice}
+use Rattle.rate_table.specs.Choices.{width}
+use Rattle.workshop.proofs.small.width_of.Given as goal
+
+abbrev pub invariant-loop-slice : goal.invariant-loop-slice
+invariant-loop-slice l = record {
+  few : l.product ≤ 65536;
+  rest : l.product * width (drop l.slice-index l.slices) ≡ width l.slices;
+  each : All IsSlice (drop l.slice-index l.slices)
+}

@@ -1,0 +1,45 @@
+-- What a run answers. Our own definitions.
+use Rattle.std.specs.Prelude.{ℕ, Bool, true, false, Option, None, Some, ◌≡◌}
+use Rattle.workshop.specs.declared.status.UsageKind.{UsageKind}
+use Rattle.workshop.specs.declared.status.Status.{Status}
+use Rattle.workshop.specs.declared.status.Status.TheVariants as s
+
+-- the number with which the program ends
+abbrev pub code_of : Status → ℕ
+code_of s.Done = 0
+code_of (s.Usage _ _) = 1
+code_of s.NoMemory = 2
+code_of s.ReadFault = 3
+code_of s.WriteFault = 4
+code_of (s.BadProof _ _) = 10
+code_of s.TooWide = 12
+
+abbrev pub is_done : Status → Bool
+is_done s.Done = true
+is_done _ = false
+
+abbrev pub is_read_fault : Status → Bool
+is_read_fault s.ReadFault = true
+is_read_fault _ = false
+
+abbrev pub is_write_fault : Status → Bool
+is_write_fault s.WriteFault = true
+is_write_fault _ = false
+
+-- the answers behind which something may have been written
+abbrev pub has_written : Status → Bool
+has_written s.Done = true
+has_written s.WriteFault = true
+has_written _ = false
+
+-- kind and word number of a fault of the words
+abbrev pub usage_of : Status → Option (UsageKind × ℕ)
+usage_of (s.Usage kind word) = Some (kind, word)
+usage_of _ = None
+
+-- The answer is this one, unless a port failed or memory ran out.
+abbrev pub AnswersUnlessOutside : Status → Status → Type 0
+AnswersUnlessOutside s.NoMemory status = Unit {0}
+AnswersUnlessOutside s.ReadFault status = Unit {0}
+AnswersUnlessOutside s.WriteFault status = Unit {0}
+AnswersUnlessOutside answer status = answer ≡ status

@@ -1,0 +1,103 @@
+-- The grammar of the command line: a table of commands, and the walk over the words. Our own definition.
+use Rattle.std.specs.Prelude.{◌≡◌, ℕ, ◌+◌, ◌==◌, nat_eq, nat_lt, Bool, List, [], ◌∷◌, ◌++◌, length, find, slice_get, Option, None, Some, Result, Ok, Err, codes, max, if◌then◌else◌}
+use Rattle.std.specs.List.{starts_with, list_any}
+use Rattle.std.specs.Str.{bytes_eq}
+use Rattle.workshop.specs.declared.words.Command.{Command}
+use Rattle.workshop.specs.declared.words.Command.TheVariants.{Plan}
+use Rattle.workshop.specs.declared.words.Names.{Names}
+use Rattle.workshop.specs.declared.words.BadWords.{BadWords}
+use Rattle.workshop.specs.declared.words.Settings.{Settings}
+use Rattle.workshop.specs.declared.status.UsageKind.{UsageKind}
+use Rattle.workshop.specs.declared.status.UsageKind.TheVariants.{NoCommand, UnknownCommand, UnknownOption, ExtraOperand, MissingOperand}
+
+-- ---- the table of commands
+
+abbrev pub commands : List Command
+commands = Plan ∷ []
+
+-- the word of each command
+abbrev pub name_of : Command → List ℕ
+name_of Plan = codes "plan"
+
+-- how many operands each command may have, rising
+abbrev pub operands_of : Command → List ℕ
+operands_of Plan = 1 ∷ []
+
+-- the names of each command's options
+abbrev pub options_of : Command → List (List ℕ)
+options_of Plan = []
+
+abbrev pub no_names : Names
+no_names = record { pictures = None; proof = None; movie = None; out = None; cert = None }
+
+-- The ports that the operands name, by the numbers of their words: `plan TABLE`.
+abbrev pub ports_of : Command → List ℕ → Names
+ports_of Plan operands = record no_names { proof = slice_get operands 0 }
+
+-- ---- the walk over the words
+
+abbrev pub command_named : List ℕ → Option Command
+command_named word = find (λ c. bytes_eq word (name_of c)) commands
+
+-- an option begins with two dashes
+abbrev pub is_option : List ℕ → Bool
+is_option word = starts_with nat_eq word (codes "--")
+
+-- the word is `--NAME=VALUE` by the name of an option of the command
+abbrev pub is_option_of : Command → List ℕ → Bool
+is_option_of c word = list_any (λ name. starts_with nat_eq word (codes "--" ++ name ++ codes "=")) (options_of c)
+
+abbrev pub last_of : List ℕ → ℕ
+last_of [] = 0
+last_of (n ∷ []) = n
+last_of (n ∷ m ∷ ns) = last_of (m ∷ ns)
+
+-- the most operands that the command may have
+abbrev pub most_operands : Command → ℕ
+most_operands c = last_of (operands_of c)
+
+-- whether the command may have so many operands
+abbrev pub takes : Command → ℕ → Bool
+takes c count = list_any (λ n. n == count) (operands_of c)
+
+-- The numbers of the words that are operands, where `at` is the number of the first word that is left and the
+-- words before it have these operands; or the first fault with its word.
+abbrev pub walk : Command → List (List ℕ) → ℕ → List ℕ → Result (List ℕ) (UsageKind × ℕ)
+walk c [] at operands = if takes c (length operands) then Ok operands else Err (MissingOperand, at)
+walk c (word ∷ words) at operands =
+    if is_option word then (if is_option_of c word then walk c words (at + 1) operands else Err (UnknownOption, at))
+    else (if nat_lt (length operands) (most_operands c) then walk c words (at + 1) (operands ++ at ∷ []) else Err (ExtraOperand, at))
+
+abbrev pub with_command : Command → Result (List ℕ) (UsageKind × ℕ) → Result (Command × List ℕ) (UsageKind × ℕ)
+with_command c (Ok operands) = Ok (c, operands)
+with_command c (Err fault) = Err fault
+
+abbrev pub settings_for : Option Command → List (List ℕ) → Result (Command × List ℕ) (UsageKind × ℕ)
+settings_for None words = Err (UnknownCommand, 0)
+settings_for (Some c) words = with_command c (walk c words 1 [])
+
+-- the command and its operands by their word numbers; or the first fault with its word
+abbrev pub settings : List (List ℕ) → Result (Command × List ℕ) (UsageKind × ℕ)
+settings [] = Err (NoCommand, 0)
+settings (first ∷ words) = settings_for (command_named first) words
+
+-- the fault of the words, where they have one
+abbrev pub usage_fault : Result (Command × List ℕ) (UsageKind × ℕ) → Option (UsageKind × ℕ)
+usage_fault (Ok s) = None
+usage_fault (Err fault) = Some fault
+
+-- the words that name each port's file; none where the words have a fault
+abbrev pub names_in : Result (Command × List ℕ) (UsageKind × ℕ) → Names
+names_in (Ok s) = ports_of s.0 s.1
+names_in (Err fault) = no_names
+
+-- ---- what the parts of the walk answer
+
+-- The answer is what the walk gives.
+abbrev pub IsWalk : {X : Type 0} → (X → List ℕ) → Result X BadWords → Result (List ℕ) (UsageKind × ℕ) → Type 0
+IsWalk view (Ok x) walked = walked ≡ Ok (view x)
+IsWalk view (Err e) walked = walked ≡ Err (e.kind, e.word)
+
+abbrev pub IsSettings : Result Settings BadWords → Result (Command × List ℕ) (UsageKind × ℕ) → Type 0
+IsSettings (Ok s) walked = walked ≡ Ok (s.command, s.operands.items)
+IsSettings (Err e) walked = walked ≡ Err (e.kind, e.word)

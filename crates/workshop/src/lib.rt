@@ -1,0 +1,13 @@
+//! The program `workshop`.
+#![tactic(auto)]
+
+mod plan;
+mod small;
+mod status;
+mod top;
+mod words;
+
+pub use small::{SmallFault, SmallOutcome, best_small};
+pub use status::{Status, UsageKind};
+pub use top::workshop;
+pub use words::{Command, Names, names_of};

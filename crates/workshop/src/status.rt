@@ -1,0 +1,73 @@
+//! What a run answers.
+
+use rate_table::ProofKind;
+use std::fmt;
+
+/// What is wrong with the words of the command line.
+#[derive(Clone, Copy, Debug, PartialEq, Eq)]
+pub enum UsageKind {
+    /// There are no words.
+    NoCommand,
+    /// The first word names no command.
+    UnknownCommand,
+    /// A word begins with `--` and names no option of the command.
+    UnknownOption,
+    /// An operand more than the command takes.
+    ExtraOperand,
+    /// Fewer operands than the command takes. The word number is the number of words.
+    MissingOperand,
+}
+
+/// How a run ended.
+#[derive(Clone, Copy, Debug, PartialEq, Eq)]
+pub enum Status {
+    /// The whole run was done, and its input was read to its end.
+    Done,
+    /// The words aren't in the grammar: the kind and the number of the first word with a fault.
+    Usage { kind: UsageKind, word: usize },
+    /// Memory ran out.
+    NoMemory,
+    /// A port that the command reads failed.
+    ReadFault,
+    /// A port that the command writes failed.
+    WriteFault,
+    /// The table or the proof has this first fault, at this byte.
+    BadProof { kind: ProofKind, place: u64 },
+    /// The table has more than 65,536 choices.
+    TooWide,
+}
+
+impl Status {
+    ghost use Rattle.std.specs.Prelude.{◌≡◌};
+    ghost use Rattle.workshop.specs.Status.{code_of};
+
+    /// The number with which the program ends.
+    pub fn code(&self) -> u8
+        ensures { result ≡ code_of self.now }
+    {
+        match self {
+            Status::Done => 0,
+            Status::Usage { .. } => 1,
+            Status::NoMemory => 2,
+            Status::ReadFault => 3,
+            Status::WriteFault => 4,
+            Status::BadProof { .. } => 10,
+            Status::TooWide => 12,
+        }
+    }
+}
+
+/// The line that tells the status, without its line feed; `Done` has none.
+impl fmt::Display for Status {
+    fn fmt<W: fmt::Write>(&self, f: &mut fmt::Formatter<W>) -> fmt::Result {
+        match self {
+            Status::Done => Ok(()),
+            Status::Usage { kind, word } => write!(f, "usage: {kind:?} at word {word}"),
+            Status::NoMemory => write!(f, "no memory"),
+            Status::ReadFault => write!(f, "read fault"),
+            Status::WriteFault => write!(f, "write fault"),
+            Status::BadProof { kind, place } => write!(f, "proof: {kind:?} at {place}"),
+            Status::TooWide => write!(f, "too wide"),
+        }
+    }
+}
