@@ -8,6 +8,8 @@ mod laws;
 mod reading;
 mod sums;
 mod table;
+#[cfg(test)]
+mod tests;
 
 pub use entry::{Entry, Pair};
 pub use fault::{ProofKind, TableFault};

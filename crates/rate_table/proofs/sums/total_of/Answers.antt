@@ -13,7 +13,7 @@ if_none None P p = p
 if_none (Some x) P p = tt
 
 pub returns-then-slices-choice-clause-none : goal.returns-then-slices-choice-clause-none
-returns-then-slices-choice-clause-none c = no_choice-length c.args.slices.now c.args.choice.now c.if-slices-choice.true
+returns-then-slices-choice-clause-none c = no_choice-length c.args.slices.now c.args.choice.now (λ same. omega arith)
 
 pub returns-in_err-entry-clause-none : goal.returns-in_err-entry-clause-none
 returns-in_err-entry-clause-none c =
