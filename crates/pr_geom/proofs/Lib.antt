@@ -1,0 +1,4 @@
+pub mod BlockLemmas
+pub mod FaultLemmas
+pub mod Pieces
+pub mod SliceLemmas

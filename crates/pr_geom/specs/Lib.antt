@@ -1,0 +1,5 @@
+pub mod Blocks
+pub mod Faults
+pub mod Layout
+pub mod Slices
+pub mod Spots

@@ -1,0 +1,11 @@
+//! The layout of a frame: pictures, slices and blocks.
+#![tactic(auto)]
+
+mod layout;
+mod places;
+
+pub use layout::Layout;
+pub use places::{GeomFault, MAX_SLICES, Part, SlicePlace};
+
+#[cfg(test)]
+mod tests;
