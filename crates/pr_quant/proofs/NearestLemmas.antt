@@ -1,5 +1,5 @@
 -- The nearest multiple from a division.
-use Rattle.std.proofs.Common.{◌≡◌, ℕ, suc, ◌+◌, ◌-◌, ◌*◌, ◌/◌, ◌%◌, ◌^◌, ◌<◌, ◌≤◌, inl, inr, ℤ, pos, negsuc, ◌-ℤ◌, neg_ℤ, nat_abs, to_z, of_z, w32, true, false, ap, sym, ◌∙◌, subst, arith, rules}
+use Rattle.std.proofs.Common.{◌≡◌, ℕ, suc, ◌+◌, ◌-◌, ◌*◌, ◌/◌, ◌%◌, ◌^◌, ◌<◌, ◌≤◌, inl, inr, ℤ, pos, negsuc, ◌-ℤ◌, neg_ℤ, nat_abs, to_z, of_z, w32, true, false, ap, sym, ◌∙◌, subst, arith, rules, lit≤}
 use Rattle.std.proofs.lemmas.Int.{ints}
 use Rattle.std.specs.Int.{abs_diff}
 use Rattle.std.proofs.lemmas.Bool.{cases_lt, lt-ltb, le-ltb}
@@ -150,6 +150,12 @@ abs-quantised (negsuc a) m = abs-neg (pos (nearest_quotient (suc a) m))
 
 pub quantised_within : (c : ℤ) (m : ℕ) → 0 < m → IsWithinHalf (nat_abs c) m (nat_abs (quantised c m))
 quantised_within c m h = subst (IsWithinHalf (nat_abs c) m) (sym (abs-quantised c m)) (quotient_within (nat_abs c) m h)
+
+pub quantised_small : (c : ℤ) (m : ℕ) → nat_abs c ≤ greatest_coefficient → (2 ≤ m → nat_abs (quantised c m) ≤ 8191) × (4 ≤ m → nat_abs (quantised c m) ≤ 4096)
+quantised_small c m s = (
+  λ l. within_bound (nat_abs c) m _ 2 8191 (quantised_within c m (omega arith)) l s (lit≤ tt),
+  λ l. within_bound (nat_abs c) m _ 4 4096 (quantised_within c m (omega arith)) l s (lit≤ tt),
+)
 
 same_sign : (a m k : ℕ) → distance (pos a) m (pos k) ≡ abs_diff a (k * m)
 same_sign a m k = omega (arith, ints)

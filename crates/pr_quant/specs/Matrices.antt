@@ -9,7 +9,7 @@ abbrev pub weights_of : Matrix → List ℕ
 weights_of Flat = replicate 64 4
 weights_of Steep = steep_weights
 
--- a weight that a frame header may carry (SMPTE RDD 36, frame header: luma and chroma quantization matrices)
+-- a weight that a quantization matrix of a frame header may have (SMPTE RDD 36, frame header)
 abbrev pub IsWeight : ℕ → Type 0
 IsWeight w = (2 ≤ w) × (w ≤ 63)
 

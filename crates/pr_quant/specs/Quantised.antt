@@ -56,6 +56,10 @@ QuantisedIsNearest = (c : ℤ) (m : ℕ) → 0 < m → IsNearest c m (quantised 
 abbrev pub OneIsNearest : Type 0
 OneIsNearest = (c : ℤ) (m : ℕ) (p q : ℤ) → 0 < m → IsNearest c m p → IsNearest c m q → p ≡ q
 
+-- a quantised value is small at multipliers from 2 and from 4 on
+abbrev pub QuantisedIsSmall : Type 0
+QuantisedIsSmall = (c : ℤ) (m : ℕ) → nat_abs c ≤ greatest_coefficient → (2 ≤ m → nat_abs (quantised c m) ≤ 8191) × (4 ≤ m → nat_abs (quantised c m) ≤ 4096)
+
 -- a coefficient's squared error is below 2^28
 abbrev pub ErrorIsSmall : Type 0
 ErrorIsSmall = (c : ℤ) (m : ℕ) → 0 < m → nat_abs c ≤ greatest_coefficient → error_of c m < 2 ^ 28

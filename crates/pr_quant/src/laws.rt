@@ -1,6 +1,6 @@
 //! Laws of quantised values.
 
-ghost use Rattle.pr_quant.specs.Quantised.{QuantisedIsNearest, OneIsNearest, ErrorIsSmall, SliceErrorIsSmall};
+ghost use Rattle.pr_quant.specs.Quantised.{QuantisedIsNearest, OneIsNearest, QuantisedIsSmall, ErrorIsSmall, SliceErrorIsSmall};
 ghost use Rattle.pr_quant.specs.Matrices.{NamedWeightsAreInRange};
 
 /// Every coefficient has a nearest value, at every multiplier above 0.
@@ -11,6 +11,12 @@ pub fn quantised_is_nearest()
 /// At most one value is nearest.
 pub fn one_is_nearest()
     ensures { OneIsNearest }
+{}
+
+/// The magnitude of a quantised value is at most 8,191 at multipliers from 2 on, and at most 4,096
+/// from 4 on.
+pub fn quantised_is_small()
+    ensures { QuantisedIsSmall }
 {}
 
 /// The squared error of a coefficient is below 2^28.

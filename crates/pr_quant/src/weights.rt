@@ -12,7 +12,8 @@ pub enum Matrix {
     Steep,
 }
 
-/// The weights of a frame, in raster order, from 1 to 255 each.
+/// The weights of a frame, in raster order. A frame that is read may have any, also 0; those of a
+/// frame that is written are from 2 to 63.
 #[derive(Clone, Copy, Debug, PartialEq, Eq)]
 pub struct Weights {
     pub luma: [u8; 64],
