@@ -1,0 +1,3 @@
+pub mod Quantised
+pub mod Steep
+pub mod Matrices
