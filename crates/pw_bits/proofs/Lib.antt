@@ -1,0 +1,4 @@
+pub mod BitsLemmas
+pub mod WritingLemmas
+pub mod ReadingLemmas
+pub mod WindowLemmas

@@ -1,0 +1,43 @@
+-- Numbers and bytes as lists of bits, the most significant first, as bit streams are written in SMPTE RDD 36.
+use Rattle.std.specs.Prelude.{ℕ, zero, suc, ◌+◌, ◌-◌, ◌/◌, ◌%◌, ◌^◌, ◌<◌, Bool, false, List, [], ◌∷◌, ◌++◌, length, replicate, get_or, nat_eq, if◌then◌else◌}
+use Rattle.std.specs.List.{flat_map}
+
+-- the k low bits of n, the highest first
+abbrev pub bits_of : ℕ → ℕ → List Bool
+bits_of zero n = []
+bits_of (suc k) n = nat_eq (n / 2 ^ k % 2) 1 ∷ bits_of k n
+
+-- the number that a list of bits spells
+abbrev pub value : List Bool → ℕ
+value [] = 0
+value (b ∷ l) = (if b then 2 ^ length l else 0) + value l
+
+-- the bits of bytes
+abbrev pub bits : List ℕ → List Bool
+bits b = flat_map (bits_of 8) b
+
+-- so many zero bits
+abbrev pub zeros : ℕ → List Bool
+zeros n = replicate n false
+
+-- the bytes that a list of bits fills
+abbrev pub whole : List Bool → List ℕ
+whole (a ∷ b ∷ c ∷ d ∷ e ∷ f ∷ g ∷ h ∷ l) = value (a ∷ b ∷ c ∷ d ∷ e ∷ f ∷ g ∷ h ∷ []) ∷ whole l
+whole _ = []
+
+-- the bits behind them, fewer than 8
+abbrev pub left : List Bool → List Bool
+left (a ∷ b ∷ c ∷ d ∷ e ∷ f ∷ g ∷ h ∷ l) = left l
+left l = l
+
+-- the fewest zero bits that fill the last byte of a list of bits
+abbrev pub padding : List Bool → List Bool
+padding l = zeros ((8 - length l % 8) % 8)
+
+-- the bytes of a list of bits, the last one filled with zeros
+abbrev pub bytes : List Bool → List ℕ
+bytes l = whole (l ++ padding l)
+
+-- all are bytes
+abbrev pub AreBytes : List ℕ → Type 0
+AreBytes b = (i : ℕ) → get_or b i 0 < 256

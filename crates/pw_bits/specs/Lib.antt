@@ -1,0 +1,5 @@
+pub mod Bits
+pub mod Bytes
+pub mod Writing
+pub mod Reading
+pub mod Window

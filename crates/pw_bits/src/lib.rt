@@ -1,0 +1,16 @@
+//! Bits in streams of bytes: written to any sink, read from any source, the most significant bit of a
+//! byte first. No call takes memory.
+#![tactic(auto)]
+
+mod byte;
+mod laws;
+mod reader;
+#[cfg(test)]
+mod tests;
+mod window;
+mod writer;
+
+pub use laws::{bits_are_numbers, bytes_are_bits};
+pub use reader::{BitFault, BitReader, ZeroRun};
+pub use window::Window;
+pub use writer::BitWriter;
