@@ -29,7 +29,7 @@ pub width-more : (slices : List (List Entry)) (i product total : ℕ) (s : List 
     → product * width (drop i slices) ≡ total → (product * length s) * width (drop (i + 1) slices) ≡ total
 width-more slices i product total s lt e so_far =
     let one : product * width (drop i slices) ≡ (product * length s) * width (drop (i + 1) slices) =
-      rw (drop_more slices i [] lt, ← e) (sym (mul_assoc product (length s) (width (drop (i + 1) slices)))) in
+    rw (drop_more slices i [] lt, ← e) (sym (mul_assoc product (length s) (width (drop (i + 1) slices)))) in
     sym one ∙ so_far
 
 -- the product so far is no more than the whole product
@@ -136,7 +136,6 @@ choice_at-more slices i rest s d lt e each below =
     let front : drop i slices ≡ s ∷ drop (i + 1) slices = drop_more slices i [] lt ∙ ap (λ (x : List Entry). x ∷ drop (i + 1) slices) (sym e) in
     let here : rest < length s * width (drop (i + 1) slices) = subst (λ (l : List (List Entry)). rest < width l) front below in
     ap (λ (l : List (List Entry)). indices (choice_at l rest)) front ∙ ap (λ (c : List Entry). indices c) (choice_at-cons s (drop (i + 1) slices) rest d (rest_of_slices slices i lt each) here)
-
 
 -- sums that were read at a place are those of the choice of that number
 pub sums_read : (slices : List (List Entry)) (all : List Sums) (i : ℕ) (s : Sums) → all ≡ all_sums slices → i < length all → s ≡ get_or all i s → s ≡ sums_of (choice_at slices i)

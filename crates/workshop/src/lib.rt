@@ -2,11 +2,13 @@
 #![tactic(auto)]
 
 mod plan;
+mod ports;
 mod small;
 mod status;
 mod top;
 mod words;
 
+pub use ports::{InputPort, OutputPort, StorePort, Target};
 pub use small::{SmallFault, SmallOutcome, best_small};
 pub use status::{Status, UsageKind};
 pub use top::workshop;

@@ -21,7 +21,9 @@ pub enum SmallOutcome {
         error: u64,
     },
     /// No choice fits.
-    None { least: u64 },
+    None {
+        least: u64,
+    },
 }
 
 #[derive(Clone, Copy, Debug, PartialEq, Eq)]
@@ -157,7 +159,12 @@ fn best_at(table: &FrameTable, all: &[Sums]) -> Option<usize>
 }
 
 /// The indices of a choice by its number.
-fn choice_of(alloc: Global, slices: &[SliceTable], number: usize, all: usize) -> Result<Vec<u8>, AllocError>
+fn choice_of(
+    alloc: Global,
+    slices: &[SliceTable],
+    number: usize,
+    all: usize,
+) -> Result<Vec<u8>, AllocError>
     requires all { all ≡ width slices.now }
     requires number { number < all }
     requires each { All IsSlice slices.now }

@@ -76,3 +76,6 @@ pub fn workshop<S: ByteSource, M: ByteStore, K: ByteSink>(
         Command::Plan => plan(alloc, proof, text),
     }
 }
+
+#[cfg(test)]
+mod tests;

@@ -108,7 +108,10 @@ impl Names {
 }
 
 /// The numbers of the words that are operands, or the first fault of the words behind the command.
-fn operands_in(command: Command, words: &[String]) -> Result<ArrayVec<usize, MOST_OPERANDS>, BadWords>
+fn operands_in(
+    command: Command,
+    words: &[String],
+) -> Result<ArrayVec<usize, MOST_OPERANDS>, BadWords>
     requires { 0 < length words.now }
     ensures { IsWalk (λ v. v.items) result (walk command (map string_bytes (drop 1 words.now)) 1 []) }
 {

@@ -7,5 +7,5 @@ use Rattle.workshop.proofs.small.best_at.Given as goal
 abbrev pub invariant-loop-i : goal.invariant-loop-i
 invariant-loop-i l = record {
   best : best_of l.table (option_map (choice_at l.table.slices) l.best) (drop l.i (all_choices l.table.slices)) ≡ best_of l.table None (all_choices l.table.slices);
-  number : IfSome l.best (λ n. n < l.i)
+  number : IfSome l.best (λ n. n < l.i);
 }

@@ -13,7 +13,7 @@ bounds-entries-rest c =
     let item = get_or_read c.args.slices.now i c.slice-item.result c.loop-slice-test.true c.slice-item.is [] in
     let below : c.loop-slice.rest < width (drop i c.args.slices.now) = rw (← c.loop-slice.invariant.width) c.loop-slice.invariant.rest in
     rw (c.entries-entries.ensures.entries, c.loop-slice.invariant.width, width-div c.args.slices.now i c.slice-item.result c.loop-slice-test.true item c.entries-entries.ensures.slice.some)
-      (number-below c.args.slices.now i c.loop-slice.rest c.slice-item.result c.loop-slice-test.true item c.loop-slice.invariant.each below)
+    (number-below c.args.slices.now i c.loop-slice.rest c.slice-item.result c.loop-slice-test.true item c.loop-slice.invariant.each below)
 
 pub loop-slice-preserved : goal.loop-slice-preserved
 loop-slice-preserved c =
@@ -23,7 +23,7 @@ loop-slice-preserved c =
     let below : c.loop-slice.rest < width (drop i slices) = rw (← c.loop-slice.invariant.width) c.loop-slice.invariant.rest in
     let later : All IsSlice (drop (i + 1) slices) = rest_of_slices slices i c.loop-slice-test.true c.loop-slice.invariant.each in
     let quotient : c.loop-slice.width / length c.entries-entries.result.now ≡ width (drop (i + 1) slices) =
-      rw (c.entries-entries.ensures.entries, c.loop-slice.invariant.width) (width-div slices i c.slice-item.result c.loop-slice-test.true item c.entries-entries.ensures.slice.some) in
+    rw (c.entries-entries.ensures.entries, c.loop-slice.invariant.width) (width-div slices i c.slice-item.result c.loop-slice-test.true item c.entries-entries.ensures.slice.some) in
     let one = choice_at-more slices i c.loop-slice.rest c.slice-item.result (record { index = 0; size = 0; error = 0 }) c.loop-slice-test.true item c.loop-slice.invariant.each below in
     rw (quotient, c.in_ok-push.ensures.items) (record {
       width = refl;

@@ -10,5 +10,5 @@ invariant-loop-slice l = record {
   width : l.width ≡ width (drop l.slice-index l.slices);
   rest : l.rest < l.width;
   each : All IsSlice (drop l.slice-index l.slices);
-  choice : l.choice.items ++ indices (choice_at (drop l.slice-index l.slices) l.rest) ≡ indices (choice_at l.slices l.number)
+  choice : l.choice.items ++ indices (choice_at (drop l.slice-index l.slices) l.rest) ≡ indices (choice_at l.slices l.number);
 }

@@ -8,5 +8,5 @@ abbrev pub invariant-loop-slice : goal.invariant-loop-slice
 invariant-loop-slice l = record {
   few : l.product ≤ 65536;
   rest : l.product * width (drop l.slice-index l.slices) ≡ width l.slices;
-  each : All IsSlice (drop l.slice-index l.slices)
+  each : All IsSlice (drop l.slice-index l.slices);
 }

@@ -1,0 +1,222 @@
+//! Runs of the top call over objects in memory.
+
+use super::*;
+use crate::status::UsageKind;
+use crate::words::{Names, names_of};
+use pw_outside::{MemSink, MemSource, MemStore};
+use rate_table::ProofKind;
+use std::test::Fail;
+
+/// The calls of a port that fail: none, or one.
+#[derive(Clone, Copy)]
+enum Faults {
+    None,
+    At(u64),
+}
+
+fn faults_of(rt: &HostRuntime, faults: Faults) -> Result<Vec<u64>, Fail> {
+    let mut calls = Vec::new(rt.alloc());
+    if let Faults::At(call) = faults {
+        calls.push(call)?;
+    }
+    Ok(calls)
+}
+
+/// The status, and what `text` held at the end.
+fn ran(
+    rt: &HostRuntime,
+    words: &[&str],
+    file: &[u8],
+    step: usize,
+    reading: Faults,
+    writing: Faults,
+) -> Result<(Status, Vec<u8>), Fail>
+    requires { 1 ≤ step }
+{
+    let alloc = rt.alloc();
+    let mut given = Vec::new(alloc);
+    for word in words {
+        given.push(word.to_string(alloc)?)?;
+    }
+    let nothing = Vec::new(alloc);
+    let mut pictures = MemSource::new(nothing, 1, Vec::new(alloc));
+    let mut proof = MemSource::new(file.to_vec(alloc)?, step, faults_of(rt, reading)?);
+    let mut movie = MemStore::new(Vec::new(alloc), 1, Vec::new(alloc));
+    let mut out = MemSink::new(alloc, 0, 1, Vec::new(alloc))?;
+    let mut cert = MemSink::new(alloc, 0, 1, Vec::new(alloc))?;
+    let mut text = MemSink::new(alloc, 64, step, faults_of(rt, writing)?)?;
+    let status = workshop(
+        alloc,
+        &given,
+        &mut pictures,
+        &mut proof,
+        &mut movie,
+        &mut out,
+        &mut cert,
+        &mut text,
+    );
+    Ok((status, text.bytes().to_vec(alloc)?))
+}
+
+/// A table file with this head, and slices of these entries: index, size, error.
+fn file_of(rt: &HostRuntime, budget: u32, fixed: u32, slices: &[&[(u8, u16, u64)]]) -> Result<Vec<u8>, Fail> {
+    let mut file = b"PWTB\x01".to_vec(rt.alloc())?;
+    file.extend_from_slice(&budget.to_be_bytes())?;
+    file.extend_from_slice(&fixed.to_be_bytes())?;
+    file.extend_from_slice(&u32::try_from(slices.len())?.to_be_bytes())?;
+    for entries in slices {
+        file.push(u8::try_from(entries.len())?)?;
+        for (index, size, error) in *entries {
+            file.push(*index)?;
+            file.extend_from_slice(&size.to_be_bytes())?;
+            file.extend_from_slice(&error.to_be_bytes())?;
+        }
+    }
+    Ok(file)
+}
+
+const FIRST: [(u8, u16, u64); 2] = [(1, 10, 0), (2, 4, 10)];
+const SECOND: [(u8, u16, u64); 2] = [(1, 9, 0), (2, 5, 6)];
+const EVEN: [(u8, u16, u64); 2] = [(1, 3, 2), (2, 2, 3)];
+const TIE: [(u8, u16, u64); 2] = [(1, 4, 5), (2, 3, 5)];
+const LONE: [(u8, u16, u64); 1] = [(7, 100, 12)];
+const PLAIN: [(u8, u16, u64); 2] = [(1, 2, 1), (2, 1, 2)];
+
+#[test]
+fn plan_prints_the_best_choice_in_steps_of_any_length(rt: HostRuntime) -> Result<(), Fail> {
+    let wide: [&[(u8, u16, u64)]; 16] = [&PLAIN; 16];
+    let two: [&[(u8, u16, u64)]; 2] = [&FIRST, &SECOND];
+    let even: [&[(u8, u16, u64)]; 2] = [&EVEN, &EVEN];
+    let tie: [&[(u8, u16, u64)]; 1] = [&TIE];
+    let lone: [&[(u8, u16, u64)]; 1] = [&LONE];
+    let cases: [(u32, u32, &[&[(u8, u16, u64)]], &str); 8] = [
+        (13, 0, &two, "choice 2 1\nsize 13\nerror 10\n"),
+        (15, 0, &two, "choice 1 2\nsize 15\nerror 6\n"),
+        (8, 0, &two, "none least 9\n"),
+        (5, 0, &even, "choice 1 2\nsize 5\nerror 5\n"),
+        (10, 0, &tie, "choice 2\nsize 3\nerror 5\n"),
+        (120, 20, &lone, "choice 7\nsize 100\nerror 12\n"),
+        (119, 20, &lone, "none least 120\n"),
+        (
+            24,
+            0,
+            &wide,
+            "choice 1 1 1 1 1 1 1 1 2 2 2 2 2 2 2 2\nsize 24\nerror 24\n",
+        ),
+    ];
+    for (budget, fixed, slices, want) in cases {
+        let file = file_of(&rt, budget, fixed, slices)?;
+        for step in [1, 3, 4096] {
+            let (status, text) = ran(&rt, &["plan", "table"], &file, step, Faults::None, Faults::None)?;
+            assert_eq!(rt; status, Status::Done, "budget {budget}");
+            assert!(rt; text.as_slice() == want.as_bytes(), "budget {budget}");
+        }
+    }
+    Ok(())
+}
+
+#[test]
+fn plan_names_the_first_fault_of_a_file(rt: HostRuntime) -> Result<(), Fail> {
+    let two: [&[(u8, u16, u64)]; 2] = [&FIRST, &SECOND];
+    let many: [&[(u8, u16, u64)]; 17] = [&PLAIN; 17];
+    let whole = file_of(&rt, 13, 0, &two)?;
+    let mut behind = file_of(&rt, 13, 0, &two)?;
+    behind.push(0)?;
+    let none = file_of(&rt, 13, 0, &[])?;
+    let zero = file_of(&rt, 13, 0, &[&[(0, 10, 0)]])?;
+    let wide = file_of(&rt, 30, 0, &many)?;
+    let cases: [(&[u8], Status); 8] = [
+        (&none, bad(ProofKind::TableEmpty, 13)),
+        (&zero, bad(ProofKind::TableLimit, 18)),
+        (&behind, bad(ProofKind::TableTrailing, 63)),
+        (&whole[..62], bad(ProofKind::TableShort, 55)),
+        (&whole[..4], bad(ProofKind::TableShort, 4)),
+        (&whole[..3], bad(ProofKind::TableShort, 0)),
+        (&whole[1..], bad(ProofKind::TableMagic, 0)),
+        (&wide, Status::TooWide),
+    ];
+    for (file, want) in cases {
+        for step in [1, 4096] {
+            let (status, text) = ran(&rt, &["plan", "table"], file, step, Faults::None, Faults::None)?;
+            assert_eq!(rt; status, want);
+            assert_eq!(rt; text.len(), 0);
+        }
+    }
+    Ok(())
+}
+
+fn bad(kind: ProofKind, place: u64) -> Status {
+    Status::BadProof { kind, place }
+}
+
+#[test]
+fn each_fault_of_a_port_is_told_and_no_other_answer_comes(rt: HostRuntime) -> Result<(), Fail> {
+    let two: [&[(u8, u16, u64)]; 2] = [&FIRST, &SECOND];
+    let file = file_of(&rt, 13, 0, &two)?;
+    let want = b"choice 2 1\nsize 13\nerror 10\n";
+    // 63 bytes one by one, and the end.
+    for call in 0..64 {
+        let (status, text) = ran(&rt, &["plan", "table"], &file, 1, Faults::At(call), Faults::None)?;
+        assert_eq!(rt; status, Status::ReadFault, "call {call}");
+        assert_eq!(rt; text.len(), 0, "call {call}");
+    }
+    // The text in pieces of 4 bytes, and the flush.
+    for call in 0..8 {
+        let (status, text) = ran(&rt, &["plan", "table"], &file, 4, Faults::None, Faults::At(call))?;
+        assert_eq!(rt; status, Status::WriteFault, "call {call}");
+        assert!(rt; want.starts_with(&text), "call {call}");
+    }
+    let (status, _) = ran(&rt, &["plan", "table"], &file, 4, Faults::At(100), Faults::At(100))?;
+    assert_eq!(rt; status, Status::Done);
+    Ok(())
+}
+
+#[test]
+fn the_first_fault_of_the_words_is_told(rt: HostRuntime) -> Result<(), Fail> {
+    let cases: [(&[&str], UsageKind, usize); 8] = [
+        (&[], UsageKind::NoCommand, 0),
+        (&["encode", "a", "b", "c", "--budget=9"], UsageKind::UnknownCommand, 0),
+        (&["--plan"], UsageKind::UnknownCommand, 0),
+        (&["plan"], UsageKind::MissingOperand, 1),
+        (&["plan", "--budget=9"], UsageKind::UnknownOption, 1),
+        (&["plan", "a", "--"], UsageKind::UnknownOption, 2),
+        (&["plan", "a", "b"], UsageKind::ExtraOperand, 2),
+        (&["plan", "a", "b", "--x"], UsageKind::ExtraOperand, 2),
+    ];
+    for (words, kind, word) in cases {
+        let (status, text) = ran(&rt, words, b"", 1, Faults::None, Faults::None)?;
+        assert_eq!(rt; status, Status::Usage { kind, word });
+        assert_eq!(rt; text.len(), 0);
+    }
+    Ok(())
+}
+
+#[test]
+fn a_word_names_the_table(rt: HostRuntime) -> Result<(), Fail> {
+    let none = Names {
+        pictures: None,
+        proof: None,
+        movie: None,
+        out: None,
+        cert: None,
+    };
+    let cases: [(&[&str], Names); 3] = [
+        (
+            &["plan", "table"],
+            Names {
+                proof: Some(1),
+                ..none
+            },
+        ),
+        (&["plan"], none),
+        (&["plan", "a", "b"], none),
+    ];
+    for (words, want) in cases {
+        let mut given = Vec::new(rt.alloc());
+        for word in words {
+            given.push(word.to_string(rt.alloc())?)?;
+        }
+        assert_eq!(rt; names_of(&given), want);
+    }
+    Ok(())
+}
