@@ -1,0 +1,12 @@
+//! Codewords: the numbers of a bit stream in the Golomb combination codes of SMPTE RDD 36. No call takes memory.
+#![tactic(auto)]
+
+mod book;
+mod codes;
+mod laws;
+#[cfg(test)]
+mod tests;
+
+pub use book::Codebook;
+pub use codes::{CodeFault, code_length, get_after, get_code, put_code};
+pub use laws::{words_are_prefix_free, words_are_read, words_are_short};
