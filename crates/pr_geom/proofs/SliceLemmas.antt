@@ -240,3 +240,26 @@ pub height_small : (interlace : Interlace) (height : ℕ) → height / pictures_
 height_small Progressive height = omega arith
 height_small TopFirst height = omega arith
 height_small BottomFirst height = omega arith
+
+-- a frame that is cut into whole pictures has rows in each
+pub pictures_whole : (interlace : Interlace) (height : ℕ) → 0 < height → height % pictures_of interlace ≡ 0 → 0 < height / pictures_of interlace
+pictures_whole Progressive height h e = omega arith
+pictures_whole TopFirst height h e = omega arith
+pictures_whole BottomFirst height h e = omega arith
+
+-- a row has a slice
+row_some : (m k : ℕ) → 0 < m → 0 < length (row_widths m k)
+row_some m zero h = omega (arith, length-replicate {A = ℕ} m 1)
+row_some m (suc k) h =
+    let full = m / 2 ^ suc k in
+    let count = length-append (replicate full (2 ^ suc k)) (row_widths (m % 2 ^ suc k) k) in
+    elim (cases_lt 0 full) [
+      | inl some ↦ omega (arith, count, length-replicate {A = ℕ} full (2 ^ suc k))
+      | inr none ↦
+          let e : full ≡ 0 = omega arith in
+          let rest : m % 2 ^ suc k ≡ m = omega (arith, div-add-mod' m (2 ^ suc k), ap (λ q. q * 2 ^ suc k) e) in
+          omega (arith, count, row_some (m % 2 ^ suc k) k (omega arith))
+    ]
+
+pub picture_some : (rows m k : ℕ) → 0 < rows → 0 < m → 0 < length (picture_slices m rows k)
+picture_some rows m k r c = omega (arith, length-picture_slices rows m k, mul-le 1 1 rows (length (row_widths m k)) (omega arith) (omega (arith, row_some m k c)))

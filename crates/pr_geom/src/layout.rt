@@ -139,9 +139,10 @@ impl Layout {
         self.height / u16::from(self.pictures())
     }
 
-    /// How many slices each picture has, at most [`MAX_SLICES`].
+    /// How many slices each picture has, from 1 to [`MAX_SLICES`].
     pub fn slices(&self) -> u32
         ensures value { result ≡ length (slices_of self.now) }
+        ensures some { 0 < result }
         ensures limit { result ≤ MAX_SLICES }
     {
         slices_in_picture(self.width, self.height, self.log2, self.interlace)
@@ -165,10 +166,12 @@ impl Layout {
         }
     }
 
-    /// How many blocks a part of a slice has.
+    /// How many blocks a part of a slice has, from 1 to 32.
     pub fn blocks(&self, slice: &SlicePlace, part: Part) -> u8
         requires { IsSlice self.now slice.now }
-        ensures { result ≡ length (blocks_of self.now.chroma part slice.now) }
+        ensures value { result ≡ length (blocks_of self.now.chroma part slice.now) }
+        ensures some { 0 < result }
+        ensures limit { result ≤ 32 }
     {
         match (self.chroma, part) {
             (_, Part::Y) => 4 * slice.width,

@@ -1,15 +1,19 @@
 -- Planes by their places.
-use Rattle.std.proofs.Common.{◌≡◌, ℕ, ◌+◌, ◌-◌, ◌*◌, ◌/◌, ◌%◌, ◌<◌, ◌≤◌, min, Bool, true, false, cond, List, length, get_or, ap, sym, ◌∙◌, subst, inl, inr, arith}
+use Rattle.std.proofs.Common.{◌≡◌, ℕ, ◌+◌, ◌-◌, ◌*◌, ◌/◌, ◌%◌, ◌^◌, ◌<◌, ◌≤◌, min, Bool, true, false, cond, List, length, get_or, ap, sym, ◌∙◌, subst, inl, inr, arith}
 use Rattle.std.specs.Prelude.{◌&&◌, ◌==◌}
 use Rattle.std.specs.List.{All}
 use Rattle.std.proofs.lemmas.Bool.{cases_Bool, cond_both, cond-true, cond-false, and_parts, and_from, leb-true, ltb-true, le-leb, lt-ltb, eqb-true, eqb-false}
+use Rattle.std.proofs.lemmas.List.Elements.{All-map}
+use Rattle.std.proofs.lemmas.Int.{ints}
 use Rattle.std.proofs.lemmas.Nat.{div-add-mod', mod_below, div_below, mul-add-lt, same_from_place, row_fits}
+use Rattle.pw_planes.specs.declared.kinds.Depth.{Depth}
+use Rattle.pw_planes.specs.declared.kinds.Depth.TheVariants.{D8, D10, D12}
 use Rattle.pw_planes.specs.declared.kinds.Parity.{Parity}
 use Rattle.pw_planes.specs.declared.kinds.Parity.TheVariants.{Top, Bottom}
-use Rattle.pw_planes.specs.Samples.{first_row}
+use Rattle.pw_planes.specs.Samples.{bits_of, signed_sample, IsTwelveBit, first_row}
 use Rattle.pw_planes.specs.Rows.{raster, in_turn, RowsWritten, OthersStay}
-use Rattle.pw_planes.specs.Plane.{Raster, IsPlane, sample_at, samples_at, is_among, with_block, field_of, frame_of, FieldsMakeFrame}
-use Rattle.pw_planes.proofs.RowLemmas.{raster_by, raster_at, raster_same, get_or-raster, some_width}
+use Rattle.pw_planes.specs.Plane.{Raster, IsPlane, sample_at, samples_at, is_among, with_block, field_of, frame_of, FieldsMakeFrame, block_at}
+use Rattle.pw_planes.proofs.RowLemmas.{raster_by, raster_at, raster_same, get_or-raster, some_width, All-raster}
 
 -- a sample at a place inside is the one of that number
 pub sample_inside : (p : Raster) (x y : ℕ) → x < p.width → y < p.height → sample_at p x y ≡ get_or p.samples (y * p.width + x) 0
@@ -192,3 +196,50 @@ fields_frame p ok even =
     let some = some_width p.width p.height k h in
     sample_numbered p k h ∙ each (k % p.width) (k / p.width) (mod_below k p.width some) (div_below k p.width p.height some h)) in
     λ i. record { width = p.width; height = e i; samples = (ap (λ h. raster p.width h value) e ∙ sym samples) i }
+
+-- ---- limits of samples
+
+signed_range : (depth : Depth) (s : ℕ) → s < 2 ^ bits_of depth → IsTwelveBit (signed_sample depth s)
+signed_range D8 s h = (omega (arith, ints), omega (arith, ints))
+signed_range D10 s h = (omega (arith, ints), omega (arith, ints))
+signed_range D12 s h = (omega (arith, ints), omega (arith, ints))
+
+-- the numbers of a block have 12 bits
+pub block_range : (p : Raster) (x y : ℕ) (depth : Depth) → IsPlane p → All (λ s. s < 2 ^ bits_of depth) p.samples → All IsTwelveBit (block_at p x y depth)
+unfolding block_at
+block_range p x y depth ok small =
+    let limit = 2 ^ bits_of depth in
+    let f : ℕ → ℕ → ℕ = λ column row. sample_at p (x + column) (y + row) in
+    All-map IsTwelveBit (signed_sample depth) (samples_at p x y)
+    (All-raster (λ s. IsTwelveBit (signed_sample depth s)) 8 8 f (λ column row _ _. signed_range depth (f column row) (sample_small p (x + column) (y + row) limit ok small)))
+
+-- a field's samples are below what the frame's are below
+pub field_small : (p : Raster) (parity : Parity) (limit : ℕ) → IsPlane p → All (λ s. s < limit) p.samples → All (λ s. s < limit) (field_of p parity).samples
+field_small p parity limit ok small =
+    All-raster (λ s. s < limit) p.width (p.height / 2) (λ column row. sample_at p column (2 * row + first_row parity))
+    (λ column row _ _. sample_small p column (2 * row + first_row parity) limit ok small)
+
+-- and a frame's below what both fields' are below
+pub frame_small : (top bottom : Raster) (limit : ℕ) → IsPlane top → IsPlane bottom → All (λ s. s < limit) top.samples → All (λ s. s < limit) bottom.samples → All (λ s. s < limit) (frame_of top bottom).samples
+frame_small top bottom limit t b ts bs =
+    All-raster (λ s. s < limit) top.width (2 * top.height) (λ column row. cond (row % 2 == 0) (sample_at top column (row / 2)) (sample_at bottom column (row / 2)))
+    (λ column row _ _. cond_both (row % 2 == 0) _ _ (λ s. s < limit) (λ _. sample_small top column (row / 2) limit t ts) (λ _. sample_small bottom column (row / 2) limit b bs))
+
+-- and a plane's with a block below what its own and the block's are below
+pub block_small : (p : Raster) (x y limit : ℕ) (values : List ℕ) → IsPlane p → length values ≡ 64 → All (λ s. s < limit) p.samples → All (λ s. s < limit) values → All (λ s. s < limit) (with_block p x y values).samples
+block_small p x y limit values ok len small below =
+    All-raster (λ s. s < limit) p.width p.height (λ column row. cond (is_among x 8 column && is_among y 8 row) (get_or values (8 * (row - y) + (column - x)) 0) (sample_at p column row))
+    (λ column row _ _. cond_both (is_among x 8 column && is_among y 8 row) _ _ (λ s. s < limit)
+    (λ e.
+    let parts = and_parts _ _ e in
+    let cs = among_parts x 8 column parts.0 in
+    let rs = among_parts y 8 row parts.1 in
+    below (8 * (row - y) + (column - x)) 0 (omega arith))
+    (λ _. sample_small p column row limit ok small))
+
+-- the sample of a plane with a block
+pub sample_with_block : (p : Raster) (x y column row : ℕ) (values : List ℕ) → column < p.width → row < p.height
+    → sample_at (with_block p x y values) column row ≡ cond (is_among x 8 column && is_among y 8 row) (get_or values (8 * (row - y) + (column - x)) 0) (sample_at p column row)
+sample_with_block p x y column row values c r =
+    sample_inside (with_block p x y values) column row c r
+    ∙ raster_at p.width p.height (λ a b. cond (is_among x 8 a && is_among y 8 b) (get_or values (8 * (b - y) + (a - x)) 0) (sample_at p a b)) column row c r

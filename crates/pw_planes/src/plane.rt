@@ -1,7 +1,7 @@
 //! Planes of samples.
 
 ghost use Rattle.std.specs.Prelude.{◌≡◌, ◌+◌, ◌*◌, ◌%◌, ◌^◌, ◌<◌, ◌≤◌, ◌↔◌, IsTrue, IfOk};
-ghost use Rattle.pw_planes.specs.Samples.{bits_of};
+ghost use Rattle.pw_planes.specs.Samples.{bits_of, IsTwelveBit};
 
 use crate::kinds::{Depth, Parity};
 use crate::rows::{every_second_row, inner_samples, rows_in_turn, write_rows};
@@ -102,7 +102,8 @@ impl Plane {
     /// the last column and the last row are repeated.
     pub fn block(&self, x: u32, y: u32, depth: Depth) -> [i32; 64]
         requires samples { All (λ s. s < 2 ^ bits_of depth) self.now.samples }
-        ensures { result ≡ block_at self.now x y depth }
+        ensures value { result ≡ block_at self.now x y depth }
+        ensures range { All IsTwelveBit result }
     {
         let _ = &self.width;
         signed_block(&self.samples_from(x, y), depth)
