@@ -3,12 +3,14 @@
 
 mod plan;
 mod ports;
+mod process;
 mod small;
 mod status;
 mod top;
 mod words;
 
 pub use ports::{InputPort, OutputPort, StorePort, Target};
+pub use process::program;
 pub use small::{SmallFault, SmallOutcome, best_small};
 pub use status::{Status, UsageKind};
 pub use top::workshop;

@@ -1,5 +1,7 @@
 //! Runs of the top call over objects in memory.
 
+ghost use Rattle.std.specs.Prelude.{◌≤◌};
+
 use super::*;
 use crate::status::UsageKind;
 use crate::words::{Names, names_of};
@@ -59,7 +61,12 @@ fn ran(
 }
 
 /// A table file with this head, and slices of these entries: index, size, error.
-fn file_of(rt: &HostRuntime, budget: u32, fixed: u32, slices: &[&[(u8, u16, u64)]]) -> Result<Vec<u8>, Fail> {
+fn file_of(
+    rt: &HostRuntime,
+    budget: u32,
+    fixed: u32,
+    slices: &[&[(u8, u16, u64)]],
+) -> Result<Vec<u8>, Fail> {
     let mut file = b"PWTB\x01".to_vec(rt.alloc())?;
     file.extend_from_slice(&budget.to_be_bytes())?;
     file.extend_from_slice(&fixed.to_be_bytes())?;
@@ -76,10 +83,15 @@ fn file_of(rt: &HostRuntime, budget: u32, fixed: u32, slices: &[&[(u8, u16, u64)
 }
 
 const FIRST: [(u8, u16, u64); 2] = [(1, 10, 0), (2, 4, 10)];
+
 const SECOND: [(u8, u16, u64); 2] = [(1, 9, 0), (2, 5, 6)];
+
 const EVEN: [(u8, u16, u64); 2] = [(1, 3, 2), (2, 2, 3)];
+
 const TIE: [(u8, u16, u64); 2] = [(1, 4, 5), (2, 3, 5)];
+
 const LONE: [(u8, u16, u64); 1] = [(7, 100, 12)];
+
 const PLAIN: [(u8, u16, u64); 2] = [(1, 2, 1), (2, 1, 2)];
 
 #[test]
@@ -107,7 +119,14 @@ fn plan_prints_the_best_choice_in_steps_of_any_length(rt: HostRuntime) -> Result
     for (budget, fixed, slices, want) in cases {
         let file = file_of(&rt, budget, fixed, slices)?;
         for step in [1, 3, 4096] {
-            let (status, text) = ran(&rt, &["plan", "table"], &file, step, Faults::None, Faults::None)?;
+            let (status, text) = ran(
+                &rt,
+                &["plan", "table"],
+                &file,
+                step,
+                Faults::None,
+                Faults::None,
+            )?;
             assert_eq!(rt; status, Status::Done, "budget {budget}");
             assert!(rt; text.as_slice() == want.as_bytes(), "budget {budget}");
         }
@@ -137,7 +156,14 @@ fn plan_names_the_first_fault_of_a_file(rt: HostRuntime) -> Result<(), Fail> {
     ];
     for (file, want) in cases {
         for step in [1, 4096] {
-            let (status, text) = ran(&rt, &["plan", "table"], file, step, Faults::None, Faults::None)?;
+            let (status, text) = ran(
+                &rt,
+                &["plan", "table"],
+                file,
+                step,
+                Faults::None,
+                Faults::None,
+            )?;
             assert_eq!(rt; status, want);
             assert_eq!(rt; text.len(), 0);
         }
@@ -156,17 +182,38 @@ fn each_fault_of_a_port_is_told_and_no_other_answer_comes(rt: HostRuntime) -> Re
     let want = b"choice 2 1\nsize 13\nerror 10\n";
     // 63 bytes one by one, and the end.
     for call in 0..64 {
-        let (status, text) = ran(&rt, &["plan", "table"], &file, 1, Faults::At(call), Faults::None)?;
+        let (status, text) = ran(
+            &rt,
+            &["plan", "table"],
+            &file,
+            1,
+            Faults::At(call),
+            Faults::None,
+        )?;
         assert_eq!(rt; status, Status::ReadFault, "call {call}");
         assert_eq!(rt; text.len(), 0, "call {call}");
     }
     // The text in pieces of 4 bytes, and the flush.
     for call in 0..8 {
-        let (status, text) = ran(&rt, &["plan", "table"], &file, 4, Faults::None, Faults::At(call))?;
+        let (status, text) = ran(
+            &rt,
+            &["plan", "table"],
+            &file,
+            4,
+            Faults::None,
+            Faults::At(call),
+        )?;
         assert_eq!(rt; status, Status::WriteFault, "call {call}");
         assert!(rt; want.starts_with(&text), "call {call}");
     }
-    let (status, _) = ran(&rt, &["plan", "table"], &file, 4, Faults::At(100), Faults::At(100))?;
+    let (status, _) = ran(
+        &rt,
+        &["plan", "table"],
+        &file,
+        4,
+        Faults::At(100),
+        Faults::At(100),
+    )?;
     assert_eq!(rt; status, Status::Done);
     Ok(())
 }
@@ -175,7 +222,11 @@ fn each_fault_of_a_port_is_told_and_no_other_answer_comes(rt: HostRuntime) -> Re
 fn the_first_fault_of_the_words_is_told(rt: HostRuntime) -> Result<(), Fail> {
     let cases: [(&[&str], UsageKind, usize); 8] = [
         (&[], UsageKind::NoCommand, 0),
-        (&["encode", "a", "b", "c", "--budget=9"], UsageKind::UnknownCommand, 0),
+        (
+            &["encode", "a", "b", "c", "--budget=9"],
+            UsageKind::UnknownCommand,
+            0,
+        ),
         (&["--plan"], UsageKind::UnknownCommand, 0),
         (&["plan"], UsageKind::MissingOperand, 1),
         (&["plan", "--budget=9"], UsageKind::UnknownOption, 1),

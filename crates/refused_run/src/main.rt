@@ -1,0 +1,9 @@
+//! The program `workshop` once more, for a stored run that ends in a refusal: a table file without its last byte.
+#![tactic(auto)]
+
+use std::process::ExitCode;
+use workshop::program;
+
+fn main(rt: HostRuntime) -> ExitCode {
+    program(&rt)
+}
