@@ -40,7 +40,7 @@ corners C444 Cr = wide_corners
 unfoldable pub macroblock_blocks : ℕ → List (ℕ × ℕ) → ℕ → ℕ → List (ℕ × ℕ)
 macroblock_blocks width corners row column = map (λ corner. (width * column + corner.0, 16 * row + corner.1)) corners
 
--- the corners of the blocks of a part of a slice: those of its first macroblock, then those of its second, ..
+-- the corners of the blocks of a part of a slice, one macroblock after the other from the left
 unfoldable pub blocks_of : Chroma → Part → SlicePlace → List (ℕ × ℕ)
 blocks_of chroma part slice = flat_map (macroblock_blocks (macroblock_width chroma part) (corners chroma part) slice.row) (slice_columns slice)
 

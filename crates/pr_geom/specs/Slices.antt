@@ -15,7 +15,8 @@ pictures_of BottomFirst = 2
 abbrev pub macroblocks : ℕ → ℕ
 macroblocks samples = (samples + 15) / 16
 
--- the widths of the slices of a row of so many macroblocks: 2 ^ log2 while so many remain, then the width halves until it fits
+-- the widths of the slices of a row of so many macroblocks: as many of the desired width, 2 ^ log2, as there is room for, and
+-- what is left of the row in the same way with half that width
 abbrev pub row_widths : ℕ → ℕ → List ℕ
 row_widths columns zero = replicate columns 1
 row_widths columns (suc log2) = replicate (columns / 2 ^ suc log2) (2 ^ suc log2) ++ row_widths (columns % 2 ^ suc log2) log2
