@@ -148,10 +148,13 @@ fn plan_names_the_first_fault_of_a_file(rt: HostRuntime) -> Result<(), Fail> {
         (&none, bad(ProofKind::TableEmpty, 13)),
         (&zero, bad(ProofKind::TableLimit, 18)),
         (&behind, bad(ProofKind::TableTrailing, 63)),
-        (&whole[..62], bad(ProofKind::TableShort, 55)),
-        (&whole[..4], bad(ProofKind::TableShort, 4)),
-        (&whole[..3], bad(ProofKind::TableShort, 0)),
-        (&whole[1..], bad(ProofKind::TableMagic, 0)),
+        (
+            whole.get(..62).unwrap_or(&[]),
+            bad(ProofKind::TableShort, 55),
+        ),
+        (whole.get(..4).unwrap_or(&[]), bad(ProofKind::TableShort, 4)),
+        (whole.get(..3).unwrap_or(&[]), bad(ProofKind::TableShort, 0)),
+        (whole.get(1..).unwrap_or(&[]), bad(ProofKind::TableMagic, 0)),
         (&wide, Status::TooWide),
     ];
     for (file, want) in cases {
@@ -268,6 +271,33 @@ fn a_word_names_the_table(rt: HostRuntime) -> Result<(), Fail> {
             given.push(word.to_string(rt.alloc())?)?;
         }
         assert_eq!(rt; names_of(&given), want);
+    }
+    Ok(())
+}
+
+#[test]
+fn each_status_has_its_line_and_its_number(rt: HostRuntime) -> Result<(), Fail> {
+    let usage = Status::Usage {
+        kind: UsageKind::ExtraOperand,
+        word: 2,
+    };
+    let cases: [(Status, &str, u8); 7] = [
+        (Status::Done, "", 0),
+        (usage, "usage: ExtraOperand at word 2", 1),
+        (Status::NoMemory, "no memory", 2),
+        (Status::ReadFault, "read fault", 3),
+        (Status::WriteFault, "write fault", 4),
+        (
+            bad(ProofKind::TableShort, 55),
+            "proof: TableShort at 55",
+            10,
+        ),
+        (Status::TooWide, "too wide", 12),
+    ];
+    for (status, line, code) in cases {
+        let told = format!(in rt.alloc(); "{status}")?;
+        assert_eq!(rt; told.as_str(), line);
+        assert_eq!(rt; status.code(), code);
     }
     Ok(())
 }
