@@ -2,7 +2,7 @@ use Rattle.std.proofs.Common.{◌≡◌, ◌<◌, ◌∙◌, length, sym, ap, su
 use Rattle.rate_table.specs.Table.{Table, IsTable, indices}
 use Rattle.rate_table.proofs.Enumerated.{best_of-is_best, best_of-none}
 use Rattle.workshop.specs.declared.small.Sums.{Sums}
-use Rattle.workshop.specs.Small.{choice_at, all_sums, sums_of}
+use Rattle.workshop.specs.Small.{choice_at, all_sums}
 use Rattle.workshop.proofs.Numbered.{sums_read}
 use Rattle.workshop.proofs.small.best_small.Goals as goal
 

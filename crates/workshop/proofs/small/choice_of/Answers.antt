@@ -1,7 +1,7 @@
 use Rattle.std.specs.List.{All}
 use Rattle.std.proofs.Math.Nat.{mod-lt}
-use Rattle.std.proofs.Common.{refl, ◌≡◌, ◌-◌, ◌+◌, ◌*◌, ◌/◌, ◌%◌, ◌<◌, ◌≤◌, [], ◌∷◌, ◌++◌, arith, drop, length, ◌∙◌, ap, sym, subst, rules, append_assoc}
-use Rattle.std.proofs.lemmas.List.{get_or_read, drop_more}
+use Rattle.std.proofs.Common.{refl, ◌≡◌, ◌+◌, ◌/◌, ◌<◌, [], drop, length, ◌∙◌, append_assoc}
+use Rattle.std.proofs.lemmas.List.{get_or_read}
 use Rattle.rate_table.specs.Table.{IsSlice}
 use Rattle.rate_table.specs.Choices.{width}
 use Rattle.workshop.proofs.Numbered.{width-div, number-below, choice_at-more, width-pos, rest_of_slices}

@@ -1,5 +1,4 @@
-use Rattle.std.proofs.Common.{◌≡◌, ℕ, List, ◌∷◌, ◌-◌, ◌+◌, ◌<◌, ◌≤◌, [], arith, drop, length, ◌∙◌, ap, sym, subst, rules}
-use Rattle.std.proofs.lemmas.Grind.{common_steps}
+use Rattle.std.proofs.Common.{◌≡◌, ℕ, List, ◌∷◌, ◌-◌, ◌+◌, ◌<◌, [], arith, drop, length, ◌∙◌, ap, sym}
 use Rattle.std.proofs.lemmas.List.{drop_more, length-drop, get_or_read}
 use Rattle.rate_table.specs.declared.entry.Entry.{Entry}
 use Rattle.rate_table.specs.Table.{IsSlice}

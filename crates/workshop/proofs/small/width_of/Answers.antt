@@ -1,4 +1,4 @@
-use Rattle.std.proofs.Common.{arith, ◌≤◌, ◌<◌, ◌*◌, [], length}
+use Rattle.std.proofs.Common.{arith, []}
 use Rattle.std.proofs.lemmas.Grind.{common_steps}
 use Rattle.std.proofs.lemmas.List.{get_or_read}
 use Rattle.workshop.proofs.Numbered.{width-ge}
