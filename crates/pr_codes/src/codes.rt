@@ -133,6 +133,7 @@ pub fn get_after<S: ByteSource>(
     ensures small { IfOk result (λ n. n ≤ 2 ^ 20) }
     ensures told { IsSome (S.left source.old) → IsSome (S.left source.new) }
     ensures most { Lowers (S.most source.old) (S.most source.new) 0 }
+    ensures becomes { S.becomes source.old source.new }
     ensures cause { CountsFault (S.faults source.old) (S.faults source.new) (is_failed result) }
 {
     let (size, least) = tail_parts(book, zeros);
@@ -155,6 +156,7 @@ pub fn get_code<S: ByteSource>(
     ensures small { IfOk result (λ n. n ≤ 2 ^ 20) }
     ensures told { IsSome (S.left source.old) → IsSome (S.left source.new) }
     ensures most { Lowers (S.most source.old) (S.most source.new) 0 }
+    ensures becomes { S.becomes source.old source.new }
     ensures cause { CountsFault (S.faults source.old) (S.faults source.new) (is_failed result) }
 {
     match reader.zeros(source, 21 - u32::from(book.exp) + u32::from(book.last)) {

@@ -12,6 +12,7 @@ pub(crate) fn next_byte<S: ByteSource>(source: &mut S) -> Result<Option<u8>, Fai
     ensures bytes { GivesByte result (S.left source.old) (S.left source.new) }
     ensures told { IsSome (S.left source.old) → IsSome (S.left source.new) }
     ensures most { Lowers (S.most source.old) (S.most source.new) (byte_count result) }
+    ensures becomes { S.becomes source.old source.new }
     ensures cause { CountsFault (S.faults source.old) (S.faults source.new) (is_err result) }
 {
     let mut piece = [0];

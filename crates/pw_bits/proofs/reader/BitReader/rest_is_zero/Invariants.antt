@@ -14,6 +14,7 @@ invariant-loop-count g l = record {
   bound : IsSome (g.S.ByteSource.most l.source);
   told : IsSome (g.S.ByteSource.left l.initial.source) → IsSome (g.S.ByteSource.left l.source);
   lowers : Lowers (g.S.ByteSource.most l.initial.source) (g.S.ByteSource.most l.source) 0;
+  becomes : g.S.ByteSource.becomes l.initial.source l.source;
   cause : g.S.ByteSource.faults l.source ≡ g.S.ByteSource.faults l.initial.source;
 }
 
