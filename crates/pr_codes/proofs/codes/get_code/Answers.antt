@@ -24,6 +24,3 @@ returns-in-Ok-Many-clause-read g c = λ told.
     let m : 21 - c.from.result + c.from-2.result ≡ most c.args.book = omega (arith, c.from.ensures, c.from-2.ensures) in
     let run = rw c.in-Ok-Many.field-0-is at c.in-Ok-Many.ensures.run in
     many_reads c.args.book (21 - c.from.result + c.from-2.result) (unread c.args.reader.now (g.S.ByteSource.left c.args.source.now)) (unread c.zeros.new.self (g.S.ByteSource.left c.zeros.new.source)) m (run.bits told)
-
-pub returns-in-Ok-One-clause-becomes : goal.returns-in-Ok-One-clause-becomes
-returns-in-Ok-One-clause-becomes g c = g.met.S.ByteSource.becomes_all _ _ _ c.in-Ok-One.ensures.becomes c.get_after.ensures.becomes

@@ -1,7 +1,6 @@
-use Rattle.std.proofs.Common.{length, take, drop, arith, length-append}
+use Rattle.std.proofs.Common.{length, take, drop, arith, length-append, ◌∙◌}
 use Rattle.std.proofs.lemmas.List.{length-drop, length-take}
-use Rattle.std.proofs.Common.{refl}
-use Rattle.pw_bits.proofs.ReadingLemmas.{Lowers-trans, Lowers-same, told-read}
+use Rattle.pw_bits.proofs.ReadingLemmas.{Lowers-trans, told-read}
 use Rattle.pw_bits.proofs.WindowLemmas.{window-consumes, window-end, moved-behind}
 use Rattle.pw_bits.proofs.window.WindowByteSource.read.Goals as goal
 
@@ -20,7 +19,7 @@ returns-clause-bytes g c =
     )
 
 pub returns-clause-becomes : goal.returns-clause-becomes
-returns-clause-becomes g c =
+returns-clause-becomes g c = λ first m.
     let r = c.in_ok-count.ensures in
     let w = c.args.self.now.left in
     let k = c.in_ok-count.count in
@@ -29,9 +28,9 @@ returns-clause-becomes g c =
     let room = c.min-room.result in
     let piece = c.args.piece.now in
     record {
-      name = refl;
-      port = r.becomes;
-      bound = Lowers-trans (g.S.ByteSource.most c.args.self.now.source.now) (g.S.ByteSource.most c.args.self.now.source.now) (g.S.ByteSource.most c.read.new.self) 0 k (Lowers-same (g.S.ByteSource.most c.args.self.now.source.now)) r.most;
-      told = λ t. told-read old new (take k c.read.new.piece) r.bytes.0 t;
-      behind = λ t. moved-behind w k old new (take k c.read.new.piece) r.count.1 (omega (arith, r.count.0, c.read.auto.piece, length-take room piece, c.min-room.ensures)) r.bytes.0 t;
+      same = m.same;
+      port = r.becomes first.source.now m.port;
+      bound = Lowers-trans (g.S.ByteSource.most first.source.now) (g.S.ByteSource.most c.args.self.now.source.now) (g.S.ByteSource.most c.read.new.self) 0 k m.bound r.most;
+      told = λ t. told-read old new (take k c.read.new.piece) r.bytes.0 (m.told t);
+      behind = λ t. moved-behind w k old new (take k c.read.new.piece) r.count.1 (omega (arith, r.count.0, c.read.auto.piece, length-take room piece, c.min-room.ensures)) r.bytes.0 (m.told t) ∙ m.behind t;
     }
