@@ -2,6 +2,8 @@
 //! its text on one line, or its status: the cases of an independent reference are compared with it.
 #![tactic(auto)]
 
+ghost use Rattle.std.specs.Prelude.{◌<◌, IfSome};
+
 use pw_outside::{MemSink, MemSource, MemStore};
 use std::io;
 use workshop::{Status, workshop};
