@@ -1,7 +1,7 @@
 //! The header of a frame.
 
 ghost use Rattle.std.specs.Prelude.{◌≡◌, ◌+◌, ◌<◌, ◌≤◌, ◌^◌, length, IfOk, replicate};
-ghost use Rattle.pw_outside.specs.Ports.{CountsFault};
+ghost use Rattle.pw_outside.specs.Ports.{CountsFault, GoesOn};
 ghost use Rattle.pw_outside.specs.Reading.{Gives, GivesValue, Told};
 ghost use Rattle.pr_head.specs.Faults.{told_fault, is_failed};
 ghost use Rattle.pr_head.specs.Header.{matrices_size, header_at, IsHeader, HasSizes, HasForm};
@@ -57,6 +57,7 @@ fn matrix_of<S: ByteSource>(
     requires { place.old + 64 < 2 ^ 64 }
     ensures bytes { Gives told_fault (λ x. x) (S.left source.old) (S.left source.new) place.old place.new result (matrix_in loaded other) }
     ensures place { place.new ≤ place.old + 64 }
+    ensures becomes { GoesOn S.becomes source.old source.new }
     ensures cause { CountsFault (S.faults source.old) (S.faults source.new) (is_failed result) }
 {
     let mut matrix = other;
@@ -74,6 +75,7 @@ fn start_of<S: ByteSource>(source: &mut S, place: &mut u64, size: u32) -> Result
     ensures sizes { IfOk result (HasSizes size) }
     ensures form { IfOk result HasForm }
     ensures place { place.new ≤ 28 }
+    ensures becomes { GoesOn S.becomes source.old source.new }
     ensures cause { CountsFault (S.faults source.old) (S.faults source.new) (is_failed result) }
 {
     if size < 28 {
@@ -97,6 +99,7 @@ fn matrices_of<S: ByteSource>(
     requires room { place.old ≤ 28 }
     requires header { 20 + matrices_size start.now ≤ start.now.header }
     ensures bytes { Gives told_fault (λ t. t) (S.left source.old) (S.left source.new) place.old place.new result (matrices_in start.now) }
+    ensures becomes { GoesOn S.becomes source.old source.new }
     ensures cause { CountsFault (S.faults source.old) (S.faults source.new) (is_failed result) }
 {
     let luma = matrix_of(source, place, start.loads_luma(), [4; 64])?;
@@ -117,6 +120,7 @@ fn header_of<S: ByteSource>(
     ensures header { IfOk result (λ t. IsHeader t.0) }
     ensures taken { IfOk result (λ t. (28 ≤ t.1) × (t.1 ≤ t.2)) }
     ensures size { IfOk result (λ t. t.2 ≤ size) }
+    ensures becomes { GoesOn S.becomes source.old source.new }
     ensures cause { CountsFault (S.faults source.old) (S.faults source.new) (is_failed result) }
 {
     let start = start_of(source, place, size)?;
@@ -142,6 +146,7 @@ pub fn read_frame_header<S: ByteSource>(
     ensures header { IfOk result (λ t. IsHeader t.0) }
     ensures taken { IfOk result (λ t. (28 ≤ t.1) × (t.1 ≤ t.2)) }
     ensures size { IfOk result (λ t. t.2 ≤ size) }
+    ensures becomes { GoesOn S.becomes source.old source.new }
     // The error is `Failed` only where a call of the source failed, and each such call is answered by it.
     ensures cause { CountsFault (S.faults source.old) (S.faults source.new) (is_failed result) }
 {

@@ -1,7 +1,7 @@
 //! The header of a picture, and the table of its slices' sizes.
 
 ghost use Rattle.std.specs.Prelude.{◌≡◌, ◌+◌, ◌*◌, ◌/◌, ◌%◌, ◌<◌, ◌≤◌, ◌^◌, length, sum, IfOk, OnOk, false};
-ghost use Rattle.pw_outside.specs.Ports.{CountsFault};
+ghost use Rattle.pw_outside.specs.Ports.{CountsFault, GoesOn};
 ghost use Rattle.pw_outside.specs.Reading.{Answers, Gives, GivesValue, Told};
 ghost use Rattle.pr_geom.specs.Slices.{pictures_of};
 ghost use Rattle.pr_geom.specs.Layout.{IsLayoutOf};
@@ -92,6 +92,7 @@ fn picture_from<S: ByteSource>(
     ensures layout { IfOk result (λ t. IsLayoutOf t.1 header.now.width header.now.height t.0.log2 header.now.interlace header.now.chroma) }
     ensures picture { IfOk result (λ t. IsPicture t.0) }
     ensures within { IfOk result (λ t. at + t.0.size ≤ frame) }
+    ensures becomes { GoesOn S.becomes source.old source.new }
     ensures cause { CountsFault (S.faults source.old) (S.faults source.new) (is_failed result) }
 {
     let here = *place;
@@ -128,6 +129,7 @@ pub fn read_picture_header<S: ByteSource>(
     // What is answered has none of the faults.
     ensures picture { IfOk result (λ t. IsPicture t.0) }
     ensures within { IfOk result (λ t. at + t.0.size ≤ frame) }
+    ensures becomes { GoesOn S.becomes source.old source.new }
     // The error is `Failed` only where a call of the source failed, and each such call is answered by it.
     ensures cause { CountsFault (S.faults source.old) (S.faults source.new) (is_failed result) }
 {
@@ -141,6 +143,7 @@ fn size_of<S: ByteSource>(source: &mut S, place: &mut u64, at: u64) -> Result<u1
     requires { place.old + 2 < 2 ^ 64 }
     ensures bytes { Gives told_fault (λ x. x) (S.left source.old) (S.left source.new) place.old place.new result (size_in at) }
     ensures place { place.new ≤ place.old + 2 }
+    ensures becomes { GoesOn S.becomes source.old source.new }
     ensures cause { CountsFault (S.faults source.old) (S.faults source.new) (is_failed result) }
 {
     let mut bytes = [0u8; 2];
@@ -159,6 +162,7 @@ fn sizes_of<S: ByteSource>(
     requires { place.old < 2 ^ 63 }
     ensures bytes { Gives told_fault (λ v. v.items) (S.left source.old) (S.left source.new) place.old place.new result (sizes_in at slices) }
     ensures count { IfOk result (λ v. length v.items ≡ slices) }
+    ensures becomes { GoesOn S.becomes source.old source.new }
     ensures cause { CountsFault (S.faults source.old) (S.faults source.new) (is_failed result) }
 {
     let mut sizes = Vec::new(alloc);
@@ -194,6 +198,7 @@ fn table_of<S: ByteSource>(
     ensures bytes { Gives told_fault (λ v. v.items) (S.left source.old) (S.left source.new) place.old place.new result (table_in picture.now slices) }
     ensures count { IfOk result (λ v. length v.items ≡ slices) }
     ensures within { IfOk result (λ v. picture_size picture.now v.items ≤ picture.now.size) }
+    ensures becomes { GoesOn S.becomes source.old source.new }
     ensures cause { CountsFault (S.faults source.old) (S.faults source.new) (is_failed result) }
 {
     let at = *place;
@@ -227,6 +232,7 @@ pub fn read_slice_sizes<S: ByteSource>(
     // What is answered has none of the faults.
     ensures count { IfOk result (λ v. length v.items ≡ slices) }
     ensures within { IfOk result (λ v. picture_size picture.now v.items ≤ picture.now.size) }
+    ensures becomes { GoesOn S.becomes source.old source.new }
     // The error is `Failed` only where a call of the source failed, and each such call is answered by it.
     ensures cause { CountsFault (S.faults source.old) (S.faults source.new) (is_failed result) }
 {

@@ -1,7 +1,7 @@
 //! Bytes that come next, and numbers of them.
 
 ghost use Rattle.std.specs.Prelude.{◌≡◌, ◌+◌, ◌<◌, ◌≤◌, ◌^◌, length};
-ghost use Rattle.pw_outside.specs.Ports.{CountsFault};
+ghost use Rattle.pw_outside.specs.Ports.{CountsFault, GoesOn};
 ghost use Rattle.pw_outside.specs.Reading.{Gives};
 ghost use Rattle.pr_head.specs.Bytes.{number16, number32};
 ghost use Rattle.pr_head.specs.Faults.{told_fault, is_failed};
@@ -21,6 +21,7 @@ pub(crate) fn whole<S: ByteSource>(
     requires { place.old + length piece.old < 2 ^ 64 }
     ensures bytes { Gives told_fault (λ _. piece.new) (S.left source.old) (S.left source.new) place.old place.new result (piece_at kind at (length piece.old)) }
     ensures place { place.new ≤ place.old + length piece.old }
+    ensures becomes { GoesOn S.becomes source.old source.new }
     ensures cause { CountsFault (S.faults source.old) (S.faults source.new) (is_failed result) }
 {
     let count = fill(source, piece)?;
@@ -44,6 +45,7 @@ fn pass_some<S: ByteSource>(
     requires room { place.old + count < 2 ^ 64 }
     ensures bytes { Gives told_fault (λ x. x) (S.left source.old) (S.left source.new) place.old place.new result (passed kind at count) }
     ensures place { place.new ≤ place.old + count }
+    ensures becomes { GoesOn S.becomes source.old source.new }
     ensures cause { CountsFault (S.faults source.old) (S.faults source.new) (is_failed result) }
 {
     let mut piece = [0u8; 64];
@@ -61,6 +63,7 @@ pub(crate) fn pass<S: ByteSource>(
     requires { place.old + count < 2 ^ 64 }
     ensures bytes { Gives told_fault (λ x. x) (S.left source.old) (S.left source.new) place.old place.new result (passed kind at count) }
     ensures place { place.new ≤ place.old + count }
+    ensures becomes { GoesOn S.becomes source.old source.new }
     ensures cause { CountsFault (S.faults source.old) (S.faults source.new) (is_failed result) }
 {
     let mut left = usize::from(count);

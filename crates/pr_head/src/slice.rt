@@ -1,7 +1,7 @@
 //! The header of a slice.
 
 ghost use Rattle.std.specs.Prelude.{◌≡◌, ◌+◌, ◌<◌, ◌≤◌, ◌^◌, length, IfOk, OnOk, if◌then◌else◌, false};
-ghost use Rattle.pw_outside.specs.Ports.{CountsFault};
+ghost use Rattle.pw_outside.specs.Ports.{CountsFault, GoesOn};
 ghost use Rattle.pw_outside.specs.Reading.{Answers, Gives, GivesValue, Told};
 ghost use Rattle.pr_head.specs.Bytes.{number16};
 ghost use Rattle.pr_head.specs.Faults.{told_fault, is_failed};
@@ -120,6 +120,7 @@ fn cr_of<S: ByteSource>(
     ensures bytes { Gives told_fault (λ x. x) (S.left source.old) (S.left source.new) place.old place.new result (cr_in at stated) }
     ensures none { IfOk result (λ bytes. (if stated then 0 else number16 bytes 0) ≡ 0) }
     ensures place { place.new ≤ place.old + 2 }
+    ensures becomes { GoesOn S.becomes source.old source.new }
     ensures cause { CountsFault (S.faults source.old) (S.faults source.new) (is_failed result) }
 {
     let mut bytes = [0u8; 2];
@@ -140,6 +141,7 @@ fn slice_of<S: ByteSource>(
     requires { place.old ≡ at }
     ensures bytes { Gives told_fault (λ x. x) (S.left source.old) (S.left source.new) place.old place.new result (slice_in size alpha) }
     ensures slice { IfOk result (IsSliceHeader size alpha) }
+    ensures becomes { GoesOn S.becomes source.old source.new }
     ensures cause { CountsFault (S.faults source.old) (S.faults source.new) (is_failed result) }
 {
     let here = *place;
@@ -173,6 +175,7 @@ pub fn read_slice_header<S: ByteSource>(
     ensures bytes { GivesValue told_fault (λ x. x) (S.left source.old) (S.left source.new) at result (slice_at size alpha) }
     // What is answered has none of the faults.
     ensures slice { IfOk result (IsSliceHeader size alpha) }
+    ensures becomes { GoesOn S.becomes source.old source.new }
     // The error is `Failed` only where a call of the source failed, and each such call is answered by it.
     ensures cause { CountsFault (S.faults source.old) (S.faults source.new) (is_failed result) }
 {

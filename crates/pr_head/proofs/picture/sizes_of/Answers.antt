@@ -19,6 +19,7 @@ loop-preserved g c =
       place = search rules;
       told = λ h. c.in_ok-size.ensures.bytes.told (c.loop.invariant.told h);
       bytes = λ h. sizes-more c.loop.sizes.items c.args.at c.args.slices c.loop.counter _ _ size _ c.loop-test.true (c.in_ok-size.ensures.bytes.answer (c.loop.invariant.told h)) (c.loop.invariant.bytes h);
+      becomes = λ first h. c.in_ok-size.ensures.becomes first (c.loop.invariant.becomes first h);
       cause = search rules;
     })
 

@@ -16,6 +16,7 @@ loop-left-preserved g c = record {
   place = search rules;
   told = λ h. c.in_ok-pass_some.ensures.bytes.told (c.loop-left.invariant.told h);
   bytes = λ h. passed-more c.args.kind c.args.at c.loop-left.left _ _ _ _ (omega arith) (c.in_ok-pass_some.ensures.bytes.answer (c.loop-left.invariant.told h)) (c.loop-left.invariant.bytes h);
+  becomes = λ first h. c.in_ok-pass_some.ensures.becomes first (c.loop-left.invariant.becomes first h);
   cause = search rules;
 }
 
