@@ -1,0 +1,9 @@
+//! The components of a slice, written and read: the coefficients of 1 to 32 blocks as the words of their
+//! DC differences and of their runs and levels, as in SMPTE RDD 36. No call takes memory.
+#![tactic(auto)]
+
+mod laws;
+mod scan;
+
+pub use laws::{component_is_read, one_list_or_fault, scans_have_each_place};
+pub use scan::{Block, Scan};
