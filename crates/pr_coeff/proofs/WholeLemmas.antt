@@ -153,3 +153,9 @@ not_both scan l a fault s k x e = let p = component_again scan l a s k x in cc
 pub scan_of : (scan : Scan) → IsScan (places scan)
 scan_of Progressive = progressive_is_scan
 scan_of Interlaced = interlaced_is_scan
+
+-- the places of a scan behind the first
+pub places_inside : (scan : List ℕ) → IsScan scan → (k : ℕ) → k < 63 → get_or (drop 1 scan) k 0 < 64
+places_inside scan s k h =
+    let at : get_or scan (suc k) 0 ≡ get_or (drop 1 scan) k 0 = ap (λ l. get_or l (suc k) 0) s.starts in
+    omega (arith, (s.places (suc k) (omega arith)).0, at)

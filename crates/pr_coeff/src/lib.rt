@@ -2,8 +2,10 @@
 //! DC differences and of their runs and levels, as in SMPTE RDD 36. No call takes memory.
 #![tactic(auto)]
 
+mod books;
 mod laws;
 mod scan;
+mod write;
 
 pub use laws::{component_is_read, one_list_or_fault, scans_have_each_place};
 pub use scan::{Block, Scan};

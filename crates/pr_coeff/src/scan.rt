@@ -1,6 +1,6 @@
 //! Blocks, and the orders in which their coefficients are coded.
 
-ghost use Rattle.std.specs.Prelude.{◌≡◌};
+ghost use Rattle.std.specs.Prelude.{◌≡◌, drop, length};
 ghost use Rattle.pr_coeff.specs.Component.{places};
 
 /// The coefficients of a block in raster order.
@@ -32,5 +32,13 @@ impl Scan {
             Scan::Progressive => &PROGRESSIVE,
             Scan::Interlaced => &INTERLACED,
         }
+    }
+
+    /// The raster places behind the first in the scan's order.
+    pub(crate) fn other_places(self) -> &'static [u8]
+        ensures value { result.now ≡ drop 1 (places self) }
+        ensures count { length result.now ≡ 63 }
+    {
+        &self.places()[1..]
     }
 }
