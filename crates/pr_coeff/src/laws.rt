@@ -1,7 +1,7 @@
 //! Laws of components. The functions do nothing; their contracts are the laws.
 
-ghost use Rattle.std.specs.Prelude.{◌≡◌, ◌↔◌, ◌⊎◌, ℕ, ◌<◌, ◌≤◌, Bool, List, length, Ok, Err};
-ghost use Rattle.pr_coeff.specs.Component.{Block, IsScan, Stands, places};
+ghost use Rattle.std.specs.Prelude.{◌≡◌, ◌↔◌, ◌⊎◌, ℕ, ◌*◌, ◌<◌, ◌≤◌, Bool, List, [], length, get_or, Ok, Err, pos, nat_abs};
+ghost use Rattle.pr_coeff.specs.Component.{Block, IsScan, Stands, places, component};
 ghost use Rattle.pr_coeff.specs.Reading.{Fault, component_at};
 ghost use Rattle.pr_coeff.specs.declared.scan.Scan.{Scan};
 
@@ -24,4 +24,11 @@ pub fn one_list_or_fault()
         ((blocks : List Block) × (length blocks ≡ count) × Stands l blocks (places scan)) ⊎ ((fault : Fault) × (component_at count (places scan) l ≡ Err fault)) }
     ensures not_both { (scan : Scan) (l : List Bool) (a : List Block) (fault : Fault) → length a ≤ 32 →
         Stands l a (places scan) → component_at (length a) (places scan) l ≡ Err fault → ⊥ }
+{}
+
+/// Coefficients of magnitude at most 8,191 cost fewer than 57 bits each, all zeros that fill the last byte counted.
+pub fn components_are_short()
+    ensures { (scan : Scan) (blocks : List Block) → 0 < length blocks → length blocks ≤ 32 →
+        ((i place : ℕ) → nat_abs (get_or (get_or blocks i []) place (pos 0)) ≤ 8191) →
+        8 * length (component (places scan) blocks) < 57 * (64 * length blocks) }
 {}

@@ -7,5 +7,6 @@ mod laws;
 mod scan;
 mod write;
 
-pub use laws::{component_is_read, one_list_or_fault, scans_have_each_place};
+pub use laws::{component_is_read, components_are_short, one_list_or_fault, scans_have_each_place};
 pub use scan::{Block, Scan};
+pub use write::{component_length, write_component};

@@ -308,3 +308,14 @@ pub fn write_component<K: ByteSink>(
     put_places(blocks, scan.other_places(), &mut writer, sink)?;
     writer.pad(sink)
 }
+
+/// The number of bytes that `write_component` writes.
+pub fn component_length(blocks: &[Block], scan: Scan) -> u32
+    requires count { (0 < length blocks.now) × (length blocks.now ≤ 32) }
+    requires small { AreBlocks blocks.now }
+    ensures { result ≡ length (component (places scan) blocks.now) }
+{
+    let mut sink = CountSink::new();
+    let _ = write_component(blocks, scan, &mut sink);
+    sink.taken() as u32
+}
