@@ -1,21 +1,20 @@
 -- One word after another.
-use Rattle.std.proofs.Common.{◌≡◌, ℕ, suc, zero, ◌+◌, ◌-◌, ◌%◌, ◌<◌, ◌≤◌, length, take, drop, get_or, append_assoc, append-nil, nat_abs, Bool, true, false, List, [], ◌∷◌, ◌++◌, Option, ℤ, pos, negsuc, ◌-ℤ◌, Result, Ok, Err, OnErr, refl, ap, sym, ◌∙◌, subst, arith}
+use Rattle.std.proofs.Common.{◌≡◌, ℕ, suc, zero, ◌+◌, ◌-◌, ◌%◌, ◌^◌, ◌<◌, ◌≤◌, length, take, drop, get_or, append_assoc, append-nil, nat_abs, Bool, true, false, List, [], ◌∷◌, ◌++◌, ℤ, pos, negsuc, ◌-ℤ◌, Result, Ok, Err, OnErr, refl, ap, sym, ◌∙◌, subst, arith}
 use mir.Val.{bool_byte, to_z, of_z}
-use mir.Syntax.{w16}
+use mir.Syntax.{w16, w32}
 use Rattle.std.proofs.lemmas.Int.{ints, to_z-of_z}
 use lib.Signed.{lt_z}
 use Rattle.pr_codes.specs.declared.book.Codebook.{Codebook}
 use Rattle.pw_bits.specs.Bits.{bits_of, bytes, whole, left, padding, zeros}
 use Rattle.pw_bits.proofs.BitsLemmas.{length-left_mod}
 use Rattle.pw_bits.specs.Writing.{Written, Writes, Begins}
-use Rattle.pw_bits.proofs.WritingLemmas.{Writes-Writes, Begins-first, Begins-second}
+use Rattle.pw_bits.proofs.WritingLemmas.{Begins-first, Begins-second}
 use Rattle.pr_codes.specs.Words.{word, book}
-use Rattle.pr_coeff.specs.Component.{run_book, level_book, dc_book, dc_words, all_dc_words, ac_words, is_negative, folded, turned, column, IsSmall, AllSmall, AreBlocks, listed, Block}
+use Rattle.pr_coeff.specs.Component.{run_book, level_book, dc_book, dc_words, all_dc_words, ac_words, is_negative, folded, turned, column, IsSmall, AllSmall, listed, Block}
 use Rattle.pr_coeff.specs.Reading.{signed}
 use Rattle.pr_coeff.proofs.ComponentLemmas.{ac_words_signed}
-use Rattle.pr_coeff.proofs.WovenLemmas.{length-column, column-at, AllSmall_at, column_small}
+use Rattle.pr_coeff.proofs.WovenLemmas.{length-column, column-at, AllSmall_at}
 use Rattle.std.proofs.lemmas.List.{take_more, drop_more, take-append-drop}
-use Rattle.std.specs.List.{flat_map}
 use Rattle.pr_coeff.specs.declared.write.Coding.{Coding}
 use Rattle.pr_coeff.specs.declared.write.Differences.{Differences}
 use Rattle.pr_coeff.specs.Writing.{triple_words, Codes, CodesDc, TakesFront}
@@ -143,6 +142,10 @@ column_cut blocks place i h =
 pub kept_value : (v : ℤ) → nat_abs v ≤ 32767 → to_z w16 (of_z w16 v) ≡ v
 kept_value (pos n) h = to_z-of_z w16 (pos n) (grind (arith, ints))
 kept_value (negsuc n) h = to_z-of_z w16 (negsuc n) (grind (arith, ints))
+
+pub kept_wide : (v : ℤ) → nat_abs v ≤ 2 ^ 21 → to_z w32 (of_z w32 v) ≡ v
+kept_wide (pos n) h = to_z-of_z w32 (pos n) (grind (arith, ints))
+kept_wide (negsuc n) h = to_z-of_z w32 (negsuc n) (grind (arith, ints))
 
 pub small_at : (blocks : List (List ℤ)) (place i : ℕ) → i < length blocks → AllSmall (column blocks place) → nat_abs (get_or (get_or blocks i []) place (pos 0)) ≤ 32767
 small_at blocks place i h a = subst IsSmall (column-at blocks place i h) (AllSmall_at (column blocks place) i a)

@@ -1,15 +1,14 @@
 -- Laws of the words of a component.
-use Rattle.std.proofs.Common.{◌≡◌, ℕ, zero, suc, ◌+◌, ◌-◌, ◌*◌, ◌/◌, ◌%◌, ◌^◌, ◌<◌, ◌≤◌, ◌⊎◌, inl, inr, Bool, true, false, cond, eqb, ltb, leb, List, [], ◌∷◌, ◌++◌, length, take, drop, replicate, get_or, Result, Ok, Err, refl, ap, sym, ◌∙◌, subst, arith, rules, add-one, length-append, append_assoc, append-nil, lit<, T, ℤ, pos, negsuc, ◌+ℤ◌, ◌-ℤ◌, neg_ℤ, nat_abs}
-use Rattle.std.proofs.lemmas.Bool.{cases_lt, cases_Bool, leb-true, leb-false, le-leb, lt-leb, ltb-true, ltb-false, lt-ltb, le-ltb, ne_eqb, eq-eqb, eqb-true, eqb-false}
+use Rattle.std.proofs.Common.{◌≡◌, ℕ, zero, suc, ◌+◌, ◌-◌, ◌*◌, ◌/◌, ◌%◌, ◌^◌, ◌<◌, ◌≤◌, inl, inr, Bool, true, false, cond, eqb, ltb, leb, List, [], ◌∷◌, ◌++◌, length, replicate, Result, Ok, Err, refl, ap, sym, ◌∙◌, subst, arith, length-append, append_assoc, append-nil, ℤ, pos, negsuc, ◌+ℤ◌, ◌-ℤ◌, nat_abs}
+use Rattle.std.proofs.lemmas.Bool.{cases_lt, leb-true, le-leb, ltb-true, lt-ltb, ne_eqb, eq-eqb, eqb-true}
 use Rattle.std.proofs.lemmas.List.{length-replicate}
 use Rattle.std.proofs.lemmas.Int.{ints}
-use Rattle.std.proofs.lemmas.Grind.{common_steps}
 use Rattle.pr_codes.specs.declared.book.Codebook.{Codebook}
 use Rattle.pw_bits.specs.Bits.{zeros, bits_of}
 use Rattle.pr_codes.specs.Words.{word, tail, leading, WordFault, code_at, is_book}
-use Rattle.pr_codes.proofs.WordsLemmas.{IsPlain, plain, code_again, code_found, chosen, leading_all, leading_of_zeros, leading_of, Parts, parts, spelled}
+use Rattle.pr_codes.proofs.WordsLemmas.{IsPlain, plain, code_again, code_found, chosen, leading_all, leading_of_zeros, leading_of, parts, spelled}
 use Rattle.pr_coeff.specs.Component.{folded, is_negative, turned, dc_book, run_book, level_book, dc_words, ac_words, IsSmall, AllSmall}
-use Rattle.pr_coeff.specs.Reading.{unfolded, is_small, Fault, codeword, run_past, level_range, ◌>>=◌, faulty, word_at, First, first_of, first_at, firsts_at, Triple, sign_then, level_then, run_then, triple_at, no_ones, signed, with_triple, values_at}
+use Rattle.pr_coeff.specs.Reading.{unfolded, is_small, Fault, run_past, level_range, ◌>>=◌, faulty, word_at, First, first_of, first_at, firsts_at, Triple, sign_then, level_then, run_then, triple_at, no_ones, signed, with_triple, values_at}
 use Rattle.pr_codes.specs.Words.{book}
 
 -- ---- signed numbers and their codes

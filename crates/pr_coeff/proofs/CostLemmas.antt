@@ -1,15 +1,14 @@
 -- How many bits coefficients cost.
-use Rattle.std.proofs.Common.{◌≡◌, ℕ, zero, suc, ◌+◌, ◌-◌, ◌*◌, ◌%◌, ◌^◌, ◌<◌, ◌≤◌, Bool, true, false, List, [], ◌∷◌, ◌++◌, length, drop, get_or, refl, ap, sym, ◌∙◌, subst, arith, length-append, ℤ, pos, negsuc, ◌-ℤ◌, nat_abs}
-use Rattle.std.proofs.lemmas.Nat.{pow_below}
+use Rattle.std.proofs.Common.{◌≡◌, ℕ, zero, suc, ◌+◌, ◌-◌, ◌*◌, ◌%◌, ◌^◌, ◌<◌, ◌≤◌, Bool, true, false, List, [], ◌∷◌, ◌++◌, length, drop, get_or, refl, ap, ◌∙◌, subst, arith, length-append, ℤ, pos, negsuc, ◌-ℤ◌, nat_abs}
 use Rattle.std.proofs.lemmas.List.{length-drop, length-replicate}
 use Rattle.pr_codes.specs.declared.book.Codebook.{Codebook}
-use Rattle.pw_bits.specs.Bits.{bits_of, zeros, bits, bytes, padding}
+use Rattle.pw_bits.specs.Bits.{bits_of, bits, bytes, padding}
 use Rattle.pw_bits.proofs.BitsLemmas.{length-bits_of, pow_mono_at, pow_suc, bits-bytes}
 use Rattle.pr_codes.specs.Words.{word, book, is_book}
-use Rattle.pr_codes.proofs.WordsLemmas.{IsPlain, plain, length-word-le}
-use Rattle.pr_coeff.specs.Component.{Block, dc_book, run_book, level_book, folded, turned, is_negative, dc_words, all_dc_words, ac_words, column, listed, IsScan, spelling, component, IsSmall, AllSmall, AreBlocks}
+use Rattle.pr_codes.proofs.WordsLemmas.{plain, length-word-le}
+use Rattle.pr_coeff.specs.Component.{Block, dc_book, run_book, level_book, folded, turned, is_negative, dc_words, all_dc_words, ac_words, column, listed, IsScan, spelling, component, AllSmall, AreBlocks}
 use Rattle.pr_coeff.proofs.ComponentLemmas.{is_book-dc, is_book-run, is_book-level, folded-le, abs-turned, abs-sub}
-use Rattle.pr_coeff.proofs.WovenLemmas.{length-column, length-listed, column_small, listed_small}
+use Rattle.pr_coeff.proofs.WovenLemmas.{length-column, length-listed}
 
 -- the magnitudes are below 2^k
 abbrev pub AllUnder : ℕ → List ℤ → Type 0

@@ -1,5 +1,5 @@
 -- A whole component.
-use Rattle.std.proofs.Common.{◌≡◌, ℕ, zero, suc, ◌+◌, ◌-◌, ◌*◌, ◌/◌, ◌%◌, ◌^◌, ◌<◌, ◌≤◌, ◌⊎◌, inl, inr, Bool, true, false, cond, eqb, ltb, leb, ◌&&◌, List, [], ◌∷◌, ◌++◌, length, take, drop, replicate, map, get_or, Result, Ok, Err, refl, ap, sym, ◌∙◌, subst, arith, length-append, append_assoc, append-nil, lit<, ℤ, pos, negsuc, nat_abs}
+use Rattle.std.proofs.Common.{◌≡◌, ℕ, zero, suc, ◌+◌, ◌*◌, ◌<◌, ◌≤◌, ◌⊎◌, inl, inr, Bool, true, false, eqb, ltb, leb, ◌&&◌, List, [], ◌∷◌, ◌++◌, length, drop, get_or, Result, Ok, Err, OnOk, IfErr, refl, ap, sym, ◌∙◌, subst, arith, length-append, append_assoc, ℤ, nat_abs}
 use Rattle.std.proofs.lemmas.Bool.{agree_below, agree_below_at, and_parts, ltb-true, eqb-true, leb-true, le-leb}
 use Rattle.std.proofs.lemmas.List.{length-drop}
 use Rattle.pw_bits.specs.Bits.{zeros}
@@ -7,11 +7,11 @@ use Rattle.pr_codes.specs.Words.{word, code_at}
 use Rattle.pr_codes.proofs.WordsLemmas.{code_again, code_found, chosen}
 use Rattle.pr_coeff.specs.declared.scan.Scan.{Scan}
 use Rattle.pr_coeff.specs.declared.scan.Scan.TheVariants.{Progressive, Interlaced}
-use Rattle.pr_coeff.specs.Component.{places, Block, column, listed, index_of, IsScan, IsSmall, AllSmall, AreBlocks, Stands, spelling, folded, all_dc_words, dc_words, ac_words, progressive, interlaced}
+use Rattle.pr_coeff.specs.Component.{places, Block, column, listed, index_of, IsScan, AllSmall, AreBlocks, Stands, spelling, folded, all_dc_words, dc_words, ac_words, progressive, interlaced}
 use Rattle.pr_coeff.specs.Reading.{woven, is_small, unfolded, Fault, level_range, ◌>>=◌, faulty, word_at, firsts_at, first_then, all_firsts_at, values_at, rest_then, component_at}
 use Rattle.pr_codes.specs.Words.{book}
-use Rattle.pr_coeff.proofs.ComponentLemmas.{bind_ok, faulty_ok, plain_first, folded-le, folded-unfolded, unfolded-folded, firsts_again, firsts_found, firsts_end, AreFirsts, values_again, values_found, AreValues}
-use Rattle.pr_coeff.proofs.WovenLemmas.{woven-listed, listed-woven, woven_blocks, length-woven, length-column, length-listed, column_small, listed_small, AllSmall_both, AllSmall_left, AllSmall_right}
+use Rattle.pr_coeff.proofs.ComponentLemmas.{bind_ok, faulty_ok, plain_first, folded-le, folded-unfolded, unfolded-folded, firsts_again, firsts_found, firsts_end, values_again, values_found}
+use Rattle.pr_coeff.proofs.WovenLemmas.{woven-listed, listed-woven, woven_blocks, length-woven, length-column, length-listed, column_small, listed_small, AllSmall_both}
 
 -- ---- the scans
 
@@ -159,3 +159,29 @@ pub places_inside : (scan : List ℕ) → IsScan scan → (k : ℕ) → k < 63 �
 places_inside scan s k h =
     let at : get_or scan (suc k) 0 ≡ get_or (drop 1 scan) k 0 = ap (λ l. get_or l (suc k) 0) s.starts in
     omega (arith, (s.places (suc k) (omega arith)).0, at)
+
+-- ---- the parts of reading
+
+module _ (scan : List ℕ) (n : ℕ) (l : List Bool) where
+  pub whole_is : (blocks : List Block) (ds vs : List ℤ) (l1 : List Bool) → IsScan scan → AreBlocks blocks → length blocks ≡ n → all_firsts_at n l ≡ Ok (ds, l1) →
+      values_at (63 * n + 1) (63 * n) 4 2 l1 ≡ Ok vs → listed scan blocks ≡ ds ++ vs → component_at n scan l ≡ Ok blocks
+  unfolding component_at
+  whole_is blocks ds vs l1 s a size e f is =
+      ap (λ r. r >>= rest_then scan n) e ∙ ap (λ r. r >>= λ vs. Ok (woven scan n (ds ++ vs))) f
+      ∙ ap Ok (ap (woven scan n) (sym is) ∙ ap (λ m. woven scan m (listed scan blocks)) (sym size) ∙ woven-listed scan blocks s a)
+
+  pub firsts_fail : (x : Fault) → all_firsts_at n l ≡ Err x → component_at n scan l ≡ Err x
+  unfolding component_at
+  firsts_fail x e = ap (λ r. r >>= rest_then scan n) e
+
+  pub values_fail : (ds : List ℤ) (l1 : List Bool) (x : Fault) → all_firsts_at n l ≡ Ok (ds, l1) → values_at (63 * n + 1) (63 * n) 4 2 l1 ≡ Err x → component_at n scan l ≡ Err x
+  unfolding component_at
+  values_fail ds l1 x e f = ap (λ r. r >>= rest_then scan n) e ∙ ap (λ r. r >>= λ vs. Ok (woven scan n (ds ++ vs))) f
+
+pub on_ok_two : {T E P Q R : Type 0} (r : Result T E) → (P → Q → R) → OnOk r P → OnOk r Q → OnOk r R
+on_ok_two (Ok x) f p q = f p q
+on_ok_two (Err e) f p q = tt
+
+pub if_err_weaker : {T E : Type 0} {P Q : E → Type 0} (r : Result T E) → ((e : E) → P e → Q e) → IfErr r P → IfErr r Q
+if_err_weaker (Ok x) f p = tt
+if_err_weaker (Err e) f p = f e p

@@ -1,6 +1,6 @@
 -- Reading a component's bits: the blocks, or the first fault in the order of bits (SMPTE RDD 36, scanned
 -- coefficients; the faults and the end of the data are our own).
-use Rattle.std.specs.Prelude.{◌≡◌, ℕ, zero, suc, ◌+◌, ◌-◌, ◌*◌, ◌/◌, ◌%◌, Bool, true, false, List, [], ◌∷◌, ◌++◌, length, replicate, map, get_or, nat_eq, nat_lt, nat_le, if◌then◌else◌, Result, Ok, Err, ℤ, pos, negsuc, ◌+ℤ◌, nat_abs}
+use Rattle.std.specs.Prelude.{ℕ, zero, suc, ◌+◌, ◌-◌, ◌*◌, ◌/◌, ◌%◌, Bool, true, false, List, [], ◌∷◌, ◌++◌, length, replicate, map, get_or, nat_eq, nat_lt, nat_le, if◌then◌else◌, Result, Ok, Err, ℤ, pos, negsuc, ◌+ℤ◌, nat_abs}
 use Rattle.std.specs.List.{range_with_len}
 use Rattle.pr_codes.specs.Words.{code_at, book, leading, WordFault}
 use Rattle.pr_codes.specs.declared.book.Codebook.{Codebook}
@@ -53,6 +53,10 @@ first_of last negative c =
 unfoldable pub first_at : ℤ → Bool → ℕ → List Bool → Result First Fault
 first_at last negative code l = word_at (dc_book code) l >>= first_of last negative
 
+-- a DC coefficient in front of others
+abbrev pub with_first : ℤ → Result (List ℤ × List Bool) Fault → Result (List ℤ × List Bool) Fault
+with_first d read = read >>= λ ds. Ok (d ∷ ds.0, ds.1)
+
 -- the DC coefficients of so many blocks, behind an earlier one, and the bits behind their words
 abbrev pub firsts_at : ℕ → ℤ → Bool → ℕ → List Bool → Result (List ℤ × List Bool) Fault
 firsts_at zero last negative code l = Ok ([], l)
@@ -77,10 +81,14 @@ sign_then run level (b ∷ l) = Ok (record { run = run; level = level; negative 
 abbrev pub level_then : ℕ → ℕ × List Bool → Result Triple Fault
 level_then run m = if nat_lt m.0 32767 then sign_then run m.0 m.1 else Err level_range
 
+-- a level and a sign, behind a run and a magnitude
+abbrev pub level_at : ℕ → ℕ → List Bool → Result Triple Fault
+level_at run magnitude l = word_at (level_book magnitude) l >>= level_then run
+
 -- a run, which is judged before the level is read: behind its zeros a place has to be left
 abbrev pub run_then : ℕ → ℕ → ℕ × List Bool → Result Triple Fault
 run_then room magnitude r =
-    if nat_lt r.0 room then word_at (level_book magnitude) r.1 >>= level_then r.0 else Err run_past
+    if nat_lt r.0 room then level_at r.0 magnitude r.1 else Err run_past
 
 -- the run, the level and the sign at the front, with so many places left
 unfoldable pub triple_at : ℕ → ℕ → ℕ → List Bool → Result Triple Fault

@@ -1,6 +1,6 @@
 -- What a writer of coefficients has written so far, and what the next words depend on; and what a sink has
 -- of a component (our own).
-use Rattle.std.specs.Prelude.{◌≡◌, ℕ, List, [], ◌∷◌, ◌++◌, length, Bool, ℤ, Option, ◌-ℤ◌}
+use Rattle.std.specs.Prelude.{◌≡◌, ℕ, List, [], ◌∷◌, ◌++◌, length, Bool, ℤ, Option}
 use Rattle.std.specs.Io.KnownBytes.{Appends}
 use Rattle.pw_outside.specs.Ports.{taken_more}
 use Rattle.pr_codes.specs.Words.{word}

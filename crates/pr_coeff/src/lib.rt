@@ -3,10 +3,15 @@
 #![tactic(auto)]
 
 mod books;
+mod component;
 mod laws;
+mod read;
 mod scan;
+mod triple;
 mod write;
 
+pub use component::read_component;
 pub use laws::{component_is_read, components_are_short, one_list_or_fault, scans_have_each_place};
+pub use read::CoeffFault;
 pub use scan::{Block, Scan};
 pub use write::{component_length, write_component};

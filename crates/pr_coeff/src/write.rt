@@ -24,15 +24,15 @@ struct Coding {
 
 /// What the word of the next DC coefficient depends on.
 #[derive(Clone, Copy)]
-struct Differences {
-    last: i16,
-    negative: bool,
-    code: u32,
+pub(crate) struct Differences {
+    pub(crate) last: i16,
+    pub(crate) negative: bool,
+    pub(crate) code: u32,
 }
 
 impl Differences {
     /// Behind the first DC coefficient.
-    fn behind(first: i16) -> Self
+    pub(crate) fn behind(first: i16) -> Self
         ensures { result ≡ record { last = first; negative = false; code = 5 } }
     {
         Differences {
@@ -57,10 +57,10 @@ fn code_of(value: i32) -> u32
 }
 
 /// A difference, its sign turned where the difference before was negative.
-fn turn(negative: bool, difference: i32) -> i32
-    requires { nat_abs difference ≤ 2 ^ 17 }
+pub(crate) fn turn(negative: bool, difference: i32) -> i32
+    requires { nat_abs difference ≤ 2 ^ 20 }
     ensures value { result ≡ turned negative difference }
-    ensures small { nat_abs result ≤ 2 ^ 17 }
+    ensures small { nat_abs result ≡ nat_abs difference }
 {
     if negative { -difference } else { difference }
 }
@@ -76,7 +76,7 @@ fn difference(last: i16, value: i16) -> i32
 }
 
 /// Whether a number is below 0.
-fn below_zero(value: i32) -> bool
+pub(crate) fn below_zero(value: i32) -> bool
     ensures { result ≡ is_negative value }
 {
     value < 0
@@ -133,11 +133,7 @@ fn put_differences<K: ByteSink>(
 }
 
 /// Writes the word of the first DC coefficient.
-fn put_first<K: ByteSink>(
-    writer: &mut BitWriter,
-    sink: &mut K,
-    value: i16,
-) -> Result<(), Failed>
+fn put_first<K: ByteSink>(writer: &mut BitWriter, sink: &mut K, value: i16) -> Result<(), Failed>
     requires usable { writer.old.spoiled ≡ false }
     requires small { nat_abs value ≤ 32767 }
     ensures ok { OnOk result (Writes (written (K.held sink.old) (K.taken sink.old) writer.old.pending) (written (K.held sink.new) (K.taken sink.new) writer.new.pending) (word (book 0 5 6) (folded value))) }

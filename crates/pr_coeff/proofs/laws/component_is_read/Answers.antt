@@ -1,4 +1,4 @@
-use Rattle.std.proofs.Common.{◌≡◌, ◌≤◌, length, Ok, subst, arith}
+use Rattle.std.proofs.Common.{◌≡◌, Ok, subst, arith}
 use Rattle.pr_coeff.specs.Component.{places}
 use Rattle.pr_coeff.specs.Reading.{component_at}
 use Rattle.pr_coeff.proofs.WholeLemmas.{scan_of, component_again, component_found}

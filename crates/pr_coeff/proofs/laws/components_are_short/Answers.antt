@@ -1,5 +1,5 @@
-use Rattle.std.proofs.Common.{◌+◌, ◌*◌, ◌<◌, ◌≤◌, length, arith}
-use Rattle.pr_coeff.specs.Component.{places, component}
+use Rattle.std.proofs.Common.{arith}
+use Rattle.pr_coeff.specs.Component.{places}
 use Rattle.pr_coeff.proofs.WholeLemmas.{scan_of}
 use Rattle.pr_coeff.proofs.CostLemmas.{component_cost}
 use Rattle.pr_coeff.proofs.laws.components_are_short.Goals as goal

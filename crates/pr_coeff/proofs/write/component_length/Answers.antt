@@ -1,4 +1,4 @@
-use Rattle.std.proofs.Common.{◌≡◌, ℕ, ◌+◌, ◌*◌, ◌^◌, ◌<◌, ◌≤◌, min, length, Result, Ok, Err, OnOk, is_err, Fits, w32, arith, rules, sym, ◌∙◌, subst}
+use Rattle.std.proofs.Common.{◌≡◌, ℕ, ◌+◌, ◌*◌, ◌^◌, ◌<◌, ◌≤◌, min, length, Result, Ok, Err, OnOk, is_err, arith, rules, ◌∙◌}
 use Rattle.pw_outside.specs.Ports.{last, taken_more, CountsFault}
 use Rattle.pr_coeff.specs.Component.{places, component}
 use Rattle.pr_coeff.proofs.WholeLemmas.{scan_of}

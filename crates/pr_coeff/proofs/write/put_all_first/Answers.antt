@@ -1,11 +1,11 @@
-use Rattle.std.proofs.Common.{rules, ◌≡◌, ℕ, ◌+◌, ◌-◌, ◌*◌, ◌<◌, ◌≤◌, ◌++◌, ◌∷◌, [], List, ℤ, pos, nat_abs, take, drop, get_or, length, false, arith, refl, sym, ap, ◌∙◌, subst}
+use Rattle.std.proofs.Common.{◌++◌, [], pos, drop, get_or, false, sym, subst}
 use Rattle.std.proofs.lemmas.Result.{on_ok_weaker, on_err_weaker}
-use Rattle.pw_bits.specs.Writing.{Written, written, Writes, Begins}
-use Rattle.pw_bits.proofs.WritingLemmas.{Writes-nil, Writes-short, Writes-Writes, Writes-padded, Begins-first, Begins-second}
+use Rattle.pw_bits.specs.Writing.{written, Writes, Begins}
+use Rattle.pw_bits.proofs.WritingLemmas.{Writes-short, Writes-Writes, Begins-first, Begins-second}
 use mir.Val.{to_z, of_z}
 use mir.Syntax.{w16}
 use Rattle.pr_codes.specs.Words.{word, book}
-use Rattle.pr_coeff.specs.Component.{AllSmall, column, folded, dc_words, all_dc_words}
+use Rattle.pr_coeff.specs.Component.{AllSmall, column, folded, dc_words}
 use Rattle.pr_coeff.proofs.CodingLemmas.{any_err, all_first, column_drop, kept_value, small_at}
 use Rattle.pr_coeff.proofs.write.put_all_first.Goals as goal
 

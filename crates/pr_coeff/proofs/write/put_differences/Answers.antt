@@ -1,9 +1,9 @@
-use Rattle.std.proofs.Common.{rules, ◌≡◌, ℕ, ◌+◌, ◌-◌, ◌*◌, ◌<◌, ◌≤◌, ◌++◌, ◌∷◌, [], List, ℤ, pos, nat_abs, take, drop, get_or, length, false, arith, refl, sym, ap, ◌∙◌, subst}
+use Rattle.std.proofs.Common.{◌≡◌, ◌+◌, ◌≤◌, ◌++◌, [], pos, nat_abs, take, drop, get_or, length, false, arith, refl, sym, ap, ◌∙◌, subst}
 use mir.Val.{to_z, of_z}
 use mir.Syntax.{w16}
 use Rattle.std.proofs.lemmas.List.{take_all}
 use Rattle.pw_bits.specs.Writing.{written, Writes, Begins}
-use Rattle.pw_bits.proofs.WritingLemmas.{Writes-nil, Writes-short, Writes-Writes, Begins-first, Begins-second}
+use Rattle.pw_bits.proofs.WritingLemmas.{Writes-nil, Writes-Writes}
 use Rattle.pr_coeff.specs.Component.{column, dc_words, dc_book, folded, turned, is_negative}
 use Rattle.std.proofs.Common.{◌-ℤ◌}
 use Rattle.pr_codes.specs.Words.{word}
@@ -63,7 +63,7 @@ loop-block-preserved g c =
     let mid = written (g.K.ByteSink.held c.loop-block.sink) (g.K.ByteSink.taken c.loop-block.sink) c.loop-block.writer.pending in
     let after = written (g.K.ByteSink.held c.put_difference.new.sink) (g.K.ByteSink.taken c.put_difference.new.sink) c.put_difference.new.writer.pending in
     let state : u ≡ record { last = v; negative = is_negative (v -ℤ t.last); code = folded (turned t.negative (v -ℤ t.last)) } =
-        c.put_difference.ensures.state ∙ ap (λ x. (let d : Differences = record { last = x; negative = is_negative (x -ℤ t.last); code = folded (turned t.negative (x -ℤ t.last)) } in d)) k in
+    c.put_difference.ensures.state ∙ ap (λ x. (let d : Differences = record { last = x; negative = is_negative (x -ℤ t.last); code = folded (turned t.negative (x -ℤ t.last)) } in d)) k in
     let w = word (dc_book t.code) (folded (turned t.negative (v -ℤ t.last))) in
     let one : Writes mid after w = subst (λ x. Writes mid after (word (dc_book t.code) (folded (turned t.negative (x -ℤ t.last))))) k c.in_ok-put_difference.ensures.ok in
     record {

@@ -1,4 +1,4 @@
-use Rattle.std.proofs.Common.{◌≡◌, ◌+◌, ◌≤◌, List, Bool, false, take, nat_abs}
+use Rattle.std.proofs.Common.{◌≡◌, ◌≤◌, List, Bool, false, take, nat_abs}
 use Rattle.pw_bits.specs.Writing.{written, Writes}
 use Rattle.pr_coeff.specs.Component.{column}
 use Rattle.pr_coeff.specs.Writing.{CodesDc}

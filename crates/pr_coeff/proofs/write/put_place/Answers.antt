@@ -1,12 +1,8 @@
-use Rattle.std.proofs.Common.{rules, ◌≡◌, ℕ, ◌+◌, ◌-◌, ◌*◌, ◌<◌, ◌≤◌, ◌++◌, ◌∷◌, [], List, ℤ, pos, nat_abs, take, drop, get_or, length, false, arith, refl, sym, ap, ◌∙◌, subst}
-use mir.Val.{to_z, of_z}
-use mir.Syntax.{w16}
-use Rattle.std.proofs.lemmas.List.{take_all}
-use Rattle.pw_bits.specs.Writing.{written, Writes, Begins}
-use Rattle.pw_bits.proofs.WritingLemmas.{Writes-nil, Writes-short, Writes-Writes, Begins-first, Begins-second}
+use Rattle.std.proofs.Common.{◌+◌, ◌≤◌, ◌++◌, ◌∷◌, [], pos, nat_abs, drop, get_or, arith, refl, sym, ◌∙◌, subst}
+use Rattle.pw_bits.specs.Writing.{written, Begins}
+use Rattle.pw_bits.proofs.WritingLemmas.{Writes-nil, Writes-short, Writes-Writes}
 use Rattle.pr_coeff.specs.Component.{column, ac_words}
 use Rattle.pr_coeff.specs.Writing.{Codes}
-use Rattle.pr_coeff.proofs.WovenLemmas.{length-column}
 use Rattle.pr_coeff.proofs.CodingLemmas.{any_err, Codes-nil, Codes-Codes, cut_values, column_more, column_split, kept_value, small_at}
 use Rattle.pr_coeff.proofs.write.put_place.Goals as goal
 

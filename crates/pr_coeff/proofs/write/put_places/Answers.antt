@@ -1,9 +1,7 @@
-use Rattle.std.proofs.Common.{rules, ◌≡◌, ℕ, ◌+◌, ◌-◌, ◌*◌, ◌<◌, ◌≤◌, ◌++◌, ◌∷◌, [], List, ℤ, pos, nat_abs, take, drop, get_or, length, false, arith, refl, sym, ap, ◌∙◌, subst}
-use mir.Val.{to_z, of_z}
-use mir.Syntax.{w16}
+use Rattle.std.proofs.Common.{◌≡◌, ◌+◌, ◌*◌, ◌++◌, [], drop, get_or, length, arith, refl, sym, ap, ◌∙◌, subst}
 use Rattle.std.proofs.lemmas.List.{take_all}
 use Rattle.pw_bits.specs.Writing.{written, Writes, Begins}
-use Rattle.pw_bits.proofs.WritingLemmas.{Writes-nil, Writes-short, Writes-Writes, Begins-first, Begins-second}
+use Rattle.pw_bits.proofs.WritingLemmas.{Writes-nil, Writes-short, Writes-Writes}
 use Rattle.pr_coeff.specs.Component.{column, listed, ac_words}
 use Rattle.pr_coeff.specs.Writing.{Codes}
 use Rattle.pr_coeff.specs.declared.write.Coding.{Coding}

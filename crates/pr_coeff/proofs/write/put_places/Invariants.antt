@@ -1,4 +1,4 @@
-use Rattle.std.proofs.Common.{◌≡◌, ◌+◌, ◌≤◌, List, Bool, false, take, ◌*◌, length}
+use Rattle.std.proofs.Common.{◌≡◌, ◌≤◌, List, Bool, false, take, ◌*◌, length}
 use Rattle.pw_bits.specs.Writing.{written, Writes}
 use Rattle.pr_coeff.specs.Component.{listed}
 use Rattle.pr_coeff.specs.Writing.{Codes}

@@ -1,11 +1,10 @@
-use Rattle.std.proofs.Common.{◌≡◌, ℕ, ◌-◌, ◌++◌, false, refl, sym, subst}
+use Rattle.std.proofs.Common.{◌-◌, ◌++◌, refl, subst}
 use mir.Val.{bool_byte}
 use Rattle.std.proofs.lemmas.Result.{on_ok_weaker, on_err_weaker}
 use Rattle.pw_bits.specs.Bits.{bits_of}
 use Rattle.pw_bits.specs.Writing.{written, Writes, Begins}
-use Rattle.pw_bits.proofs.WritingLemmas.{Writes-nil, Writes-short, Writes-Writes, Begins-first, Begins-second}
+use Rattle.pw_bits.proofs.WritingLemmas.{Writes-Writes, Begins-first, Begins-second}
 use Rattle.pr_codes.specs.Words.{word}
-use Rattle.pr_coeff.specs.Writing.{triple_words}
 use Rattle.pr_coeff.proofs.CodingLemmas.{words_are, any_err}
 use Rattle.pr_coeff.proofs.write.put_triple.Goals as goal
 

@@ -2,15 +2,13 @@ use mir.Val.{to_z, of_z}
 use mir.Syntax.{w16}
 use lib.Signed.{lt_z}
 use Rattle.pr_coeff.specs.declared.write.Coding.{Coding}
-use Rattle.std.proofs.Common.{suc, rules, ◌≡◌, ℕ, ◌+◌, ◌-◌, ◌<◌, [], ◌∷◌, ◌++◌, List, ℤ, pos, negsuc, nat_abs, arith, refl, sym, ap, ◌∙◌, subst}
+use Rattle.std.proofs.Common.{suc, rules, ◌≡◌, ◌+◌, ◌-◌, ◌<◌, [], pos, nat_abs, arith, refl, sym, ap, ◌∙◌, subst}
 use Rattle.std.proofs.lemmas.Int.{ints, to_z-of_z}
 use Rattle.std.proofs.lemmas.Result.{on_ok_weaker, on_err_weaker}
-use Rattle.pw_bits.specs.Bits.{bits_of}
 use Rattle.pw_bits.specs.Writing.{written, Writes, Begins}
-use Rattle.pw_bits.proofs.WritingLemmas.{Writes-nil, Writes-short, Writes-Writes, Begins-first, Begins-second}
+use Rattle.pw_bits.proofs.WritingLemmas.{Writes-nil}
 use Rattle.pr_coeff.specs.Component.{is_negative}
-use Rattle.pr_coeff.specs.Reading.{signed}
-use Rattle.pr_coeff.specs.Writing.{triple_words, Codes}
+use Rattle.pr_coeff.specs.Writing.{triple_words}
 use Rattle.pr_coeff.proofs.CodingLemmas.{Codes-nil, Codes-zero, Codes-triple, cut_triple, signed_parts, lt_zero}
 use Rattle.pr_coeff.proofs.write.put_value.Goals as goal
 
@@ -35,7 +33,7 @@ returns-clause-ok g c =
     let before = written (g.K.ByteSink.held c.args.sink.now) (g.K.ByteSink.taken c.args.sink.now) c.args.writer.now.pending in
     let after = written (g.K.ByteSink.held c.put_triple.new.sink) (g.K.ByteSink.taken c.put_triple.new.sink) c.put_triple.new.writer.pending in
     let next : c.put_triple.new.coding ≡ record { run = s.zeros; magnitude = suc (m - 1); zeros = 0 } =
-        c.put_triple.ensures.state ∙ ap (λ x. (let r : Coding = record { run = s.zeros; magnitude = x; zeros = 0 } in r)) (let u : m ≡ suc (m - 1) = omega arith in u) in
+    c.put_triple.ensures.state ∙ ap (λ x. (let r : Coding = record { run = s.zeros; magnitude = x; zeros = 0 } in r)) (let u : m ≡ suc (m - 1) = omega arith in u) in
     on_ok_weaker c.put_triple.result (λ x. (
       triple_words s.run s.magnitude s.zeros (m - 1) (is_negative v),
       Codes-triple s c.put_triple.new.coding v (m - 1) (is_negative v) e next,

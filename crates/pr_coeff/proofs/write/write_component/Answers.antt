@@ -1,7 +1,7 @@
-use Rattle.std.proofs.Common.{rules, ◌≡◌, ℕ, ◌+◌, ◌-◌, ◌*◌, ◌<◌, ◌≤◌, ◌++◌, ◌∷◌, [], List, ℤ, pos, nat_abs, take, drop, get_or, length, false, arith, refl, sym, ap, ◌∙◌, subst}
+use Rattle.std.proofs.Common.{◌≡◌, ℕ, ◌<◌, ◌++◌, [], drop, get_or, length, arith, sym, ap, subst}
 use Rattle.std.proofs.lemmas.Result.{on_ok_weaker, on_err_weaker}
-use Rattle.pw_bits.specs.Writing.{Written, written, Writes, Begins}
-use Rattle.pw_bits.proofs.WritingLemmas.{Writes-nil, Writes-short, Writes-Writes, Writes-padded, Begins-first, Begins-second}
+use Rattle.pw_bits.specs.Writing.{written, Writes, Begins}
+use Rattle.pw_bits.proofs.WritingLemmas.{Writes-short, Writes-Writes, Writes-padded, Begins-first, Begins-second}
 use Rattle.pw_bits.specs.Writing.{Writer}
 use Rattle.pw_bits.specs.Bits.{bytes, padding}
 use Rattle.std.specs.Io.KnownBytes.{Appends}
