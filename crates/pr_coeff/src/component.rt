@@ -1,7 +1,7 @@
 //! Reading a component.
 
 ghost use Rattle.std.specs.Prelude.{◌≡◌, ◌+◌, ◌*◌, ◌<◌, ◌≤◌, ◌^◌, ℕ, List, [], ◌∷◌, ◌++◌, Ok, OnOk, IfOk, IfErr, IsSome, false, true, ℤ, pos, ◌+ℤ◌, nat_abs, length, replicate, slice_set};
-ghost use Rattle.pw_outside.specs.Ports.{CountsFault, Lowers};
+ghost use Rattle.pw_outside.specs.Ports.{CountsFault, Lowers, GoesOn};
 ghost use Rattle.pw_outside.specs.Reading.{bytes_of};
 ghost use Rattle.pw_bits.specs.Bits.{bits};
 ghost use Rattle.pw_bits.specs.Reading.{unread};
@@ -60,6 +60,7 @@ fn get_first<S: ByteSource>(reader: &mut BitReader, source: &mut S) -> Result<i1
     ensures fault { IfErr result (λ e. IsSome (S.left source.old) → (k : ℕ) → IsFault e (all_firsts_at (k + 1) (unread reader.old (S.left source.old)))) }
     ensures told { IsSome (S.left source.old) → IsSome (S.left source.new) }
     ensures most { Lowers (S.most source.old) (S.most source.new) 0 }
+    ensures becomes { GoesOn S.becomes source.old source.new }
     ensures cause { CountsFault (S.faults source.old) (S.faults source.new) (is_failed result) }
 {
     match get_word(reader, source, first_book()) {
@@ -80,6 +81,7 @@ fn get_difference<S: ByteSource>(
     ensures fault { IfErr result (λ e. IsSome (S.left source.old) → IsFault e (first_at differences.old.last differences.old.negative differences.old.code (unread reader.old (S.left source.old)))) }
     ensures told { IsSome (S.left source.old) → IsSome (S.left source.new) }
     ensures most { Lowers (S.most source.old) (S.most source.new) 0 }
+    ensures becomes { GoesOn S.becomes source.old source.new }
     ensures cause { CountsFault (S.faults source.old) (S.faults source.new) (is_failed result) }
 {
     match get_word(reader, source, book_of_difference(differences.code)) {
@@ -138,6 +140,7 @@ fn get_firsts<S: ByteSource>(
     ensures fault { IfErr result (λ e. IsSome (S.left source.old) → IsFault e (all_firsts_at (length blocks.new) (unread reader.old (S.left source.old)))) }
     ensures told { IsSome (S.left source.old) → IsSome (S.left source.new) }
     ensures most { Lowers (S.most source.old) (S.most source.new) 0 }
+    ensures becomes { GoesOn S.becomes source.old source.new }
     ensures cause { CountsFault (S.faults source.old) (S.faults source.new) (is_failed result) }
 {
     let first = match get_first(reader, source) {
@@ -170,6 +173,7 @@ fn get_values<S: ByteSource>(
     ensures fault { IfErr result (λ e. IsSome (S.left source.old) → IsFault e (values_at (63 * length blocks.new + 1) (63 * length blocks.new) 4 2 (unread reader.old (S.left source.old)))) }
     ensures told { IsSome (S.left source.old) → IsSome (S.left source.new) }
     ensures most { Lowers (S.most source.old) (S.most source.new) 0 }
+    ensures becomes { GoesOn S.becomes source.old source.new }
     ensures cause { CountsFault (S.faults source.old) (S.faults source.new) (is_failed result) }
 {
     let count = blocks.len() as u32;
@@ -205,6 +209,7 @@ pub fn read_component<S: ByteSource>(
     ensures blocks { OnOk result (AreBlocks blocks.new) }
     ensures told { IsSome (S.left source.old) → IsSome (S.left source.new) }
     ensures most { Lowers (S.most source.old) (S.most source.new) 0 }
+    ensures becomes { GoesOn S.becomes source.old source.new }
     ensures cause { CountsFault (S.faults source.old) (S.faults source.new) (is_failed result) }
 {
     clear(blocks);

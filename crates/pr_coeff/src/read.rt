@@ -1,7 +1,7 @@
 //! Reading a word, a sign, and where the data ends.
 
 ghost use Rattle.std.specs.Prelude.{◌≡◌, ◌≢◌, ◌≤◌, ◌^◌, ℕ, Bool, false, [], ◌∷◌, ◌++◌, Ok, Err, IfOk, IfErr, IfSome, IsSome, IsTrue};
-ghost use Rattle.pw_outside.specs.Ports.{CountsFault, Lowers};
+ghost use Rattle.pw_outside.specs.Ports.{CountsFault, Lowers, GoesOn};
 ghost use Rattle.pw_bits.specs.Reading.{unread};
 ghost use Rattle.pr_codes.specs.Words.{is_book, most};
 ghost use Rattle.pr_coeff.specs.Reading.{word_at};
@@ -36,6 +36,7 @@ pub(crate) fn get_word<S: ByteSource>(
     ensures small { IfOk result (λ n. n ≤ 2 ^ 20) }
     ensures told { IsSome (S.left source.old) → IsSome (S.left source.new) }
     ensures most { Lowers (S.most source.old) (S.most source.new) 0 }
+    ensures becomes { GoesOn S.becomes source.old source.new }
     ensures cause { CountsFault (S.faults source.old) (S.faults source.new) (is_failed result) }
 {
     match get_code(reader, source, book) {
@@ -56,6 +57,7 @@ pub(crate) fn get_sign<S: ByteSource>(
     ensures others { (result ≢ Err CoeffFault.RunPast) × (result ≢ Err CoeffFault.LevelRange) }
     ensures told { IsSome (S.left source.old) → IsSome (S.left source.new) }
     ensures most { Lowers (S.most source.old) (S.most source.new) 0 }
+    ensures becomes { GoesOn S.becomes source.old source.new }
     ensures cause { CountsFault (S.faults source.old) (S.faults source.new) (is_failed result) }
 {
     match reader.bit(source) {
@@ -78,6 +80,7 @@ fn begin_word<S: ByteSource>(
     ensures fault { IfErr result (λ e. IsSome (S.left source.old) → IsFaultThere e (unread reader.old (S.left source.old)) (word_at book (unread reader.old (S.left source.old)))) }
     ensures told { IsSome (S.left source.old) → IsSome (S.left source.new) }
     ensures most { Lowers (S.most source.old) (S.most source.new) 0 }
+    ensures becomes { GoesOn S.becomes source.old source.new }
     ensures cause { CountsFault (S.faults source.old) (S.faults source.new) (is_failed result) }
 {
     match reader.zeros(source, 21 - u32::from(book.exp) + u32::from(book.last)) {
@@ -104,6 +107,7 @@ pub(crate) fn get_word_or_end<S: ByteSource>(
     ensures fault { IfErr result (λ e. IsSome (S.left source.old) → IsFaultThere e (unread reader.old (S.left source.old)) (word_at book (unread reader.old (S.left source.old)))) }
     ensures told { IsSome (S.left source.old) → IsSome (S.left source.new) }
     ensures most { Lowers (S.most source.old) (S.most source.new) 0 }
+    ensures becomes { GoesOn S.becomes source.old source.new }
     ensures cause { CountsFault (S.faults source.old) (S.faults source.new) (is_failed result) }
 {
     match begin_word(reader, source, book) {

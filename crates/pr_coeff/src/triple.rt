@@ -1,7 +1,7 @@
 //! Reading a run, a level and a sign.
 
 ghost use Rattle.std.specs.Prelude.{◌≡◌, ◌<◌, ◌≤◌, ◌^◌, ℕ, false, Ok, IfOk, IfErr, IfSome, IsSome, nat_abs};
-ghost use Rattle.pw_outside.specs.Ports.{CountsFault, Lowers};
+ghost use Rattle.pw_outside.specs.Ports.{CountsFault, Lowers, GoesOn};
 ghost use Rattle.pw_bits.specs.Reading.{unread};
 ghost use Rattle.pr_coeff.specs.Reading.{signed, level_at, triple_at};
 ghost use Rattle.pr_coeff.specs.Calls.{IsFault, IsFaultThere, is_failed, TripleOrEnd};
@@ -40,6 +40,7 @@ fn get_level<S: ByteSource>(
     ensures fault { IfErr result (λ e. IsSome (S.left source.old) → (run : ℕ) → IsFault e (level_at run magnitude (unread reader.old (S.left source.old)))) }
     ensures told { IsSome (S.left source.old) → IsSome (S.left source.new) }
     ensures most { Lowers (S.most source.old) (S.most source.new) 0 }
+    ensures becomes { GoesOn S.becomes source.old source.new }
     ensures cause { CountsFault (S.faults source.old) (S.faults source.new) (is_failed result) }
 {
     match get_word(reader, source, book_of_level(magnitude)) {
@@ -71,6 +72,7 @@ pub(crate) fn get_triple<S: ByteSource>(
     ensures fault { IfErr result (λ e. IsSome (S.left source.old) → IsFaultThere e (unread reader.old (S.left source.old)) (triple_at room run magnitude (unread reader.old (S.left source.old)))) }
     ensures told { IsSome (S.left source.old) → IsSome (S.left source.new) }
     ensures most { Lowers (S.most source.old) (S.most source.new) 0 }
+    ensures becomes { GoesOn S.becomes source.old source.new }
     ensures cause { CountsFault (S.faults source.old) (S.faults source.new) (is_failed result) }
 {
     match get_word_or_end(reader, source, book_of_run(run)) {

@@ -32,6 +32,7 @@ loop-index-init g c =
           ∙ c.in-Ok.ensures.value told (n - 1)
           ∙ with_front-one v (firsts_at (n - 1) v false 5 now)
           ∙ ap (λ (d : Differences). with_front (v ∷ []) (firsts_at (n - 1) d.last d.negative d.code now)) (sym start);
+      becomes = c.in-Ok.ensures.becomes;
       most = c.in-Ok.ensures.most;
       kept = c.in-Ok.ensures.cause.kept;
     }
@@ -75,6 +76,7 @@ loop-index-preserved g c =
           ∙ with_front-more inv.ds v (firsts_at (n - i - 1) v u.negative u.code now)
           ∙ ap (λ m. with_front (inv.ds ++ v ∷ []) (firsts_at m v u.negative u.code now)) (let e : n - i - 1 ≡ n - (i + 1) = omega arith in e)
           ∙ ap (λ x. with_front (inv.ds ++ v ∷ []) (firsts_at (n - (i + 1)) x u.negative u.code now)) (sym last.0);
+      becomes = λ first h. c.in-Ok-get_difference.ensures.becomes first (inv.becomes first h);
       most = Lowers-trans (g.S.ByteSource.most c.args.source.now) (g.S.ByteSource.most c.loop-index.source) (g.S.ByteSource.most c.get_difference.new.source) 0 0 inv.most c.in-Ok-get_difference.ensures.most;
       kept = c.in-Ok-get_difference.ensures.cause.kept ∙ inv.kept;
     }

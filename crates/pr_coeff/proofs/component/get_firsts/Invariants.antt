@@ -1,5 +1,5 @@
 use Rattle.std.proofs.Common.{◌≡◌, ◌-◌, ◌*◌, ◌≤◌, ◌++◌, List, ℤ, pos, nat_abs, length, replicate, IsSome}
-use Rattle.pw_outside.specs.Ports.{Lowers}
+use Rattle.pw_outside.specs.Ports.{Lowers, GoesOn}
 use Rattle.pw_bits.specs.Reading.{unread}
 use Rattle.pr_coeff.specs.Component.{places, listed, AreBlocks}
 use Rattle.pr_coeff.specs.Reading.{firsts_at, all_firsts_at}
@@ -16,6 +16,7 @@ invariant-loop-index g l = record {
   told : IsSome (g.S.ByteSource.left l.fn.source) → IsSome (g.S.ByteSource.left l.source);
   reads : IsSome (g.S.ByteSource.left l.fn.source) → all_firsts_at (length l.fn.blocks) (unread l.fn.reader (g.S.ByteSource.left l.fn.source))
       ≡ with_front ds (firsts_at (length l.fn.blocks - l.index) l.differences.last l.differences.negative l.differences.code (unread l.reader (g.S.ByteSource.left l.source)));
+  becomes : GoesOn g.S.ByteSource.becomes l.fn.source l.source;
   most : Lowers (g.S.ByteSource.most l.fn.source) (g.S.ByteSource.most l.source) 0;
   kept : g.S.ByteSource.faults l.source ≡ g.S.ByteSource.faults l.fn.source;
 }

@@ -24,6 +24,7 @@ triples-init g c =
       bound = c.requires.bound;
       told = λ told. told;
       reads = λ told. values_front-nil (values_at (63 * n + 1) (63 * n) 4 2 (unread c.args.reader.now (g.S.ByteSource.left c.args.source.now)));
+      becomes = λ first h. h;
       most = Lowers-same (g.S.ByteSource.most c.args.source.now);
       kept = refl;
     }
@@ -79,6 +80,7 @@ triples-preserved g c =
           inv.reads told ∙ values_step inv.front inv.turns room c.triples.run c.triples.magnitude l r inv.enough w.0 w.1
           ∙ ap (λ m. values_front (inv.front ++ more) (values_at (inv.turns - 1) m t.run (suc t.level) now)) behind
           ∙ ap (λ m. values_front (inv.front ++ more) (values_at (inv.turns - 1) (room - (t.run + 1)) t.run m now)) (let e : suc t.level ≡ t.level + 1 = omega arith in e);
+      becomes = λ first h. c.in-Ok-Some.ensures.becomes first (inv.becomes first h);
       most = Lowers-trans (g.S.ByteSource.most c.args.source.now) (g.S.ByteSource.most c.triples.source) (g.S.ByteSource.most c.get_triple.new.source) 0 0 inv.most c.in-Ok-Some.ensures.most;
       kept = c.in-Ok-Some.ensures.cause.kept ∙ inv.kept;
     }

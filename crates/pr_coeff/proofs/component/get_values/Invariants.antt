@@ -1,5 +1,5 @@
 use Rattle.std.proofs.Common.{◌≡◌, ℕ, ◌+◌, ◌*◌, ◌<◌, ◌++◌, List, ℤ, pos, length, replicate, IsSome}
-use Rattle.pw_outside.specs.Ports.{Lowers}
+use Rattle.pw_outside.specs.Ports.{Lowers, GoesOn}
 use Rattle.pw_bits.specs.Reading.{unread}
 use Rattle.pr_coeff.specs.Component.{places, listed, AreBlocks}
 use Rattle.pr_coeff.specs.Reading.{values_at}
@@ -19,6 +19,7 @@ invariant-triples g l = record {
   told : IsSome (g.S.ByteSource.left l.fn.source) → IsSome (g.S.ByteSource.left l.source);
   reads : IsSome (g.S.ByteSource.left l.fn.source) → values_at (63 * length l.fn.blocks + 1) (63 * length l.fn.blocks) 4 2 (unread l.fn.reader (g.S.ByteSource.left l.fn.source))
       ≡ values_front front (values_at turns l.room l.run l.magnitude (unread l.reader (g.S.ByteSource.left l.source)));
+  becomes : GoesOn g.S.ByteSource.becomes l.fn.source l.source;
   most : Lowers (g.S.ByteSource.most l.fn.source) (g.S.ByteSource.most l.source) 0;
   kept : g.S.ByteSource.faults l.source ≡ g.S.ByteSource.faults l.fn.source;
 }
