@@ -7,6 +7,8 @@ mod component;
 mod laws;
 mod read;
 mod scan;
+#[cfg(test)]
+mod tests;
 mod triple;
 mod write;
 
