@@ -1,0 +1,13 @@
+//! Pictures of the Y4M format (yuv4mpeg(5) of the mjpegtools), read and written.
+#![tactic(auto)]
+
+mod bytes;
+mod fault;
+mod head;
+mod head_line;
+mod line;
+mod parameters;
+mod values;
+
+pub use fault::{PictureFault, PictureKind};
+pub use head::{Head, MAX_FRAMES, MAX_RATE_DEN, MAX_RATE_NUM};
