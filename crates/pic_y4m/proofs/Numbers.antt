@@ -1,10 +1,10 @@
 -- Numbers that are read: the test that finds digits, and what it means.
-use Rattle.std.proofs.Common.{◌≡◌, ℕ, ◌^◌, ◌<◌, ◌≤◌, Bool, true, false, ◌&&◌, ltb, leb, List, [], ◌∷◌, length, Option, Some, None, refl, sym, ap, ◌∙◌, subst, arith, ⊎_elim}
-use Rattle.std.proofs.lemmas.Bool.{ltb-true, ltb-false, lt-ltb, leb-true, le-leb, and_parts, cases_Bool, both_ways, cond-true, cond-false}
+use Rattle.std.proofs.Common.{◌≡◌, ℕ, ◌^◌, ◌<◌, ◌≤◌, true, ◌&&◌, ltb, leb, List, [], ◌∷◌, length, Some, None, refl, sym, ap, arith, ⊎_elim}
+use Rattle.std.proofs.lemmas.Bool.{ltb-true, ltb-false, lt-ltb, leb-true, le-leb, and_parts, cases_Bool}
 use Rattle.std.specs.Char.{digit_value}
 use Rattle.std.specs.Str.Parse.{digits_value, AllDigits}
 use Rattle.pw_text.specs.Decimal.{IsDecimal}
-use Rattle.pic_y4m.specs.Values.{all_digits, number, when_within, number_within}
+use Rattle.pic_y4m.specs.Values.{all_digits, when_within, number_within}
 
 pub digits-tested : (bs : List ℕ) → AllDigits 10 bs → all_digits bs ≡ true
 digits-tested [] h = refl

@@ -1,10 +1,10 @@
 -- The words of a text, one after the other.
-use Rattle.std.proofs.Common.{◌≡◌, ℕ, ◌+◌, ◌-◌, ◌<◌, ◌≤◌, Bool, true, false, not, eqb, ltb, leb, cond, List, [], ◌∷◌, ◌++◌, length, take, drop, Option, Some, None, unwrap_or, Ok, Err, Result, refl, sym, ap, ◌∙◌, subst, arith, ⊎_elim, length-drop}
+use Rattle.std.proofs.Common.{◌≡◌, ℕ, ◌+◌, ◌-◌, ◌<◌, ◌≤◌, true, false, not, ltb, leb, cond, List, [], ◌∷◌, length, take, drop, unwrap_or, Ok, Result, refl, sym, ap, ◌∙◌, subst, arith, ⊎_elim, length-drop}
 use Rattle.std.proofs.lemmas.List.{take_all, drop-drop, length-take-le}
-use Rattle.std.specs.List.{slice_split, position, position_or_len, before_first, after_first, onto_first, prefix_len}
+use Rattle.std.specs.List.{slice_split, position, position_or_len, onto_first}
 use Rattle.std.proofs.lemmas.List.Splits.{slice_split_first, slice_split-cons_no}
 use Rattle.std.proofs.lemmas.List.Sums.{prefix_len-le-length}
-use Rattle.std.proofs.lemmas.Bool.{ltb-true, ltb-false, lt-ltb, leb-true, le-leb, leb-false, lt-leb, cases_Bool}
+use Rattle.std.proofs.lemmas.Bool.{ltb-true, ltb-false, leb-true, le-leb, leb-false, lt-leb, cases_Bool}
 use Rattle.pw_outside.specs.Reading.{Fault, bind, Fails}
 use Rattle.pw_outside.proofs.Chains.{fails-whole}
 use Rattle.pic_y4m.specs.declared.fault.PictureKind.{PictureKind}

@@ -1,5 +1,5 @@
 -- What the errors of the reading calls tell.
-use Rattle.std.specs.Prelude.{Bool, true, false, Option, None, Some, Result, Ok, Err}
+use Rattle.std.specs.Prelude.{Bool, true, false, Option, None, Some, Result, Err}
 use Rattle.pw_outside.specs.Reading.{Fault}
 use Rattle.pic_y4m.specs.declared.fault.PictureKind.{PictureKind}
 use Rattle.pic_y4m.specs.declared.fault.PictureFault.{PictureFault}

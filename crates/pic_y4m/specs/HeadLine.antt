@@ -1,7 +1,7 @@
 -- The head line of a Y4M input (yuv4mpeg(5), stream header), in our own profile.
-use Rattle.std.specs.Prelude.{◌≡◌, ℕ, ◌+◌, ◌-◌, ◌%◌, ◌≤◌, Bool, true, false, not, ◌&&◌, ◌||◌, ◌==◌, nat_lt, if◌then◌else◌, List, length, slice_index, Option, None, Some, Result, Ok, Err, IsTrue, unwrap_or}
+use Rattle.std.specs.Prelude.{◌≡◌, ℕ, ◌%◌, ◌≤◌, Bool, true, false, not, ◌&&◌, ◌||◌, ◌==◌, nat_lt, List, length, slice_index, Option, None, Some, Result, Ok, IsTrue, unwrap_or}
 use Rattle.std.specs.List.{slice_split}
-use Rattle.pw_outside.specs.Reading.{Fault, Rest, Read, ◌>>=◌, bad, refuse}
+use Rattle.pw_outside.specs.Reading.{Fault, Rest, Read, ◌>>=◌, refuse}
 use Rattle.pw_planes.specs.declared.kinds.AlphaKind.TheVariants.{Absent}
 use Rattle.pw_planes.specs.declared.kinds.Interlace.{Interlace}
 use Rattle.pw_planes.specs.declared.kinds.Interlace.TheVariants.{Progressive, TopFirst, BottomFirst}
@@ -11,7 +11,6 @@ use Rattle.pic_y4m.specs.declared.fault.PictureKind.TheVariants as kinds
 use Rattle.pic_y4m.specs.declared.head.Head.{Head}
 use Rattle.pic_y4m.specs.declared.head.TheConstants.{MAX_RATE_NUM, MAX_RATE_DEN}
 use Rattle.pic_y4m.specs.declared.head_line.Stream.{Stream}
-use Rattle.pic_y4m.specs.declared.values.Rate.{Rate}
 use Rattle.pic_y4m.specs.declared.values.Format.{Format}
 use Rattle.pic_y4m.specs.declared.parameters.Mode.{Mode}
 use Rattle.pic_y4m.specs.declared.parameters.Parameters.{Parameters}

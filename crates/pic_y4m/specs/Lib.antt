@@ -3,3 +3,4 @@ pub mod Values
 pub mod Parameters
 pub mod Line
 pub mod HeadLine
+pub mod Frames

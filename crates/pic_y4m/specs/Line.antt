@@ -1,7 +1,7 @@
 -- Lines of an input, and the word in front of the first.
-use Rattle.std.specs.Prelude.{◌≡◌, ℕ, ◌+◌, min, Bool, not, ◌==◌, nat_lt, nat_eq, if◌then◌else◌, List, [], ◌∷◌, length, take, drop, Option, None, Some, Result, Ok, Err, IsSome, bytes_eq, codes}
+use Rattle.std.specs.Prelude.{◌≡◌, ℕ, ◌+◌, min, not, ◌==◌, nat_lt, if◌then◌else◌, List, [], ◌∷◌, length, take, drop, Option, None, Some, Ok, IsSome, bytes_eq, codes}
 use Rattle.std.specs.List.{position_or_len}
-use Rattle.pw_outside.specs.Reading.{Fault, Rest, Read, ◌>>=◌, bad, refuse, bytes_of}
+use Rattle.pw_outside.specs.Reading.{Rest, Read, ◌>>=◌, bad, refuse, bytes_of}
 use Rattle.pic_y4m.specs.declared.fault.PictureKind.{PictureKind}
 use Rattle.pic_y4m.specs.declared.fault.PictureKind.TheVariants as kinds
 

@@ -1,12 +1,9 @@
 -- The parameters of a head line (yuv4mpeg(5), stream header), in our own profile.
-use Rattle.std.specs.Prelude.{◌≡◌, ℕ, ◌+◌, ◌≤◌, Bool, ◌==◌, if◌then◌else◌, List, [], ◌∷◌, length, Option, None, Some, Result, Ok, Err, IfSome, is_some, bytes_eq, codes}
+use Rattle.std.specs.Prelude.{ℕ, ◌+◌, ◌≤◌, Bool, ◌==◌, if◌then◌else◌, List, [], ◌∷◌, length, Option, None, Some, Result, Ok, IfSome, is_some, bytes_eq, codes}
 use Rattle.pw_outside.specs.Reading.{Fault, ◌>>=◌, bad, refuse}
 use Rattle.pw_planes.specs.declared.plane.TheConstants.{MAX_WIDTH, MAX_HEIGHT}
 use Rattle.pic_y4m.specs.declared.fault.PictureKind.{PictureKind}
 use Rattle.pic_y4m.specs.declared.fault.PictureKind.TheVariants as kinds
-use Rattle.pic_y4m.specs.declared.values.Rate.{Rate}
-use Rattle.pic_y4m.specs.declared.values.Format.{Format}
-use Rattle.pic_y4m.specs.declared.parameters.Mode.{Mode}
 use Rattle.pic_y4m.specs.declared.parameters.Parameters.{Parameters}
 use Rattle.pic_y4m.specs.Values.{number_within, rate_of, interlace_of, format_of, IsRate}
 

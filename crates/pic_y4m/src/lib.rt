@@ -3,11 +3,20 @@
 
 mod bytes;
 mod fault;
+mod frame;
 mod head;
 mod head_line;
+mod laws;
 mod line;
 mod parameters;
+mod reader;
+mod samples;
 mod values;
 
 pub use fault::{PictureFault, PictureKind};
 pub use head::{Head, MAX_FRAMES, MAX_RATE_DEN, MAX_RATE_NUM};
+pub use laws::next_is_first;
+pub use reader::Y4mReader;
+
+#[cfg(test)]
+mod tests;

@@ -1,6 +1,7 @@
 //! One line of an input.
 
 ghost use Rattle.std.specs.Prelude.{◌≡◌, ◌+◌, ◌<◌, ◌≤◌, ◌^◌, IfOk, IfSome, length};
+ghost use Rattle.std.specs.Option.{IfNone};
 ghost use Rattle.pw_outside.specs.Ports.{CountsFault};
 ghost use Rattle.pw_outside.specs.Reading.{Gives};
 ghost use Rattle.pic_y4m.specs.Faults.{told_fault, is_failed};
@@ -54,6 +55,7 @@ pub(crate) fn line_of<S: ByteSource>(
     ensures bytes { Gives told_fault (λ x. x) (S.left source.old) (S.left source.new) place.old place.new result (next_line most long long_at) }
     ensures len { IfOk result (λ line. IfSome line (λ l. length l < most)) }
     ensures place { place.new ≤ place.old + most }
+    ensures same { IfOk result (λ line. IfNone line (place.new ≡ place.old)) }
     ensures cause { CountsFault (S.faults source.old) (S.faults source.new) (is_failed result) }
 {
     let mut bytes: ArrayVec<u8, 1024> = ArrayVec::new();

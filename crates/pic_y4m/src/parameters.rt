@@ -132,11 +132,7 @@ fn with_format(found: Parameters, place: u64, value: &[u8]) -> Result<Parameters
 
 /// One parameter more, which begins at this place of the input. An empty word says nothing.
 #[tactic(auto, unfolding(crate::specs::Parameters::with_parameter))]
-fn with_parameter(
-    found: Parameters,
-    place: u64,
-    word: &[u8],
-) -> Result<Parameters, PictureFault>
+fn with_parameter(found: Parameters, place: u64, word: &[u8]) -> Result<Parameters, PictureFault>
     requires { AreWithin found }
     ensures answer { Answers told_fault (λ p. p) result (with_parameter found place word.now) }
     ensures within { IfOk result AreWithin }

@@ -103,10 +103,7 @@ pub(crate) fn interlace_of(bytes: &[u8]) -> Option<Interlace>
 fn is_shared(bytes: &[u8]) -> bool
     ensures { result ≡ is_shared bytes.now }
 {
-    is(bytes, b"420")
-        || is(bytes, b"420jpeg")
-        || is(bytes, b"420mpeg2")
-        || is(bytes, b"420paldv")
+    is(bytes, b"420") || is(bytes, b"420jpeg") || is(bytes, b"420mpeg2") || is(bytes, b"420paldv")
 }
 
 /// The depth that the end of a tag names.

@@ -1,6 +1,6 @@
 use Rattle.std.proofs.Common.{◌+◌, ◌-◌, length, take, drop, arith}
 use Rattle.std.proofs.lemmas.Result.{err_from_is_err_and}
-use Rattle.pic_y4m.proofs.Words.{rest-is, parameters-more, parameters-end, parameters-none, words-all}
+use Rattle.pic_y4m.proofs.Words.{rest-is, parameters-more, parameters-end, parameters-none}
 use Rattle.pic_y4m.proofs.parameters.parameters_of.Goals as goal
 
 pub returns-in_err-found-clause-answer : goal.returns-in_err-found-clause-answer

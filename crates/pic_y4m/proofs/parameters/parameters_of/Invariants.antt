@@ -1,4 +1,4 @@
-use Rattle.std.proofs.Common.{◌≡◌, ◌+◌, ◌-◌, ◌≤◌, length, drop, ltb, cond}
+use Rattle.std.proofs.Common.{◌≡◌, ◌+◌, ◌-◌, ◌≤◌, length}
 use Rattle.std.specs.List.{slice_split}
 use Rattle.pic_y4m.specs.Parameters.{none_found, is_space, parameters_of, AreWithin}
 use Rattle.pic_y4m.proofs.Words.{words_from}

@@ -1,4 +1,4 @@
-use Rattle.std.proofs.Common.{◌^◌, ◌∙◌, sym, arith}
+use Rattle.std.proofs.Common.{◌∙◌, sym, arith}
 use Rattle.pic_y4m.proofs.Numbers.{number-read, number-unread, within-inside, within-above, within-below}
 use Rattle.pic_y4m.proofs.values.number_within.Goals as goal
 
