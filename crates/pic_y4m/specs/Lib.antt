@@ -4,3 +4,4 @@ pub mod Parameters
 pub mod Line
 pub mod HeadLine
 pub mod Frames
+pub mod Writing

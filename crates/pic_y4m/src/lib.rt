@@ -12,11 +12,13 @@ mod parameters;
 mod reader;
 mod samples;
 mod values;
+mod writer;
 
 pub use fault::{PictureFault, PictureKind};
 pub use head::{Head, MAX_FRAMES, MAX_RATE_DEN, MAX_RATE_NUM};
 pub use laws::next_is_first;
 pub use reader::Y4mReader;
+pub use writer::{WriteEnd, Y4mWriter};
 
 #[cfg(test)]
 mod tests;

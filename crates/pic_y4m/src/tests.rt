@@ -1,7 +1,9 @@
 //! Inputs with their heads, pictures and faults, from an implementation that was written apart from this one.
 
-use crate::{Head, PictureFault, PictureKind, Y4mReader};
-use pw_outside::MemSource;
+ghost use Rattle.pic_y4m.specs.Frames.{HasForm};
+
+use crate::{Head, PictureFault, PictureKind, WriteEnd, Y4mReader, Y4mWriter};
+use pw_outside::{MemSink, MemSource};
 use pw_planes::{AlphaKind, Chroma, Depth, Interlace, Picture, Plane};
 use std::alloc::Global;
 use std::process::Abort;
@@ -272,7 +274,9 @@ fn a_port_that_fails_is_told(rt: HostRuntime) {
     }
 }
 
-fn first_picture(rt: &impl Abort, alloc: Global, bytes: &[u8]) -> (Head, Picture) {
+fn first_picture(rt: &impl Abort, alloc: Global, bytes: &[u8]) -> (Head, Picture)
+    ensures { HasForm result.0 result.1 }
+{
     let mut source = source_of(rt, alloc, bytes, 4096, u64::MAX);
     let mut reader = Y4mReader::start(&mut source).expect(rt, "a head");
     let picture = reader.next(alloc, &mut source).expect(rt, "a frame");
@@ -316,4 +320,46 @@ fn lines_have_their_limits(rt: HostRuntime) -> Result<(), Fail> {
         );
     }
     Ok(())
+}
+
+// reads the first picture and writes it into a sink whose calls with this number fail
+fn copied(
+    rt: &impl Abort,
+    alloc: Global,
+    bytes: &[u8],
+    fail: u64,
+) -> (MemSink, Result<(), WriteEnd>) {
+    let (head, picture) = first_picture(rt, alloc, bytes);
+    let fails = Vec::from_array(alloc, [fail]).expect(rt, "memory");
+    let mut sink = MemSink::new(alloc, 2048, 4096, fails).expect(rt, "memory");
+    let end = match Y4mWriter::start(alloc, &mut sink, &head) {
+        Ok(mut writer) => writer.picture(alloc, &mut sink, &picture),
+        Err(end) => Err(end),
+    };
+    (sink, end)
+}
+
+#[test]
+fn what_is_written_is_what_was_read(rt: HostRuntime) {
+    let grey = grey(&rt, rt.alloc());
+    let shared = b"YUV4MPEG2 W2 H2 F25:1\nFRAME\n\x10\x20\x30\x40\x50\x60";
+    let whole = b"YUV4MPEG2 W2 H2 F25:1 Ip C422\nFRAME\n\x10\x20\x30\x40\x50\x50\x60\x60";
+    let fields =
+        b"YUV4MPEG2 W1 H2 F9534:243 Ib C444p12\nFRAME\n\x1f\x07\xfb\x08\xc7\x08\xeb\x04\x0f\x0b\xa1\x0d";
+    let cases: [(&[u8], &[u8]); 3] = [(&grey, &grey), (shared, whole), (fields, fields)];
+    for (input, want) in cases {
+        let (sink, end) = copied(&rt, rt.alloc(), input, u64::MAX);
+        assert_eq!(rt; end, Ok(()));
+        assert!(rt; sink.bytes() == want, "{input:?}");
+    }
+}
+
+#[test]
+fn a_sink_that_fails_is_told(rt: HostRuntime) {
+    let grey = grey(&rt, rt.alloc());
+    for (call, length) in [(0, 0), (1, 35)] {
+        let (sink, end) = copied(&rt, rt.alloc(), &grey, call);
+        assert_eq!(rt; end, Err(WriteEnd::Failed), "{call}");
+        assert!(rt; sink.bytes() == &grey[..length], "{call}");
+    }
 }
