@@ -2,7 +2,7 @@
 
 ghost use Rattle.std.specs.Prelude.{◌≡◌, ◌+◌, ◌-◌, ◌*◌, ◌/◌, ◌≤◌, ◌<◌, ◌^◌, IfOk, IfSome, length, slice_index};
 ghost use Rattle.std.specs.Option.{IfNone};
-ghost use Rattle.pw_outside.specs.Ports.{CountsFault};
+ghost use Rattle.pw_outside.specs.Ports.{CountsFault, GoesOn};
 ghost use Rattle.pw_outside.specs.Reading.{Gives};
 ghost use Rattle.pw_planes.specs.Rows.{raster};
 ghost use Rattle.pic_y4m.specs.Faults.{told_fault, is_failed};
@@ -34,6 +34,7 @@ fn samples_of<S: ByteSource>(
     ensures bytes { Gives told_fault (λ v. v.items) (S.left source.old) (S.left source.new) place.old place.new result (samples_at depth count) }
     ensures len { IfOk result (λ v. length v.items ≡ count) }
     ensures place { place.new ≤ place.old + 2 * count }
+    ensures becomes { GoesOn S.becomes source.old source.new }
     ensures cause { CountsFault (S.faults source.old) (S.faults source.new) (is_failed result) }
 {
     let len = count * sample_bytes(depth);
@@ -176,6 +177,7 @@ pub(crate) fn planes_of<S: ByteSource>(
     ensures bytes { Gives told_fault (λ p. p) (S.left source.old) (S.left source.new) place.old place.new result (planes_at form.now) }
     ensures form { IfOk result (HasForm form.now.head) }
     ensures place { place.new ≤ place.old + (2 ^ 28 - 256) }
+    ensures becomes { GoesOn S.becomes source.old source.new }
     ensures cause { CountsFault (S.faults source.old) (S.faults source.new) (is_failed result) }
 {
     let depth = form.head.depth;
@@ -205,6 +207,7 @@ pub(crate) fn frame_of<S: ByteSource>(
     ensures form { IfOk result (λ picture. IfSome picture (HasForm form.now.head)) }
     ensures place { place.new ≤ place.old + 2 ^ 28 }
     ensures same { IfOk result (λ picture. IfNone picture (place.new ≡ place.old)) }
+    ensures becomes { GoesOn S.becomes source.old source.new }
     ensures cause { CountsFault (S.faults source.old) (S.faults source.new) (is_failed result) }
 {
     let start = *place;

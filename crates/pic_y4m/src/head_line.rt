@@ -1,7 +1,7 @@
 //! The head line of an input.
 
 ghost use Rattle.std.specs.Prelude.{◌≡◌, ◌<◌, ◌≤◌, ◌^◌, IfOk, length, false};
-ghost use Rattle.pw_outside.specs.Ports.{CountsFault};
+ghost use Rattle.pw_outside.specs.Ports.{CountsFault, GoesOn};
 ghost use Rattle.pw_outside.specs.Reading.{Gives, Answers};
 ghost use Rattle.pic_y4m.specs.Faults.{told_fault, is_failed};
 ghost use Rattle.pic_y4m.specs.Line.{magic_at};
@@ -31,6 +31,7 @@ pub(crate) struct Stream {
 #[tactic(auto, unfolding(crate::specs::Line::magic_at, pw_outside::specs::Reading::bind))]
 fn magic_of<S: ByteSource>(source: &mut S) -> Result<(), PictureFault>
     ensures bytes { Gives told_fault (λ x. x) (S.left source.old) (S.left source.new) 0 9 result magic_at }
+    ensures becomes { GoesOn S.becomes source.old source.new }
     ensures cause { CountsFault (S.faults source.old) (S.faults source.new) (is_failed result) }
 {
     let mut piece = [0u8; 9];
@@ -130,6 +131,7 @@ pub(crate) fn stream_at<S: ByteSource>(
     ensures bytes { Gives told_fault (λ x. x) (S.left source.old) (S.left source.new) 0 place.new result stream_at }
     ensures stream { IfOk result IsStream }
     ensures place { place.new ≤ 1024 }
+    ensures becomes { GoesOn S.becomes source.old source.new }
     ensures cause { CountsFault (S.faults source.old) (S.faults source.new) (is_failed result) }
 {
     *place = 9;

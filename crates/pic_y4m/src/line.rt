@@ -2,7 +2,7 @@
 
 ghost use Rattle.std.specs.Prelude.{◌≡◌, ◌+◌, ◌<◌, ◌≤◌, ◌^◌, IfOk, IfSome, length};
 ghost use Rattle.std.specs.Option.{IfNone};
-ghost use Rattle.pw_outside.specs.Ports.{CountsFault};
+ghost use Rattle.pw_outside.specs.Ports.{CountsFault, GoesOn};
 ghost use Rattle.pw_outside.specs.Reading.{Gives};
 ghost use Rattle.pic_y4m.specs.Faults.{told_fault, is_failed};
 ghost use Rattle.pic_y4m.specs.Line.{next_line};
@@ -56,6 +56,7 @@ pub(crate) fn line_of<S: ByteSource>(
     ensures len { IfOk result (λ line. IfSome line (λ l. length l < most)) }
     ensures place { place.new ≤ place.old + most }
     ensures same { IfOk result (λ line. IfNone line (place.new ≡ place.old)) }
+    ensures becomes { GoesOn S.becomes source.old source.new }
     ensures cause { CountsFault (S.faults source.old) (S.faults source.new) (is_failed result) }
 {
     let mut bytes: ArrayVec<u8, 1024> = ArrayVec::new();

@@ -1,7 +1,7 @@
 //! Reading an input picture by picture.
 
 ghost use Rattle.std.specs.Prelude.{◌≡◌, IfOk, IfSome};
-ghost use Rattle.pw_outside.specs.Ports.{CountsFault};
+ghost use Rattle.pw_outside.specs.Ports.{CountsFault, GoesOn};
 ghost use Rattle.pw_outside.specs.Reading.{Gives};
 ghost use Rattle.pw_planes.specs.declared.kinds.AlphaKind.TheVariants.{Absent};
 ghost use Rattle.pic_y4m.specs.Faults.{told_fault, is_failed};
@@ -48,6 +48,7 @@ impl Y4mReader {
         ensures bytes { Gives told_fault (λ r. r) (S.left source.old) (S.left source.new) 0 (place_after result) result start_at }
         // The head is within the limits.
         ensures reader { IfOk result IsState }
+        ensures becomes { GoesOn S.becomes source.old source.new }
         // The error is `Failed` only where a call of the source failed, and each such call is answered by it.
         ensures cause { CountsFault (S.faults source.old) (S.faults source.new) (is_failed result) }
     {
@@ -86,6 +87,7 @@ impl Y4mReader {
         // A picture is counted, and there are 1,000,000 at most.
         ensures after { IsAfter self.old self.new result }
         ensures reader { IsState self.new }
+        ensures becomes { GoesOn S.becomes source.old source.new }
         // The error is `Failed` only where a call of the source failed, and each such call is answered by it.
         ensures cause { CountsFault (S.faults source.old) (S.faults source.new) (is_failed result) }
     {
