@@ -3,3 +3,5 @@ pub mod Words
 pub mod Lines
 pub mod Planes
 pub mod Written
+pub mod Again
+pub mod HeadAgain

@@ -1,5 +1,5 @@
 -- What is written of pictures (yuv4mpeg(5)): one spelling for each head and each picture.
-use Rattle.std.specs.Prelude.{◌≡◌, ℕ, ◌<◌, ◌/◌, ◌%◌, Bool, true, false, List, [], ◌∷◌, ◌++◌, length, take, Option, Result, Ok, Err, codes}
+use Rattle.std.specs.Prelude.{◌≡◌, ℕ, ◌<◌, ◌≤◌, ◌/◌, ◌%◌, ◌+◌, Bool, true, false, List, [], ◌∷◌, ◌++◌, length, take, Option, None, Some, Result, Ok, Err, codes}
 use Rattle.std.specs.Fmt.{decimal}
 use Rattle.std.specs.Io.KnownBytes.{Appends}
 use Rattle.std.specs.List.{flat_map}
@@ -11,9 +11,14 @@ use Rattle.pw_planes.specs.declared.kinds.Depth.TheVariants.{D8, D10, D12}
 use Rattle.pw_planes.specs.declared.kinds.Interlace.{Interlace}
 use Rattle.pw_planes.specs.declared.kinds.Interlace.TheVariants.{Progressive, TopFirst, BottomFirst}
 use Rattle.pw_planes.specs.declared.picture.Picture.{Picture}
+use Rattle.pw_planes.specs.Plane.{IsPlane}
 use Rattle.pic_y4m.specs.declared.head.Head.{Head}
+use Rattle.pic_y4m.specs.declared.head.TheConstants.{MAX_FRAMES}
 use Rattle.pic_y4m.specs.declared.writer.WriteEnd.{WriteEnd}
 use Rattle.pic_y4m.specs.declared.writer.WriteEnd.TheVariants as ends
+use Rattle.pic_y4m.specs.Frames.{State, HasForm, started, start_at, next_at, pictures_left, pictured}
+use Rattle.pic_y4m.specs.HeadLine.{IsHead}
+use Rattle.pw_planes.specs.declared.kinds.AlphaKind.TheVariants.{Absent}
 
 -- the letter of the parameter I
 abbrev pub mode_text : Interlace → List ℕ
@@ -67,3 +72,42 @@ pub record Writes {X : Type 0} (old new : Option (List ℕ)) (before after : ℕ
 abbrev pub write_failed : {X : Type 0} → Result X WriteEnd → Bool
 write_failed (Err ends.Failed) = true
 write_failed _ = false
+
+-- a picture that a writer of this form writes whole: no alpha, and planes as planes are
+pub record IsWhole (h : Head) (p : Picture) : Type 0 where
+  pub form : HasForm h p
+  pub alpha : p.alpha ≡ None
+  pub luma : IsPlane p.y
+  pub cb : IsPlane p.cb
+  pub cr : IsPlane p.cr
+
+-- The law that a written picture is read: where it stands next, a reader of its form gives it, and goes on behind it.
+abbrev pub WrittenIsRead : Type 0
+WrittenIsRead = (r : State) (p : Picture) (rest : List ℕ) → r.form.shares_rows ≡ false → r.frames < MAX_FRAMES → IsWhole r.form.head p
+    → next_at r (record { place = r.place; bytes = frame_bytes r.form.head.depth p ++ rest })
+    ≡ Ok (Some p, record { place = r.place + length (frame_bytes r.form.head.depth p); bytes = rest })
+
+-- the frames of pictures, one behind the other
+abbrev pub frames_bytes : Depth → List Picture → List ℕ
+frames_bytes depth pictures = flat_map (frame_bytes depth) pictures
+
+-- each of the pictures is whole
+abbrev pub AreWhole : Head → List Picture → Type 0
+AreWhole h [] = Unit {0}
+AreWhole h (p ∷ ps) = IsWhole h p × AreWhole h ps
+
+-- The law that a reader gives exactly the pictures that were written, and then the end.
+abbrev pub PicturesAreRead : Type 0
+PicturesAreRead = (r : State) (pictures : List Picture) → r.form.shares_rows ≡ false → r.frames + length pictures ≤ MAX_FRAMES → AreWhole r.form.head pictures
+    → pictures_left r (record { place = r.place; bytes = frames_bytes r.form.head.depth pictures }) ≡ record { pictures = pictures; fault = None }
+
+-- The law that a written head line is read: a reader of that head starts behind it.
+abbrev pub HeadIsRead : Type 0
+HeadIsRead = (h : Head) (rest : List ℕ) → IsHead h → h.alpha ≡ Absent
+    → start_at (record { place = 0; bytes = head_bytes h ++ rest })
+    ≡ Ok (started (record { head = h; shares_rows = false }) (length (head_bytes h)), record { place = length (head_bytes h); bytes = rest })
+
+-- The law that an input that was written means the head and the pictures that were written.
+abbrev pub WrittenIsMeant : Type 0
+WrittenIsMeant = (h : Head) (pictures : List Picture) → IsHead h → h.alpha ≡ Absent → length pictures ≤ MAX_FRAMES → AreWhole h pictures
+    → pictured (head_bytes h ++ frames_bytes h.depth pictures) ≡ Ok (h, record { pictures = pictures; fault = None })

@@ -1,4 +1,3 @@
-use Rattle.std.proofs.Common.{arith}
 use Rattle.pw_planes.specs.declared.kinds.Depth.TheVariants.{D8}
 use Rattle.pic_y4m.proofs.Written.{plane-more, plane-all}
 use Rattle.pic_y4m.proofs.writer.put_bytes.Goals as goal

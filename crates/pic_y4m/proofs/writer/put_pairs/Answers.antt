@@ -1,4 +1,4 @@
-use Rattle.std.proofs.Common.{◌+◌, ◌∷◌, [], ◌++◌, ◌/◌, ◌%◌, List, ℕ, get_or, drop, ap, ◌∙◌, append_assoc, arith}
+use Rattle.std.proofs.Common.{◌+◌, ◌∷◌, [], ◌++◌, ◌/◌, ◌%◌, List, ℕ, get_or, drop, ap, ◌∙◌, append_assoc}
 use Rattle.pw_planes.specs.declared.kinds.Depth.TheVariants.{D10}
 use Rattle.pic_y4m.specs.Writing.{plane_bytes}
 use Rattle.pic_y4m.proofs.Written.{plane-more, plane-all}
