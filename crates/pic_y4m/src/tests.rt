@@ -360,6 +360,7 @@ fn a_sink_that_fails_is_told(rt: HostRuntime) {
     for (call, length) in [(0, 0), (1, 35)] {
         let (sink, end) = copied(&rt, rt.alloc(), &grey, call);
         assert_eq!(rt; end, Err(WriteEnd::Failed), "{call}");
-        assert!(rt; sink.bytes() == &grey[..length], "{call}");
+        assert_eq!(rt; sink.bytes().len(), length, "{call}");
+        assert!(rt; grey.starts_with(sink.bytes()), "{call}");
     }
 }
