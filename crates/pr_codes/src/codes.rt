@@ -1,7 +1,7 @@
 //! Words of a book, written and read.
 
 ghost use Rattle.std.specs.Prelude.{◌≡◌, ◌+◌, ◌-◌, ◌^◌, ◌<◌, ◌≤◌, ◌++◌, length, OnOk, OnErr, IfOk, IsSome, IsTrue, is_err, false};
-ghost use Rattle.pw_outside.specs.Ports.{CountsFault, Lowers};
+ghost use Rattle.pw_outside.specs.Ports.{CountsFault, Lowers, GoesOn};
 ghost use Rattle.pw_bits.specs.Bits.{bits_of, zeros};
 ghost use Rattle.pw_bits.specs.Reading.{unread};
 ghost use Rattle.pw_bits.specs.Writing.{written, Writes, Begins};
@@ -133,6 +133,7 @@ pub fn get_after<S: ByteSource>(
     ensures small { IfOk result (λ n. n ≤ 2 ^ 20) }
     ensures told { IsSome (S.left source.old) → IsSome (S.left source.new) }
     ensures most { Lowers (S.most source.old) (S.most source.new) 0 }
+    ensures becomes { GoesOn S.becomes source.old source.new }
     ensures cause { CountsFault (S.faults source.old) (S.faults source.new) (is_failed result) }
 {
     let (size, least) = tail_parts(book, zeros);
@@ -155,6 +156,7 @@ pub fn get_code<S: ByteSource>(
     ensures small { IfOk result (λ n. n ≤ 2 ^ 20) }
     ensures told { IsSome (S.left source.old) → IsSome (S.left source.new) }
     ensures most { Lowers (S.most source.old) (S.most source.new) 0 }
+    ensures becomes { GoesOn S.becomes source.old source.new }
     ensures cause { CountsFault (S.faults source.old) (S.faults source.new) (is_failed result) }
 {
     match reader.zeros(source, 21 - u32::from(book.exp) + u32::from(book.last)) {

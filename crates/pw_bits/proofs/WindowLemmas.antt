@@ -50,3 +50,9 @@ first-none w (Some xs) e = ap (take w) e ∙ take-nil w
 pub first-zero : (left : Option (List ℕ)) → bytes_of (first_bytes 0 left) ≡ []
 first-zero None = refl
 first-zero (Some xs) = refl
+
+pub moved-behind : (w k : ℕ) (old new : Option (List ℕ)) (l : List ℕ) → k ≡ length l → k ≤ w → Consumes old new l → IsSome old → drop (w - k) (bytes_of new) ≡ drop w (bytes_of old)
+moved-behind w k None new l len le c t = let f : false ≡ true = t in cc
+moved-behind w k (Some xs) None l len le c t = absurd c
+moved-behind w k (Some xs) (Some ys) l len le c t =
+    sym (ap (drop w) c ∙ drop-past w l ys (omega (arith, len)) ∙ ap (λ j. drop j ys) (let f : w - length l ≡ w - k = omega (arith, len) in f))

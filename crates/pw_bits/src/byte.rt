@@ -1,7 +1,7 @@
 //! Single bytes of a source, and the zeros in front of the bits of one.
 
 ghost use Rattle.std.specs.Prelude.{◌≡◌, ◌+◌, ◌-◌, ◌%◌, ◌^◌, ◌<◌, ◌≤◌, true, ◌∷◌, ◌++◌, length, slice_index, IsSome, is_err};
-ghost use Rattle.pw_outside.specs.Ports.{CountsFault, Lowers};
+ghost use Rattle.pw_outside.specs.Ports.{CountsFault, Lowers, GoesOn};
 ghost use Rattle.pw_bits.specs.Bits.{bits_of, zeros};
 ghost use Rattle.pw_bits.specs.Bytes.{GivesByte, byte_count};
 
@@ -12,6 +12,7 @@ pub(crate) fn next_byte<S: ByteSource>(source: &mut S) -> Result<Option<u8>, Fai
     ensures bytes { GivesByte result (S.left source.old) (S.left source.new) }
     ensures told { IsSome (S.left source.old) → IsSome (S.left source.new) }
     ensures most { Lowers (S.most source.old) (S.most source.new) (byte_count result) }
+    ensures becomes { GoesOn S.becomes source.old source.new }
     ensures cause { CountsFault (S.faults source.old) (S.faults source.new) (is_err result) }
 {
     let mut piece = [0];

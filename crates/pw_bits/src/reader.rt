@@ -1,7 +1,7 @@
 //! Bits from a source.
 
 ghost use Rattle.std.specs.Prelude.{◌≡◌, ◌+◌, ◌-◌, ◌%◌, ◌^◌, ◌<◌, ◌≤◌, true, [], ◌∷◌, ◌++◌, Err, length, IfOk, IsSome, is_err};
-ghost use Rattle.pw_outside.specs.Ports.{CountsFault, Lowers};
+ghost use Rattle.pw_outside.specs.Ports.{CountsFault, Lowers, GoesOn};
 ghost use Rattle.pw_bits.specs.Bits.{bits_of, zeros};
 
 use crate::byte::{next_byte, zeros_in_front};
@@ -63,6 +63,7 @@ impl BitReader {
         ensures end { result ≡ Err BitFault.End → IsSome (S.left source.old) → unread self.old (S.left source.old) ≡ [] }
         ensures told { IsSome (S.left source.old) → IsSome (S.left source.new) }
         ensures most { Lowers (S.most source.old) (S.most source.new) 0 }
+        ensures becomes { GoesOn S.becomes source.old source.new }
         ensures cause { CountsFault (S.faults source.old) (S.faults source.new) (is_failed result) }
     {
         match self.bits(source, 1) {
@@ -79,6 +80,7 @@ impl BitReader {
         ensures end { result ≡ Err BitFault.End → IsSome (S.left source.old) → length (unread self.old (S.left source.old)) < n }
         ensures told { IsSome (S.left source.old) → IsSome (S.left source.new) }
         ensures most { Lowers (S.most source.old) (S.most source.new) 0 }
+        ensures becomes { GoesOn S.becomes source.old source.new }
         ensures cause { CountsFault (S.faults source.old) (S.faults source.new) (is_failed result) }
     {
         let mut all = u64::from(self.low);
@@ -104,6 +106,7 @@ impl BitReader {
         ensures run { TakesZeros result most self.old (S.left source.old) self.new (S.left source.new) }
         ensures told { IsSome (S.left source.old) → IsSome (S.left source.new) }
         ensures most { Lowers (S.most source.old) (S.most source.new) 0 }
+        ensures becomes { GoesOn S.becomes source.old source.new }
         ensures cause { CountsFault (S.faults source.old) (S.faults source.new) (is_err result) }
     {
         let mut low = self.low;
@@ -145,6 +148,7 @@ impl BitReader {
         ensures rest { TakesRest result self.old (S.left source.old) self.new (S.left source.new) }
         ensures told { IsSome (S.left source.old) → IsSome (S.left source.new) }
         ensures most { Lowers (S.most source.old) (S.most source.new) 0 }
+        ensures becomes { GoesOn S.becomes source.old source.new }
         ensures cause { CountsFault (S.faults source.old) (S.faults source.new) (is_err result) }
     {
         let mut low = self.low;

@@ -1,6 +1,6 @@
 //! Planes of samples.
 
-ghost use Rattle.std.specs.Prelude.{◌≡◌, ◌+◌, ◌*◌, ◌%◌, ◌^◌, ◌<◌, ◌≤◌, ◌↔◌, IsTrue, IfOk};
+ghost use Rattle.std.specs.Prelude.{◌≡◌, ◌+◌, ◌*◌, ◌%◌, ◌^◌, ◌<◌, ◌≤◌, ◌↔◌, IsTrue, IfOk, length};
 ghost use Rattle.pw_planes.specs.Samples.{bits_of, IsTwelveBit};
 
 use crate::kinds::{Depth, Parity};
@@ -54,6 +54,30 @@ impl Plane {
             }),
             Err(_) => Err(NoMemory),
         }
+    }
+
+    /// The plane of samples in raster order.
+    pub fn from_samples(width: u32, height: u32, samples: Vec<u16>) -> Plane
+        requires some_columns { 1 ≤ width }
+        requires columns { width ≤ MAX_WIDTH }
+        requires some_rows { 1 ≤ height }
+        requires rows { height ≤ MAX_HEIGHT }
+        requires whole { length samples.items ≡ height * width }
+        ensures { result ≡ record { width = width; height = height; samples = samples.items } }
+    {
+        Plane {
+            width,
+            height,
+            samples,
+        }
+    }
+
+    /// The samples in raster order.
+    pub fn samples(&self) -> &[u16]
+        ensures samples { result.now ≡ self.now.samples }
+        ensures plane { IsPlane self.now }
+    {
+        &self.samples
     }
 
     /// The number of columns.

@@ -2,7 +2,7 @@
 
 ghost use Rattle.std.specs.Prelude.{◌+◌, ◌<◌, ◌≤◌, ◌^◌};
 ghost use Rattle.std.specs.Int.{w8, w16, w32, w64};
-ghost use Rattle.pw_outside.specs.Ports.{CountsFault};
+ghost use Rattle.pw_outside.specs.Ports.{CountsFault, GoesOn};
 ghost use Rattle.pw_outside.specs.Reading.{Gives, bytes_at, number_at};
 ghost use Rattle.rate_table.specs.declared.fault.ProofKind.TheVariants.{TableShort};
 ghost use Rattle.rate_table.specs.Reading.{told_fault, is_failed};
@@ -18,6 +18,7 @@ fn field<S: ByteSource, const N: usize>(
     requires { place.old + N < 2 ^ 64 }
     ensures bytes { Gives told_fault (λ x. x) (S.left source.old) (S.left source.new) place.old place.new result (bytes_at TableShort N) }
     ensures place { place.new ≤ place.old + N }
+    ensures becomes { GoesOn S.becomes source.old source.new }
     ensures cause { CountsFault (S.faults source.old) (S.faults source.new) (is_failed result) }
 {
     let mut piece = [0u8; N];
@@ -33,6 +34,7 @@ pub(crate) fn u8_of<S: ByteSource>(source: &mut S, place: &mut u64) -> Result<u8
     requires { place.old + 1 < 2 ^ 64 }
     ensures bytes { Gives told_fault (λ x. x) (S.left source.old) (S.left source.new) place.old place.new result (number_at TableShort w8) }
     ensures place { place.new ≤ place.old + 1 }
+    ensures becomes { GoesOn S.becomes source.old source.new }
     ensures cause { CountsFault (S.faults source.old) (S.faults source.new) (is_failed result) }
 {
     let piece = field::<S, 1>(source, place)?;
@@ -43,6 +45,7 @@ pub(crate) fn u16_of<S: ByteSource>(source: &mut S, place: &mut u64) -> Result<u
     requires { place.old + 2 < 2 ^ 64 }
     ensures bytes { Gives told_fault (λ x. x) (S.left source.old) (S.left source.new) place.old place.new result (number_at TableShort w16) }
     ensures place { place.new ≤ place.old + 2 }
+    ensures becomes { GoesOn S.becomes source.old source.new }
     ensures cause { CountsFault (S.faults source.old) (S.faults source.new) (is_failed result) }
 {
     let piece = field::<S, 2>(source, place)?;
@@ -53,6 +56,7 @@ pub(crate) fn u32_of<S: ByteSource>(source: &mut S, place: &mut u64) -> Result<u
     requires { place.old + 4 < 2 ^ 64 }
     ensures bytes { Gives told_fault (λ x. x) (S.left source.old) (S.left source.new) place.old place.new result (number_at TableShort w32) }
     ensures place { place.new ≤ place.old + 4 }
+    ensures becomes { GoesOn S.becomes source.old source.new }
     ensures cause { CountsFault (S.faults source.old) (S.faults source.new) (is_failed result) }
 {
     let piece = field::<S, 4>(source, place)?;
@@ -63,6 +67,7 @@ pub(crate) fn u64_of<S: ByteSource>(source: &mut S, place: &mut u64) -> Result<u
     requires { place.old + 8 < 2 ^ 64 }
     ensures bytes { Gives told_fault (λ x. x) (S.left source.old) (S.left source.new) place.old place.new result (number_at TableShort w64) }
     ensures place { place.new ≤ place.old + 8 }
+    ensures becomes { GoesOn S.becomes source.old source.new }
     ensures cause { CountsFault (S.faults source.old) (S.faults source.new) (is_failed result) }
 {
     let piece = field::<S, 8>(source, place)?;

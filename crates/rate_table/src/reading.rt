@@ -3,7 +3,7 @@
 ghost use Rattle.std.specs.Prelude.{◌≡◌, ◌+◌, ◌<◌, ◌≤◌, ◌^◌, length, IfOk, OnOk};
 ghost use Rattle.std.specs.List.{All};
 ghost use Rattle.std.specs.Io.KnownBytes.{IsAtEnd};
-ghost use Rattle.pw_outside.specs.Ports.{CountsFault};
+ghost use Rattle.pw_outside.specs.Ports.{CountsFault, GoesOn};
 ghost use Rattle.pw_outside.specs.Reading.{Gives, GivesValue, Answers, Told};
 ghost use Rattle.rate_table.specs.Reading.{told_fault, entry_at, entries_at, slice_at, slices_at, body_at, table_at, tabled, is_failed};
 ghost use Rattle.rate_table.specs.Table.{IsEntry, IndicesRise, IsSlice, IsTable};
@@ -27,6 +27,7 @@ fn entry_of<S: ByteSource>(source: &mut S, place: &mut u64, low: u8) -> Result<E
     ensures above { IfOk result (λ e. low < e.index) }
     ensures entry { IfOk result IsEntry }
     ensures place { place.new ≤ place.old + 11 }
+    ensures becomes { GoesOn S.becomes source.old source.new }
     ensures cause { CountsFault (S.faults source.old) (S.faults source.new) (is_failed result) }
 {
     let at = *place;
@@ -59,6 +60,7 @@ fn entries_of<S: ByteSource>(
     ensures rises { IfOk result (λ v. IndicesRise v.items) }
     ensures limits { IfOk result (λ v. All IsEntry v.items) }
     ensures place { place.new ≤ place.old + 2464 }
+    ensures becomes { GoesOn S.becomes source.old source.new }
     ensures cause { CountsFault (S.faults source.old) (S.faults source.new) (is_failed result) }
 {
     let mut entries: ArrayVec<Entry, 224> = ArrayVec::new();
@@ -77,6 +79,7 @@ fn slice_of<S: ByteSource>(source: &mut S, place: &mut u64) -> Result<SliceTable
     ensures bytes { Gives told_fault (λ t. t) (S.left source.old) (S.left source.new) place.old place.new result slice_at }
     ensures slice { IfOk result IsSlice }
     ensures place { place.new ≤ place.old + 2465 }
+    ensures becomes { GoesOn S.becomes source.old source.new }
     ensures cause { CountsFault (S.faults source.old) (S.faults source.new) (is_failed result) }
 {
     let at = *place;
@@ -103,6 +106,7 @@ fn slices_of<S: ByteSource>(
     ensures bytes { Gives told_fault (λ v. v.items) (S.left source.old) (S.left source.new) place.old place.new result (slices_at count) }
     ensures count { IfOk result (λ v. length v.items ≡ count) }
     ensures each { IfOk result (λ v. All IsSlice v.items) }
+    ensures becomes { GoesOn S.becomes source.old source.new }
     ensures cause { CountsFault (S.faults source.old) (S.faults source.new) (is_failed result) }
 {
     let mut slices = Vec::new(alloc);
@@ -122,6 +126,7 @@ fn body_of<S: ByteSource>(
     requires { place.old < 2 ^ 63 + 50 }
     ensures bytes { Gives told_fault (λ t. t) (S.left source.old) (S.left source.new) place.old place.new result body_at }
     ensures table { IfOk result IsTable }
+    ensures becomes { GoesOn S.becomes source.old source.new }
     ensures cause { CountsFault (S.faults source.old) (S.faults source.new) (is_failed result) }
 {
     let at = *place;
@@ -159,6 +164,7 @@ fn table_of<S: ByteSource>(
     requires { place.old ≡ 0 }
     ensures bytes { Gives told_fault (λ t. t) (S.left source.old) (S.left source.new) place.old place.new result table_at }
     ensures table { IfOk result IsTable }
+    ensures becomes { GoesOn S.becomes source.old source.new }
     ensures cause { CountsFault (S.faults source.old) (S.faults source.new) (is_failed result) }
 {
     let magic = u32_of(source, place)?;
@@ -186,6 +192,7 @@ pub fn read_body<S: ByteSource>(
     // Where the source tells its bytes, the answer is the body that stands there, or its first fault.
     ensures bytes { GivesValue told_fault (λ t. t) (S.left source.old) (S.left source.new) place result body_at }
     ensures table { IfOk result IsTable }
+    ensures becomes { GoesOn S.becomes source.old source.new }
     // The error is `Failed` only where a call of the source failed, and each such call is answered by it.
     ensures cause { CountsFault (S.faults source.old) (S.faults source.new) (is_failed result) }
 {
@@ -200,6 +207,7 @@ pub fn read_table<S: ByteSource>(alloc: Global, source: &mut S) -> Result<FrameT
     // Where the source tells its bytes, the answer is the table that they begin with, or their first fault.
     ensures bytes { GivesValue told_fault (λ t. t) (S.left source.old) (S.left source.new) 0 result table_at }
     ensures table { IfOk result IsTable }
+    ensures becomes { GoesOn S.becomes source.old source.new }
     // The error is `Failed` only where a call of the source failed, and each such call is answered by it.
     ensures cause { CountsFault (S.faults source.old) (S.faults source.new) (is_failed result) }
 {
@@ -217,6 +225,7 @@ pub fn read_file<S: ByteSource>(alloc: Global, source: &mut S) -> Result<FrameTa
     ensures table { IfOk result IsTable }
     // A table is given only where the input was read to its end.
     ensures end { OnOk result (IsAtEnd (S.left source.new)) }
+    ensures becomes { GoesOn S.becomes source.old source.new }
     // The error is `Failed` only where a call of the source failed, and each such call is answered by it.
     ensures cause { CountsFault (S.faults source.old) (S.faults source.new) (is_failed result) }
 {

@@ -89,6 +89,10 @@ impl<R: Files + Input + AllocGlobal + Drop> ByteSource for InputPort<R> {
 
     ghost faults = { λ s. min s.faults last };
 
+    ghost becomes = { λ _ _. Unit {0} };
+
+    ghost becomes_same = { λ _. tt };
+
     ghost bound = { λ _. tt };
 
     fn read(&mut self, piece: &mut [u8]) -> Result<usize, Failed> {

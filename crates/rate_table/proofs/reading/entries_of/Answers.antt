@@ -28,6 +28,7 @@ loop-preserved g c =
       below = All-push (λ x. x.index ≤ e.index) items e (All-weaker (λ (x : Entry). x.index ≤ c.loop.low) (λ x. x.index ≤ e.index) (λ x h. omega arith) items below) (omega arith);
       told = λ h. c.in_ok-entry.ensures.bytes.told (c.loop.invariant.told h);
       bytes = λ h. entries-more items c.args.count c.loop.counter c.loop.low _ _ e _ c.loop-test.true (c.in_ok-entry.ensures.bytes.answer (c.loop.invariant.told h)) (c.loop.invariant.bytes h);
+      becomes = λ first h. c.in_ok-entry.ensures.becomes first (c.loop.invariant.becomes first h);
       cause = search rules;
     })
 

@@ -1,6 +1,7 @@
 use Rattle.std.proofs.Common.{◌≡◌, ◌+◌, ◌-◌, ◌*◌, ◌≤◌, length}
 use Rattle.std.specs.Prelude.{IsSome}
 use Rattle.std.specs.List.{All}
+use Rattle.pw_outside.specs.Ports.{GoesOn}
 use Rattle.pw_outside.specs.Reading.{rest_of}
 use Rattle.pw_outside.proofs.Chains.{with_front}
 use Rattle.rate_table.specs.Table.{IndicesRise, IsEntry}
@@ -18,5 +19,6 @@ invariant-loop g l = record {
   bytes : IsSome (g.S.ByteSource.left l.initial.source)
       → with_front l.entries.items (entries_at (l.count - l.counter) l.low (rest_of l.place (g.S.ByteSource.left l.source)))
       ≡ entries_at l.count 0 (rest_of l.initial.place (g.S.ByteSource.left l.initial.source));
+  becomes : GoesOn g.S.ByteSource.becomes l.initial.source l.source;
   cause : g.S.ByteSource.faults l.source ≡ g.S.ByteSource.faults l.initial.source;
 }

@@ -22,6 +22,7 @@ loop-preserved g c =
       each = All-push IsSlice c.loop.slices.items es c.loop.invariant.each c.in_ok-slice.ensures.slice;
       told = λ h. c.in_ok-slice.ensures.bytes.told (c.loop.invariant.told h);
       bytes = λ h. slices-more c.loop.slices.items c.args.count c.loop.counter _ _ es _ c.loop-test.true (c.in_ok-slice.ensures.bytes.answer (c.loop.invariant.told h)) (c.loop.invariant.bytes h);
+      becomes = λ first h. c.in_ok-slice.ensures.becomes first (c.loop.invariant.becomes first h);
       cause = search rules;
     })
 

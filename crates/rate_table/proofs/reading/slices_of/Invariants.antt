@@ -2,6 +2,7 @@ use Rattle.std.proofs.Common.{◌≡◌, ◌+◌, ◌-◌, ◌*◌, ◌≤◌, l
 use Rattle.std.specs.Prelude.{IsSome}
 use Rattle.std.specs.List.{All}
 use Rattle.rate_table.specs.Table.{IsSlice}
+use Rattle.pw_outside.specs.Ports.{GoesOn}
 use Rattle.pw_outside.specs.Reading.{rest_of}
 use Rattle.rate_table.specs.Reading.{slices_at}
 use Rattle.pw_outside.proofs.Chains.{with_front}
@@ -16,5 +17,6 @@ invariant-loop g l = record {
   bytes : IsSome (g.S.ByteSource.left l.initial.source)
       → with_front l.slices.items (slices_at (l.count - l.counter) (rest_of l.place (g.S.ByteSource.left l.source)))
       ≡ slices_at l.count (rest_of l.initial.place (g.S.ByteSource.left l.initial.source));
+  becomes : GoesOn g.S.ByteSource.becomes l.initial.source l.source;
   cause : g.S.ByteSource.faults l.source ≡ g.S.ByteSource.faults l.initial.source;
 }

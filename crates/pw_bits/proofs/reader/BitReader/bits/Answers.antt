@@ -20,6 +20,7 @@ loop-count-preserved g c =
       taken = subst (λ k. Takes (bits_of c.self.inside.count c.self.inside.low) (g.S.ByteSource.left c.args.source.now) k (g.S.ByteSource.left c.next_byte.new.source) []) (sym p.1) (Takes-byte byte i.told given.1 i.taken);
       told = λ t. c.in-Ok-Some.ensures.told (i.told t);
       most = Lowers-trans (g.S.ByteSource.most c.args.source.now) (g.S.ByteSource.most c.loop-count.source) (g.S.ByteSource.most c.next_byte.new.source) 0 1 i.most one;
+      becomes = λ first h. c.in-Ok-Some.ensures.becomes first (i.becomes first h);
       cause = c.in-Ok-Some.ensures.cause.kept ∙ i.cause;
     }
 

@@ -1,6 +1,6 @@
 use Rattle.std.proofs.Common.{◌≡◌, ◌+◌, ◌-◌, ◌<◌, ◌^◌, []}
 use Rattle.std.specs.Prelude.{IsSome}
-use Rattle.pw_outside.specs.Ports.{Lowers}
+use Rattle.pw_outside.specs.Ports.{Lowers, GoesOn}
 use Rattle.pw_bits.specs.Bits.{bits_of}
 use Rattle.pw_bits.specs.Reading.{Takes}
 use Rattle.pw_bits.proofs.reader.BitReader.bits.Given as goal
@@ -13,6 +13,7 @@ invariant-loop-count g l = record {
   taken : Takes (bits_of l.initial.self-inside.count l.initial.self-inside.low) (g.S.ByteSource.left l.initial.source) (bits_of l.count l.all) (g.S.ByteSource.left l.source) [];
   told : IsSome (g.S.ByteSource.left l.initial.source) → IsSome (g.S.ByteSource.left l.source);
   most : Lowers (g.S.ByteSource.most l.initial.source) (g.S.ByteSource.most l.source) 0;
+  becomes : GoesOn g.S.ByteSource.becomes l.initial.source l.source;
   cause : g.S.ByteSource.faults l.source ≡ g.S.ByteSource.faults l.initial.source;
 }
 

@@ -35,6 +35,7 @@ loop-count-preserved g c =
       bound = told-bound (g.S.ByteSource.most c.loop-count.source) (g.S.ByteSource.most c.next_byte.new.source) 1 one i.bound;
       told = λ t. c.in-Ok-Some.ensures.told (i.told t);
       lowers = Lowers-trans (g.S.ByteSource.most c.args.source.now) (g.S.ByteSource.most c.loop-count.source) (g.S.ByteSource.most c.next_byte.new.source) 0 1 i.lowers one;
+      becomes = λ first h. c.in-Ok-Some.ensures.becomes first (i.becomes first h);
       cause = c.in-Ok-Some.ensures.cause.kept ∙ i.cause;
     }
 

@@ -1,6 +1,6 @@
 use Rattle.std.proofs.Common.{◌≡◌, ◌<◌, ◌≤◌, ◌^◌}
 use Rattle.std.specs.Prelude.{IsSome, unwrap_or}
-use Rattle.pw_outside.specs.Ports.{Lowers}
+use Rattle.pw_outside.specs.Ports.{Lowers, GoesOn}
 use Rattle.pw_bits.specs.Bits.{bits_of}
 use Rattle.pw_bits.proofs.ReadingLemmas.{TakesSome}
 use Rattle.pw_bits.proofs.reader.BitReader.rest_is_zero.Given as goal
@@ -14,6 +14,7 @@ invariant-loop-count g l = record {
   bound : IsSome (g.S.ByteSource.most l.source);
   told : IsSome (g.S.ByteSource.left l.initial.source) → IsSome (g.S.ByteSource.left l.source);
   lowers : Lowers (g.S.ByteSource.most l.initial.source) (g.S.ByteSource.most l.source) 0;
+  becomes : GoesOn g.S.ByteSource.becomes l.initial.source l.source;
   cause : g.S.ByteSource.faults l.source ≡ g.S.ByteSource.faults l.initial.source;
 }
 

@@ -50,6 +50,7 @@ loop-run-preserved g c =
       taken = Takes-byte byte i.told given.1 kept;
       told = λ t. c.in-Ok-Some.ensures.told (i.told t);
       lowers = Lowers-trans (g.S.ByteSource.most c.args.source.now) (g.S.ByteSource.most c.loop-run.source) (g.S.ByteSource.most c.next_byte.new.source) 0 1 i.lowers one;
+      becomes = λ first h. c.in-Ok-Some.ensures.becomes first (i.becomes first h);
       cause = c.in-Ok-Some.ensures.cause.kept ∙ i.cause;
     }
 

@@ -19,5 +19,6 @@ loop-self-preserved g c =
       behind = λ t. window-behind w c.read.new.self.left k old new piece (omega (arith, length-take k (take w piece), length-take w piece, r.count.0, r.length)) r.length r.source.0 (i.told t) ∙ i.behind t;
       told = λ t. told-read old new (take k (take w piece)) r.source.0 (i.told t);
       lowers = Lowers-trans (g.S.ByteSource.most c.args.self.now.source.now) (g.S.ByteSource.most c.loop-self.self.source.now) (g.S.ByteSource.most c.read.new.self.source.now) 0 k i.lowers r.source_most;
+      becomes = λ first h. r.source_becomes first (i.becomes first h);
       cause = r.cause.kept ∙ i.cause;
     }

@@ -1,0 +1,7 @@
+pub mod Numbers
+pub mod Words
+pub mod Lines
+pub mod Planes
+pub mod Written
+pub mod Again
+pub mod HeadAgain

@@ -1,0 +1,206 @@
+-- Frames of a Y4M input (yuv4mpeg(5), frames), and the pictures that they stand for.
+use Rattle.std.specs.Prelude.{◌≡◌, ℕ, zero, suc, ◌+◌, ◌-◌, ◌*◌, ◌/◌, ◌<◌, ◌≤◌, ◌^◌, Bool, true, false, not, ◌==◌, nat_lt, nat_le, nat_eq, if◌then◌else◌, List, [], ◌∷◌, length, take, drop, map, slice_index, Option, None, Some, Result, Ok, Err, is_some, codes}
+use Rattle.std.specs.List.{position_or_len, range_with_len, starts_with, All}
+use Rattle.pw_outside.specs.Reading.{Fault, Rest, Read, ◌>>=◌, bad, refuse}
+use Rattle.pw_planes.specs.declared.kinds.AlphaKind.{AlphaKind}
+use Rattle.pw_planes.specs.declared.kinds.AlphaKind.TheVariants.{Absent, Eight, Sixteen}
+use Rattle.pw_planes.specs.declared.kinds.Depth.{Depth}
+use Rattle.pw_planes.specs.declared.kinds.Depth.TheVariants.{D8, D10, D12}
+use Rattle.pw_planes.specs.declared.picture.Picture.{Picture}
+use Rattle.pw_planes.specs.Picture.{HasSize}
+use Rattle.pw_planes.specs.Plane.{Raster}
+use Rattle.pw_planes.specs.Rows.{raster}
+use Rattle.pw_planes.specs.Samples.{bits_of, chroma_width}
+use Rattle.pic_y4m.specs.declared.fault.PictureKind.{PictureKind}
+use Rattle.pic_y4m.specs.declared.fault.PictureKind.TheVariants as kinds
+use Rattle.pic_y4m.specs.declared.head.Head.{Head}
+use Rattle.pic_y4m.specs.declared.head.TheConstants.{MAX_FRAMES}
+use Rattle.pic_y4m.specs.declared.head_line.Stream.{Stream}
+use Rattle.pic_y4m.specs.HeadLine.{IsStream, stream_at}
+use Rattle.pic_y4m.specs.Line.{next_line}
+
+-- ---- planes
+
+-- the number of bytes of a sample
+abbrev pub sample_bytes : Depth → ℕ
+sample_bytes D8 = 1
+sample_bytes D10 = 2
+sample_bytes D12 = 2
+
+-- sample k of these bytes: a byte, or two bytes of which the low one comes first
+abbrev pub sample_in : Depth → List ℕ → ℕ → ℕ
+sample_in D8 bytes k = slice_index bytes k
+sample_in D10 bytes k = slice_index bytes (2 * k) + 256 * slice_index bytes (2 * k + 1)
+sample_in D12 bytes k = slice_index bytes (2 * k) + 256 * slice_index bytes (2 * k + 1)
+
+-- the first so many samples of these bytes
+unfoldable pub samples_in : Depth → ℕ → List ℕ → List ℕ
+samples_in depth count bytes = map (sample_in depth bytes) (range_with_len 0 count)
+
+-- the next so many samples; where the input ends before, Truncated at its end
+unfoldable pub samples_at : Depth → ℕ → Rest → Read PictureKind (List ℕ)
+samples_at depth count s = if nat_lt (length s.bytes) (count * sample_bytes depth) then bad kinds.Truncated (s.place + length s.bytes)
+    else Ok (samples_in depth count (take (count * sample_bytes depth) s.bytes), record { place = s.place + count * sample_bytes depth; bytes = drop (count * sample_bytes depth) s.bytes })
+
+-- whether a sample has more bits than the depth says
+abbrev pub is_past : Depth → ℕ → Bool
+is_past depth sample = nat_le (2 ^ bits_of depth) sample
+
+-- a fault at the first sample that has more bits than the depth says; the plane begins at this place
+unfoldable pub in_range : Depth → List ℕ → ℕ → Result (Unit {0}) (Fault PictureKind)
+in_range depth samples place = refuse (nat_lt (position_or_len (is_past depth) samples) (length samples)) kinds.SampleRange
+    (place + position_or_len (is_past depth) samples * sample_bytes depth)
+
+-- ---- pictures
+
+-- the number of stored rows of chroma: one for two rows of luma where these share it
+abbrev pub chroma_rows : Bool → ℕ → ℕ
+chroma_rows shares height = if shares then (height + 1) / 2 else height
+
+-- the samples of a plane of chroma as the picture has it: where rows are shared, row y is the stored row y / 2
+abbrev pub chroma_samples : Bool → ℕ → ℕ → List ℕ → List ℕ
+chroma_samples shares width height stored = if shares then raster width height (λ column row. slice_index stored (row / 2 * width + column)) else stored
+
+abbrev pub chroma_plane : Bool → ℕ → ℕ → List ℕ → Raster
+chroma_plane shares width height stored = record { width = width; height = height; samples = chroma_samples shares width height stored }
+
+-- the picture of three stored planes
+abbrev pub picture_of : Stream → List ℕ → List ℕ → List ℕ → Picture
+picture_of form y cb cr = record {
+  y = record { width = form.head.width; height = form.head.height; samples = y };
+  cb = chroma_plane form.shares_rows (chroma_width form.head.chroma form.head.width) form.head.height cb;
+  cr = chroma_plane form.shares_rows (chroma_width form.head.chroma form.head.width) form.head.height cr;
+  alpha = None;
+  chroma = form.head.chroma;
+  depth = form.head.depth;
+}
+
+-- the number of stored samples of luma, and of each plane of chroma
+abbrev pub luma_count : Stream → ℕ
+luma_count form = form.head.height * form.head.width
+
+abbrev pub chroma_count : Stream → ℕ
+chroma_count form = chroma_rows form.shares_rows form.head.height * chroma_width form.head.chroma form.head.width
+
+-- the planes of a frame, Y, Cb and Cr; their samples are judged once all are read
+unfoldable pub planes_at : Stream → Rest → Read PictureKind Picture
+planes_at form s = do
+  y ← samples_at form.head.depth (luma_count form) s
+  cb ← samples_at form.head.depth (chroma_count form) y.1
+  cr ← samples_at form.head.depth (chroma_count form) cb.1
+  _ ← in_range form.head.depth y.0 s.place
+  _ ← in_range form.head.depth cb.0 y.1.place
+  _ ← in_range form.head.depth cr.0 cb.1.place
+  Ok (picture_of form y.0 cb.0 cr.0, cr.1)
+
+-- a line begins with the word FRAME
+abbrev pub begins_frame : List ℕ → Bool
+begins_frame line = starts_with nat_eq line (codes "FRAME")
+
+-- the frame behind its line, which begins at this place; none where there is no line
+abbrev pub frame_behind : Stream → ℕ → Option (List ℕ) → Rest → Read PictureKind (Option Picture)
+frame_behind form place None s = Ok (None, s)
+frame_behind form place (Some line) s = do
+  _ ← refuse (not (begins_frame line)) kinds.FrameLine place
+  picture ← planes_at form s
+  Ok (Some picture.0, picture.1)
+
+-- The next frame: a line of at most 256 bytes that begins with the word FRAME, and the planes; none at the end of the input.
+unfoldable pub frame_at : Stream → Rest → Read PictureKind (Option Picture)
+frame_at form s = do
+  line ← next_line 256 kinds.FrameLine s.place s
+  frame_behind form s.place line.0 line.1
+
+-- ---- what a picture of a form is
+
+abbrev pub has_alpha : AlphaKind → Bool
+has_alpha Absent = false
+has_alpha Eight = true
+has_alpha Sixteen = true
+
+-- each sample is below 2 to the depth
+abbrev pub AreBelow : Depth → List ℕ → Type 0
+AreBelow depth samples = All (λ s. s < 2 ^ bits_of depth) samples
+
+-- a picture of a form: its planes have the sizes, and its samples are below 2 to the depth
+pub record HasForm (h : Head) (p : Picture) : Type 0 where
+  pub size : HasSize p h.width h.height
+  pub chroma : p.chroma ≡ h.chroma
+  pub depth : p.depth ≡ h.depth
+  pub alpha : is_some p.alpha ≡ has_alpha h.alpha
+  pub luma : AreBelow h.depth p.y.samples
+  pub cb : AreBelow h.depth p.cb.samples
+  pub cr : AreBelow h.depth p.cr.samples
+
+-- ---- what a reader has left
+
+-- the form of all pictures, the number of frames that were read, and the place behind them
+pub record State : Type 0 where
+  pub form : Stream
+  pub frames : ℕ
+  pub place : ℕ
+
+-- before the first frame
+abbrev pub started : Stream → ℕ → State
+started form place = record { form = form; frames = 0; place = place }
+
+-- one frame more, which ends at this place
+abbrev pub advanced : State → ℕ → State
+advanced r place = record r { frames = r.frames + 1; place = place }
+
+-- the reader that the head line makes
+unfoldable pub start_at : Rest → Read PictureKind State
+start_at s = do
+  stream ← stream_at s
+  Ok (started stream.0 stream.1.place, stream.1)
+
+-- the next picture, or none at the end of the input; behind the last frame that may be there, a byte is one too many
+unfoldable pub next_at : State → Rest → Read PictureKind (Option Picture)
+next_at r s = if r.frames == MAX_FRAMES then (if length s.bytes == 0 then Ok (None, s) else bad kinds.TooManyFrames s.place) else frame_at r.form s
+
+-- pictures, and the fault behind them, if one ends them
+pub record Pictures : Type 0 where
+  pub pictures : List Picture
+  pub fault : Option (Fault PictureKind)
+
+-- the next picture, and then those that stand in the rest
+abbrev pub first_and : Read PictureKind (Option Picture) → (Rest → Pictures) → Pictures
+first_and (Err fault) others = record { pictures = []; fault = Some fault }
+first_and (Ok (None, rest)) others = record { pictures = []; fault = None }
+first_and (Ok (Some picture, rest)) others = record (others rest) { pictures = picture ∷ (others rest).pictures }
+
+-- at most so many of the pictures that a reader has left
+unfoldable pub pictures_in : ℕ → State → Rest → Pictures
+pictures_in zero r s = record { pictures = []; fault = None }
+pictures_in (suc n) r s = first_and (next_at r s) (λ rest. pictures_in n (advanced r rest.place) rest)
+
+-- All pictures that a reader has left. One call more than there may be frames meets their end, or the fault behind them.
+unfoldable pub pictures_left : State → Rest → Pictures
+pictures_left r s = pictures_in (MAX_FRAMES + 1 - r.frames) r s
+
+-- What an input means: the form and the pictures up to the end or to the first fault; or the first fault of the head line.
+unfoldable pub pictured : List ℕ → Result (Head × Pictures) (Fault PictureKind)
+pictured bytes = do
+  start ← start_at (record { place = 0; bytes = bytes })
+  Ok (start.0.form.head, pictures_left start.0 start.1)
+
+-- a reader at any time
+pub record IsState (r : State) : Type 0 where
+  pub form : IsStream r.form
+  pub few : r.frames ≤ MAX_FRAMES
+  pub place : r.place ≤ 1024 + r.frames * 2 ^ 28
+
+-- the place behind what was read, where something was
+abbrev pub place_after : {E : Type 0} → Result State E → ℕ
+place_after (Ok r) = r.place
+place_after (Err _) = 0
+
+-- The reader after a call: one frame more behind a picture, and else as it was.
+abbrev pub IsAfter : {E : Type 0} → State → State → Result (Option Picture) E → Type 0
+IsAfter old new (Ok (Some _)) = new ≡ advanced old new.place
+IsAfter old new (Ok None) = new ≡ old
+IsAfter old new (Err _) = new ≡ old
+
+-- The law that what is left is the next picture and what is then left.
+abbrev pub NextIsFirst : Type 0
+NextIsFirst = (r : State) (s : Rest) → r.frames ≤ MAX_FRAMES → pictures_left r s ≡ first_and (next_at r s) (λ rest. pictures_left (advanced r rest.place) rest)

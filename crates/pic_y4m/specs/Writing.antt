@@ -1,0 +1,113 @@
+-- What is written of pictures (yuv4mpeg(5)): one spelling for each head and each picture.
+use Rattle.std.specs.Prelude.{◌≡◌, ℕ, ◌<◌, ◌≤◌, ◌/◌, ◌%◌, ◌+◌, Bool, true, false, List, [], ◌∷◌, ◌++◌, length, take, Option, None, Some, Result, Ok, Err, codes}
+use Rattle.std.specs.Fmt.{decimal}
+use Rattle.std.specs.Io.KnownBytes.{Appends}
+use Rattle.std.specs.List.{flat_map}
+use Rattle.pw_outside.specs.Ports.{taken_more}
+use Rattle.pw_planes.specs.declared.kinds.Chroma.{Chroma}
+use Rattle.pw_planes.specs.declared.kinds.Chroma.TheVariants.{C422, C444}
+use Rattle.pw_planes.specs.declared.kinds.Depth.{Depth}
+use Rattle.pw_planes.specs.declared.kinds.Depth.TheVariants.{D8, D10, D12}
+use Rattle.pw_planes.specs.declared.kinds.Interlace.{Interlace}
+use Rattle.pw_planes.specs.declared.kinds.Interlace.TheVariants.{Progressive, TopFirst, BottomFirst}
+use Rattle.pw_planes.specs.declared.picture.Picture.{Picture}
+use Rattle.pw_planes.specs.Plane.{IsPlane}
+use Rattle.pic_y4m.specs.declared.head.Head.{Head}
+use Rattle.pic_y4m.specs.declared.head.TheConstants.{MAX_FRAMES}
+use Rattle.pic_y4m.specs.declared.writer.WriteEnd.{WriteEnd}
+use Rattle.pic_y4m.specs.declared.writer.WriteEnd.TheVariants as ends
+use Rattle.pic_y4m.specs.Frames.{State, HasForm, started, start_at, next_at, pictures_left, pictured}
+use Rattle.pic_y4m.specs.HeadLine.{IsHead}
+use Rattle.pw_planes.specs.declared.kinds.AlphaKind.TheVariants.{Absent}
+
+-- the letter of the parameter I
+abbrev pub mode_text : Interlace → List ℕ
+mode_text Progressive = codes "p"
+mode_text TopFirst = codes "t"
+mode_text BottomFirst = codes "b"
+
+-- the tag of the parameter C: the sampling, and behind it the depth, unless it is 8
+abbrev pub sampling_text : Chroma → List ℕ
+sampling_text C422 = codes "422"
+sampling_text C444 = codes "444"
+
+abbrev pub depth_text : Depth → List ℕ
+depth_text D8 = []
+depth_text D10 = codes "p10"
+depth_text D12 = codes "p12"
+
+-- the head line
+unfoldable pub head_bytes : Head → List ℕ
+head_bytes h = codes "YUV4MPEG2 W" ++ decimal h.width ++ codes " H" ++ decimal h.height ++ codes " F" ++ decimal h.num ++ codes ":" ++ decimal h.den
+    ++ codes " I" ++ mode_text h.interlace ++ codes " C" ++ sampling_text h.chroma ++ depth_text h.depth ++ codes "\n"
+
+-- a sample: a byte, or two bytes of which the low one comes first
+abbrev pub sample_text : Depth → ℕ → List ℕ
+sample_text D8 sample = sample ∷ []
+sample_text D10 sample = sample % 256 ∷ sample / 256 ∷ []
+sample_text D12 sample = sample % 256 ∷ sample / 256 ∷ []
+
+-- the samples of a plane
+abbrev pub plane_bytes : Depth → List ℕ → List ℕ
+plane_bytes depth samples = flat_map (sample_text depth) samples
+
+-- a frame: its line, and the planes Y, Cb and Cr
+unfoldable pub frame_bytes : Depth → Picture → List ℕ
+frame_bytes depth p = codes "FRAME\n" ++ plane_bytes depth p.y.samples ++ plane_bytes depth p.cb.samples ++ plane_bytes depth p.cr.samples
+
+-- What was appended of a text: all of it, or a part from its front after a failure, or nothing where memory ran out.
+abbrev pub IsWritten : {X : Type 0} → Result X WriteEnd → List ℕ → List ℕ → Type 0
+IsWritten (Ok _) text out = out ≡ text
+IsWritten (Err ends.Failed) text out = (length out < length text) × (out ≡ take (length out) text)
+IsWritten (Err ends.NoMemory) text out = out ≡ []
+
+-- A call wrote a text, or a part of it: the sink holds it where it tells what it holds, and counts its bytes.
+pub record Writes {X : Type 0} (old new : Option (List ℕ)) (before after : ℕ) (result : Result X WriteEnd) (text : List ℕ) : Type 0 where
+  pub out : List ℕ
+  pub written : IsWritten result text out
+  pub held : Appends old new out
+  pub taken : after ≡ taken_more before (length out)
+
+-- whether the sink failed
+abbrev pub write_failed : {X : Type 0} → Result X WriteEnd → Bool
+write_failed (Err ends.Failed) = true
+write_failed _ = false
+
+-- a picture that a writer of this form writes whole: no alpha, and planes as planes are
+pub record IsWhole (h : Head) (p : Picture) : Type 0 where
+  pub form : HasForm h p
+  pub alpha : p.alpha ≡ None
+  pub luma : IsPlane p.y
+  pub cb : IsPlane p.cb
+  pub cr : IsPlane p.cr
+
+-- The law that a written picture is read: where it stands next, a reader of its form gives it, and goes on behind it.
+abbrev pub WrittenIsRead : Type 0
+WrittenIsRead = (r : State) (p : Picture) (rest : List ℕ) → r.form.shares_rows ≡ false → r.frames < MAX_FRAMES → IsWhole r.form.head p
+    → next_at r (record { place = r.place; bytes = frame_bytes r.form.head.depth p ++ rest })
+    ≡ Ok (Some p, record { place = r.place + length (frame_bytes r.form.head.depth p); bytes = rest })
+
+-- the frames of pictures, one behind the other
+abbrev pub frames_bytes : Depth → List Picture → List ℕ
+frames_bytes depth pictures = flat_map (frame_bytes depth) pictures
+
+-- each of the pictures is whole
+abbrev pub AreWhole : Head → List Picture → Type 0
+AreWhole h [] = Unit {0}
+AreWhole h (p ∷ ps) = IsWhole h p × AreWhole h ps
+
+-- The law that a reader gives exactly the pictures that were written, and then the end.
+abbrev pub PicturesAreRead : Type 0
+PicturesAreRead = (r : State) (pictures : List Picture) → r.form.shares_rows ≡ false → r.frames + length pictures ≤ MAX_FRAMES → AreWhole r.form.head pictures
+    → pictures_left r (record { place = r.place; bytes = frames_bytes r.form.head.depth pictures }) ≡ record { pictures = pictures; fault = None }
+
+-- The law that a written head line is read: a reader of that head starts behind it.
+abbrev pub HeadIsRead : Type 0
+HeadIsRead = (h : Head) (rest : List ℕ) → IsHead h → h.alpha ≡ Absent
+    → start_at (record { place = 0; bytes = head_bytes h ++ rest })
+    ≡ Ok (started (record { head = h; shares_rows = false }) (length (head_bytes h)), record { place = length (head_bytes h); bytes = rest })
+
+-- The law that an input that was written means the head and the pictures that were written.
+abbrev pub WrittenIsMeant : Type 0
+WrittenIsMeant = (h : Head) (pictures : List Picture) → IsHead h → h.alpha ≡ Absent → length pictures ≤ MAX_FRAMES → AreWhole h pictures
+    → pictured (head_bytes h ++ frames_bytes h.depth pictures) ≡ Ok (h, record { pictures = pictures; fault = None })

@@ -1,0 +1,29 @@
+//! Laws of what an input means, over the definitions alone.
+
+ghost use Rattle.pic_y4m.specs.Frames.{NextIsFirst};
+ghost use Rattle.pic_y4m.specs.Writing.{HeadIsRead, PicturesAreRead, WrittenIsMeant, WrittenIsRead};
+
+/// The law that what a reader has left is the next picture and what is then left.
+pub fn next_is_first()
+    ensures { NextIsFirst }
+{}
+
+/// The law that a written picture is read again, with the bytes behind it left.
+pub fn written_is_read()
+    ensures { WrittenIsRead }
+{}
+
+/// The law that a reader gives exactly the pictures that were written, and then the end.
+pub fn pictures_are_read()
+    ensures { PicturesAreRead }
+{}
+
+/// The law that a written head line is read again, with the bytes behind it left.
+pub fn head_is_read()
+    ensures { HeadIsRead }
+{}
+
+/// The law that an input that was written means the head and the pictures that were written.
+pub fn written_is_meant()
+    ensures { WrittenIsMeant }
+{}

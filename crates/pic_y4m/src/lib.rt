@@ -1,0 +1,24 @@
+//! Pictures of the Y4M format (yuv4mpeg(5) of the mjpegtools), read and written.
+#![tactic(auto)]
+
+mod bytes;
+mod fault;
+mod frame;
+mod head;
+mod head_line;
+mod laws;
+mod line;
+mod parameters;
+mod reader;
+mod samples;
+mod values;
+mod writer;
+
+pub use fault::{PictureFault, PictureKind};
+pub use head::{Head, MAX_FRAMES, MAX_RATE_DEN, MAX_RATE_NUM};
+pub use laws::{head_is_read, next_is_first, pictures_are_read, written_is_meant, written_is_read};
+pub use reader::Y4mReader;
+pub use writer::{WriteEnd, Y4mWriter};
+
+#[cfg(test)]
+mod tests;

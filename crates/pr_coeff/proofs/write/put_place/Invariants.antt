@@ -1,0 +1,16 @@
+use Rattle.std.proofs.Common.{◌≡◌, ◌+◌, ◌≤◌, List, Bool, false, take}
+use Rattle.pw_bits.specs.Writing.{written, Writes}
+use Rattle.pr_coeff.specs.Component.{column}
+use Rattle.pr_coeff.specs.Writing.{Codes}
+use Rattle.pr_coeff.proofs.write.put_place.Given as goal
+
+abbrev pub invariant-loop-block : goal.invariant-loop-block
+invariant-loop-block g l = record {
+  words : List Bool;
+  codes : Codes l.fn.coding l.coding (take l.block-index (column l.blocks l.place)) words;
+  zeros : l.coding.zeros ≤ l.fn.coding.zeros + l.block-index;
+  writes : Writes (written (g.K.ByteSink.held l.fn.sink) (g.K.ByteSink.taken l.fn.sink) l.fn.writer.pending) (written (g.K.ByteSink.held l.sink) (g.K.ByteSink.taken l.sink) l.writer.pending) words;
+  usable : l.writer.spoiled ≡ false;
+  settled : g.K.ByteSink.settled l.fn.sink ≤ g.K.ByteSink.settled l.sink;
+  kept : g.K.ByteSink.faults l.sink ≡ g.K.ByteSink.faults l.fn.sink;
+}

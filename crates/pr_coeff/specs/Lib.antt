@@ -1,0 +1,4 @@
+pub mod Component
+pub mod Reading
+pub mod Writing
+pub mod Calls

@@ -1,0 +1,34 @@
+//! Laws of components. The functions do nothing; their contracts are the laws.
+
+ghost use Rattle.std.specs.Prelude.{◌≡◌, ◌↔◌, ◌⊎◌, ℕ, ◌*◌, ◌<◌, ◌≤◌, Bool, List, [], length, get_or, Ok, Err, pos, nat_abs};
+ghost use Rattle.pr_coeff.specs.Component.{Block, IsScan, Stands, places, component};
+ghost use Rattle.pr_coeff.specs.Reading.{Fault, component_at};
+ghost use Rattle.pr_coeff.specs.declared.scan.Scan.{Scan};
+
+/// Both scans have each place once.
+pub fn scans_have_each_place()
+    ensures { (scan : Scan) → IsScan (places scan) }
+{}
+
+/// Bits stand for blocks exactly where these blocks are read from them.
+pub fn component_is_read()
+    ensures { (scan : Scan) (l : List Bool) (blocks : List Block) (count : ℕ) → 0 < count → count ≤ 32 →
+        (component_at count (places scan) l ≡ Ok blocks) ↔ ((length blocks ≡ count) × Stands l blocks (places scan)) }
+{}
+
+/// Bits stand for exactly one list of so many blocks, or have a fault, and never both.
+pub fn one_list_or_fault()
+    ensures one { (scan : Scan) (l : List Bool) (a b : List Block) → 0 < length a → length a ≤ 32 → length b ≡ length a →
+        Stands l a (places scan) → Stands l b (places scan) → a ≡ b }
+    ensures some { (scan : Scan) (l : List Bool) (count : ℕ) → 0 < count → count ≤ 32 →
+        ((blocks : List Block) × (length blocks ≡ count) × Stands l blocks (places scan)) ⊎ ((fault : Fault) × (component_at count (places scan) l ≡ Err fault)) }
+    ensures not_both { (scan : Scan) (l : List Bool) (a : List Block) (fault : Fault) → length a ≤ 32 →
+        Stands l a (places scan) → component_at (length a) (places scan) l ≡ Err fault → ⊥ }
+{}
+
+/// Coefficients of magnitude at most 8,191 cost fewer than 57 bits each, all zeros that fill the last byte counted.
+pub fn components_are_short()
+    ensures { (scan : Scan) (blocks : List Block) → 0 < length blocks → length blocks ≤ 32 →
+        ((i place : ℕ) → nat_abs (get_or (get_or blocks i []) place (pos 0)) ≤ 8191) →
+        8 * length (component (places scan) blocks) < 57 * (64 * length blocks) }
+{}

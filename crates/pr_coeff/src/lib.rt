@@ -1,0 +1,19 @@
+//! The components of a slice, written and read: the coefficients of 1 to 32 blocks as the words of their
+//! DC differences and of their runs and levels, as in SMPTE RDD 36. No call takes memory.
+#![tactic(auto)]
+
+mod books;
+mod component;
+mod laws;
+mod read;
+mod scan;
+#[cfg(test)]
+mod tests;
+mod triple;
+mod write;
+
+pub use component::read_component;
+pub use laws::{component_is_read, components_are_short, one_list_or_fault, scans_have_each_place};
+pub use read::CoeffFault;
+pub use scan::{Block, Scan};
+pub use write::{component_length, write_component};

@@ -1,0 +1,17 @@
+-- Which errors of a call tell a fault of the bytes.
+use Rattle.std.specs.Prelude.{Option, None, Some, Bool, true, false, Result, Err}
+use Rattle.pw_outside.specs.Reading.{Fault}
+use Rattle.pr_head.specs.declared.fault.FrameKind.{FrameKind}
+use Rattle.pr_head.specs.declared.fault.FrameFault.{FrameFault}
+use Rattle.pr_head.specs.declared.fault.FrameFault.TheVariants as faults
+
+-- the fault that an error of reading tells
+abbrev pub told_fault : FrameFault → Option (Fault FrameKind)
+told_fault (faults.Bad kind place) = Some (record { kind = kind; place = place })
+told_fault faults.Failed = None
+told_fault faults.NoMemory = None
+
+-- whether the source failed
+abbrev pub is_failed : {X : Type 0} → Result X FrameFault → Bool
+is_failed (Err faults.Failed) = true
+is_failed _ = false

@@ -1,0 +1,9 @@
+pub mod Bytes
+pub mod Faults
+pub mod Header
+pub mod Picture
+pub mod Slice
+pub mod Own
+pub mod Steps
+pub mod Writing
+pub mod Laws
