@@ -4,8 +4,8 @@
 here=$(cd "$(dirname "$0")" && pwd) || exit 2
 program=$here/crates/workshop_main/out/workshop_main
 if [ ! -x "$program" ]; then
-    # With no words the program ends with a status of its own, so what counts is that it is there.
-    (cd "$here/crates/workshop_main" && rt run) >&2
+    # Building runs the program once, here on the example.
+    (cd "$here/crates/workshop_main" && rt run -- plan "$here/examples/two_slices.pwtb") >&2
     [ -x "$program" ] || { echo "workshop.sh: the program was not built" >&2; exit 2; }
 fi
 exec "$program" "$@"
