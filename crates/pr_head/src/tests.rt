@@ -201,6 +201,29 @@ fn reads_headers_without_matrices(rt: HostRuntime) {
     }
 }
 
+// the same frame in 50 bytes: a header of 20 bytes that loads no matrices
+fn frame_without_matrices() -> [u8; 50] {
+    let mut bytes = [0u8; 50];
+    bytes[..28].copy_from_slice(&START);
+    bytes[28..].copy_from_slice(&PICTURE);
+    bytes[3] = 50;
+    bytes[9] = 20;
+    bytes[27] = 0;
+    bytes
+}
+
+#[test]
+fn reads_the_grey_frame_without_matrices(rt: HostRuntime) {
+    match opened(&rt, rt.alloc(), &frame_without_matrices(), u64::MAX) {
+        Ok((header, taken, size)) => {
+            assert_eq!(rt; (taken, size), (28, 50));
+            assert_eq!(rt; (header.width, header.height), (16, 16));
+            assert!(rt; is_flat(&header.luma) && is_flat(&header.chroma_weights));
+        }
+        Err(error) => panic!(rt; "{error:?}"),
+    }
+}
+
 // a header of this form
 fn form(rt: &impl Abort, width: u16, height: u16, interlace: Interlace) -> FrameHeader
     ensures { HasLayoutSize result }
