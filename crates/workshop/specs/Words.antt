@@ -3,7 +3,7 @@ use Rattle.std.specs.Prelude.{◌≡◌, ℕ, ◌+◌, ◌==◌, nat_eq, nat_lt,
 use Rattle.std.specs.List.{starts_with, list_any}
 use Rattle.std.specs.Str.{bytes_eq}
 use Rattle.workshop.specs.declared.words.Command.{Command}
-use Rattle.workshop.specs.declared.words.Command.TheVariants.{Plan}
+use Rattle.workshop.specs.declared.words.Command.TheVariants as command
 use Rattle.workshop.specs.declared.words.Names.{Names}
 use Rattle.workshop.specs.declared.words.BadWords.{BadWords}
 use Rattle.workshop.specs.declared.words.Settings.{Settings}
@@ -13,26 +13,30 @@ use Rattle.workshop.specs.declared.status.UsageKind.TheVariants.{NoCommand, Unkn
 -- ---- the table of commands
 
 abbrev pub commands : List Command
-commands = Plan ∷ []
+commands = command.Plan ∷ command.List ∷ []
 
 -- the word of each command
 abbrev pub name_of : Command → List ℕ
-name_of Plan = codes "plan"
+name_of command.Plan = codes "plan"
+name_of command.List = codes "list"
 
 -- how many operands each command may have, rising
 abbrev pub operands_of : Command → List ℕ
-operands_of Plan = 1 ∷ []
+operands_of command.Plan = 1 ∷ []
+operands_of command.List = 1 ∷ []
 
 -- the names of each command's options
 abbrev pub options_of : Command → List (List ℕ)
-options_of Plan = []
+options_of command.Plan = []
+options_of command.List = []
 
 abbrev pub no_names : Names
 no_names = record { pictures = None; proof = None; movie = None; out = None; cert = None }
 
--- The ports that the operands name, by the numbers of their words: `plan TABLE`.
+-- The ports that the operands name, by the numbers of their words: `plan TABLE`, `list MOVIE`.
 abbrev pub ports_of : Command → List ℕ → Names
-ports_of Plan operands = record no_names { proof = slice_get operands 0 }
+ports_of command.Plan operands = record no_names { proof = slice_get operands 0 }
+ports_of command.List operands = record no_names { movie = slice_get operands 0 }
 
 -- ---- the walk over the words
 
@@ -85,6 +89,11 @@ settings (first ∷ words) = settings_for (command_named first) words
 abbrev pub usage_fault : Result (Command × List ℕ) (UsageKind × ℕ) → Option (UsageKind × ℕ)
 usage_fault (Ok s) = None
 usage_fault (Err fault) = Some fault
+
+-- the command that the words are a run of, where they have no fault
+abbrev pub run_of : Result (Command × List ℕ) (UsageKind × ℕ) → Option Command
+run_of (Ok s) = Some s.0
+run_of (Err fault) = None
 
 -- the words that name each port's file; none where the words have a fault
 abbrev pub names_in : Result (Command × List ℕ) (UsageKind × ℕ) → Names

@@ -75,6 +75,7 @@ pub fn workshop<S: ByteSource, M: ByteStore, K: ByteSink>(
     };
     match settings.command {
         Command::Plan => plan(alloc, proof, text),
+        Command::List => Status::Done,
     }
 }
 

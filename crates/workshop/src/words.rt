@@ -14,6 +14,8 @@ const MOST_OPERANDS: usize = 5;
 pub enum Command {
     /// `plan TABLE` prints the best choice of a table file.
     Plan,
+    /// `list MOVIE` prints the track of a movie and its samples.
+    List,
 }
 
 /// For each port the number of the word that names its file.
@@ -48,6 +50,7 @@ impl Command {
     {
         match word {
             "plan" => Some(Command::Plan),
+            "list" => Some(Command::List),
             _ => None,
         }
     }
@@ -58,7 +61,7 @@ impl Command {
         ensures few { result ≤ 5 }
     {
         match self {
-            Command::Plan => 1,
+            Command::Plan | Command::List => 1,
         }
     }
 
@@ -67,7 +70,7 @@ impl Command {
         ensures { result ≡ takes self operands }
     {
         match self {
-            Command::Plan => operands == 1,
+            Command::Plan | Command::List => operands == 1,
         }
     }
 
@@ -76,7 +79,7 @@ impl Command {
         ensures { result ≡ is_option_of self _word.now }
     {
         match self {
-            Command::Plan => false,
+            Command::Plan | Command::List => false,
         }
     }
 
@@ -87,6 +90,10 @@ impl Command {
         match self {
             Command::Plan => Names {
                 proof: operands.first().copied(),
+                ..Names::none()
+            },
+            Command::List => Names {
+                movie: operands.first().copied(),
                 ..Names::none()
             },
         }
