@@ -1,0 +1,10 @@
+//! The sample tables of a QuickTime track, read and written.
+#![tactic(auto)]
+
+mod fault;
+mod runs;
+mod window;
+mod rows;
+
+pub use fault::{MovieFault, MovieKind};
+pub use runs::{ChunkRun, Sample, TimeRun};
