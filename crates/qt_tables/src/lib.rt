@@ -2,6 +2,7 @@
 #![tactic(auto)]
 
 mod fault;
+mod judging;
 mod runs;
 mod window;
 mod rows;
