@@ -33,17 +33,17 @@ bad_size at = bad tt at
 -- the atom at a place with a head and a whole of so many bytes; a bad size where it is smaller than its head or passes the end
 abbrev pub framed : (kind : List ℕ) → (at end head size : ℕ) → Sized Step
 framed kind at end head size =
-  if nat_lt size head || nat_lt (end - at) size then bad_size at
-  else Ok (steps.Atom (record { kind = kind; at = at; body = at + head; end = at + size }))
+    if nat_lt size head || nat_lt (end - at) size then bad_size at
+    else Ok (steps.Atom (record { kind = kind; at = at; body = at + head; end = at + size }))
 
 -- What stands at a place in front of an end: an atom, or the end of the walk.
 unfoldable pub atom_at : List ℕ → (at end : ℕ) → (top : Bool) → Sized Step
 atom_at file at end top =
-  let size = number_in w32 file at in
-  if nat_lt (end - at) 8 then Ok steps.End
-  else (if size == 0 then (if top then framed (kind_in file at) at end 8 (end - at) else Ok steps.End)
-  else (if size == 1 then (if nat_lt (end - at) 16 then bad_size at else framed (kind_in file at) at end 16 (number_in w64 file (at + 8)))
-  else framed (kind_in file at) at end 8 size))
+    let size = number_in w32 file at in
+    if nat_lt (end - at) 8 then Ok steps.End
+    else (if size == 0 then (if top then framed (kind_in file at) at end 8 (end - at) else Ok steps.End)
+    else (if size == 1 then (if nat_lt (end - at) 16 then bad_size at else framed (kind_in file at) at end 16 (number_in w64 file (at + 8)))
+    else framed (kind_in file at) at end 8 size))
 
 -- ---- a walk from atom to atom
 

@@ -1,3 +1,2 @@
 pub mod Atoms
 pub mod Written
-pub mod Filling

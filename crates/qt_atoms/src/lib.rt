@@ -2,7 +2,6 @@
 #![tactic(auto)]
 
 mod atom;
-mod filling;
 mod next;
 mod walking;
 mod writer;

@@ -7,8 +7,7 @@ ghost use Rattle.pw_outside.specs.Reading.{Answers, Told};
 ghost use Rattle.qt_atoms.specs.Atoms.{bytes_in, number_in, kind_in, framed, atom_at, told_fault, is_failed, StartsAt};
 
 use crate::atom::{Atom, AtomFault, Step};
-use crate::filling::fill_at;
-use pw_outside::ByteStore;
+use pw_outside::{ByteStore, fill_at};
 
 /// The `N` bytes at a place, which the store has, of the head of the atom at `at`.
 fn piece_of<M: ByteStore, const N: usize>(

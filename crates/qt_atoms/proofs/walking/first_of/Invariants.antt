@@ -9,7 +9,7 @@ invariant-walk g l = record {
   ends : l.place ≤ l.end;
   value : Told (g.M.ByteStore.bytes l.initial.store) (λ file. first_in (is_one_of l.kinds) (walk file l.place l.end l.top) ≡ first_in (is_one_of l.kinds) (walk file l.at l.end l.top));
   bytes : g.M.ByteStore.bytes l.store ≡ g.M.ByteStore.bytes l.initial.store;
-  cause : g.M.ByteStore.faults l.store ≡ g.M.ByteStore.faults l.initial.store
+  cause : g.M.ByteStore.faults l.store ≡ g.M.ByteStore.faults l.initial.store;
 }
 
 abbrev pub decreases-walk : goal.decreases-walk
