@@ -62,3 +62,44 @@ impl<M: ByteStore> ByteSource for Span<'_, M> {
         Ok(count)
     }
 }
+
+#[cfg(test)]
+mod tests {
+    use super::*;
+    use crate::{MemStore, fill};
+
+    #[test]
+    fn gives_a_part_of_a_store(rt: HostRuntime) {
+        for (step, at, end, want) in [
+            (1, 0, 6, 6),
+            (4, 2, 5, 3),
+            (4096, 4, 6, 2),
+            (2, 3, 3, 0),
+            (3, 4, 99, 2),
+        ] {
+            let bytes = Vec::from_array(rt.alloc(), *b"moov\x00\x01").expect(&rt, "memory");
+            let mut store = MemStore::new(bytes, step, Vec::new(rt.alloc()));
+            let mut span = Span::new(&mut store, at, end);
+            let mut piece = [0u8; 8];
+            assert_eq!(rt; fill(&mut span, &mut piece), Ok(want), "from {at} to {end}");
+            let there = b"moov\x00\x01".get(at as usize..).unwrap_or(&[]);
+            assert!(rt;
+                there.starts_with(piece.get(..want).unwrap_or(&[])),
+                "from {at} to {end}"
+            );
+        }
+    }
+
+    #[test]
+    fn a_part_fails_where_its_store_does(rt: HostRuntime) {
+        let bytes = Vec::from_array(rt.alloc(), *b"moov\x00\x01").expect(&rt, "memory");
+        let fails = Vec::from_array(rt.alloc(), [1]).expect(&rt, "memory");
+        let mut store = MemStore::new(bytes, 2, fails);
+        let mut span = Span::new(&mut store, 1, 5);
+        let mut piece = [0u8; 8];
+        assert_eq!(rt; span.read(&mut piece), Ok(2));
+        assert_eq!(rt; span.read(&mut piece), Err(Failed));
+        assert_eq!(rt; span.read(&mut piece), Ok(2));
+        assert_eq!(rt; span.read(&mut piece), Ok(0));
+    }
+}

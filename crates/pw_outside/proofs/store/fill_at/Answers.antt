@@ -1,4 +1,4 @@
-use Rattle.std.proofs.Common.{rules, ◌∙◌}
+use Rattle.std.proofs.Common.{rules}
 use Rattle.pw_outside.proofs.Loops.{GivenAt-piece}
 use Rattle.pw_outside.proofs.store.fill_at.Goals as goal
 
