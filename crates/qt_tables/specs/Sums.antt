@@ -1,13 +1,13 @@
 -- Running sums over tables.
-use Rattle.std.specs.Prelude.{◌≡◌, ℕ, zero, suc, ◌+◌, ◌-◌, ◌≤◌, min, List, [], ◌∷◌, length, take, sum_by, Option, Some, None, slice_get, slice_index}
+use Rattle.std.specs.Prelude.{◌≡◌, ℕ, zero, suc, ◌+◌, ◌-◌, ◌<◌, ◌≤◌, min, List, [], ◌∷◌, length, take, sum_by, Option, Some, None, slice_get, slice_index}
 use Rattle.qt_tables.specs.declared.runs.TimeRun.{TimeRun}
 use Rattle.qt_tables.specs.declared.runs.ChunkRun.{ChunkRun}
 use Rattle.qt_tables.specs.Samples.{Tables, chunks, held_by}
 
--- the first sum is that of nothing, the last that of all n items
+-- what is in front of each of n items, and of all of them
 pub record AreSums (n : ℕ) (before : ℕ → ℕ) (sums : List ℕ) : Type 0 where
   pub count : length sums ≡ n + 1
-  pub each : (k : ℕ) → k ≤ n → slice_index sums k ≡ before k
+  pub each : (k : ℕ) → k < n + 1 → slice_index sums k ≡ before k
 
 -- the bytes of the first k samples
 abbrev pub bytes_before : (sizes : List ℕ) → ℕ → ℕ

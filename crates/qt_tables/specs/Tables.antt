@@ -1,5 +1,5 @@
 -- The sample tables of a track, read from a file (QuickTime File Format, sample table atoms).
-use Rattle.std.specs.Prelude.{◌≡◌, ℕ, zero, suc, ◌+◌, ◌-◌, ◌*◌, ◌^◌, ◌<◌, ◌≤◌, Bool, true, false, not, List, [], ◌∷◌, length, Option, Some, None, Result, Ok, Err, nat_lt, nat_le, ◌==◌, ◌&&◌, ◌||◌, if◌then◌else◌, codes, sum_by, replicate}
+use Rattle.std.specs.Prelude.{◌≡◌, ℕ, zero, suc, ◌+◌, ◌-◌, ◌*◌, ◌^◌, ◌<◌, ◌≤◌, Bool, true, false, not, List, [], ◌∷◌, length, Option, Some, None, Result, Ok, Err, nat_lt, nat_le, ◌==◌, ◌&&◌, ◌||◌, if◌then◌else◌, codes, sum_by, replicate, slice_index_or}
 use Rattle.std.specs.List.{list_any, All}
 use Rattle.std.specs.Int.{Width, w8, w32, w64}
 use Rattle.pw_outside.specs.Reading.{◌>>=◌, bad, refuse}
@@ -121,6 +121,12 @@ tables_in file stbl mdia = do
   _ ← refuse (not (held_by (chunks runs offsets) == length sizes)) TablesDisagree stsz.at
   Ok (record { timescale = timescale; sizes = sizes; times = times; runs = runs; offsets = offsets })
 
+-- Runs of chunks begin at chunk 1 and rise, and none has empty chunks.
+pub record AreRuns (runs : List ChunkRun) : Type 0 where
+  pub begins : begins_at_1 runs ≡ true
+  pub rises : (k : ℕ) (d : ChunkRun) → k + 1 < length runs → (slice_index_or runs k d).first < (slice_index_or runs (k + 1) d).first
+  pub filled : All (λ run. 0 < run.samples) runs
+
 -- Tables within the limits, which agree on the number of samples.
 pub record AreTables (t : Tables) : Type 0 where
   pub timescale : 1 ≤ t.timescale
@@ -129,7 +135,6 @@ pub record AreTables (t : Tables) : Type 0 where
   pub few_runs : length t.runs ≤ 1000000
   pub few_chunks : length t.offsets ≤ 1000000
   pub near : All (λ offset. offset < 2 ^ 62) t.offsets
-  pub begins : begins_at_1 t.runs ≡ true
-  pub rises : (descriptions : ℕ) × (is_in_order descriptions 0 t.runs ≡ true)
+  pub runs : AreRuns t.runs
   pub timed : sum_by (λ r. r.count) t.times ≡ length t.sizes
   pub chunked : held_by (chunks t.runs t.offsets) ≡ length t.sizes

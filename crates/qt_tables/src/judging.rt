@@ -7,7 +7,7 @@ ghost use Rattle.pw_outside.specs.Ports.{CountsFault};
 ghost use Rattle.pw_outside.specs.Reading.{Answers, Told};
 ghost use Rattle.qt_atoms.specs.Atoms.{number_in, LiesIn};
 ghost use Rattle.qt_tables.specs.Faults.{told_fault, is_failed};
-ghost use Rattle.qt_tables.specs.Tables.{table_in, count_in, timescale_in, sizes_in, times_in, begins_at_1, is_in_order, runs_in, descriptions_of, offsets_in, offsets_table_in};
+ghost use Rattle.qt_tables.specs.Tables.{table_in, count_in, timescale_in, sizes_in, times_in, begins_at_1, is_in_order, AreRuns, runs_in, descriptions_of, offsets_in, offsets_table_in};
 
 use crate::fault::{MovieFault, MovieKind, bad};
 use crate::rows::{chunk_runs_of, numbers_of, places32_of, places64_of, repeated, time_runs_of};
@@ -49,6 +49,7 @@ fn number_at<M: ByteStore>(store: &mut M, place: u64) -> Result<u32, MovieFault>
 }
 
 /// The first child of that kind, without which a table is missing.
+#[tactic(auto, unfolding(pw_outside::specs::Reading::bind))]
 pub(crate) fn table_of<M: ByteStore>(
     store: &mut M,
     parent: &Atom,
@@ -68,6 +69,7 @@ pub(crate) fn table_of<M: ByteStore>(
 }
 
 /// The first table of places.
+#[tactic(auto, unfolding(pw_outside::specs::Reading::bind))]
 pub(crate) fn offsets_table_of<M: ByteStore>(
     store: &mut M,
     stbl: &Atom,
@@ -223,7 +225,7 @@ pub(crate) fn runs_of<M: ByteStore>(
     requires inside { Told (M.bytes store.old) (λ file. stsc.now.end ≤ length file) }
     ensures value { Told (M.bytes store.old) (λ file. Answers told_fault (λ v. v.items) result (runs_in file stsc.now descriptions)) }
     ensures few { IfOk result (λ v. length v.items ≤ 1000000) }
-    ensures good { IfOk result (λ v. (begins_at_1 v.items && is_in_order descriptions 0 v.items) ≡ true) }
+    ensures good { IfOk result (λ v. AreRuns v.items) }
     ensures bytes { M.bytes store.new ≡ M.bytes store.old }
     ensures cause { CountsFault (M.faults store.old) (M.faults store.new) (is_failed result) }
 {

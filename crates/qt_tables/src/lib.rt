@@ -4,6 +4,7 @@
 mod fault;
 mod judging;
 mod runs;
+mod sums;
 mod window;
 mod rows;
 
