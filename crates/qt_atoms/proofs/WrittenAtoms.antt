@@ -1,0 +1,112 @@
+-- Atoms and numbers that were written are read.
+use Rattle.std.proofs.Common.{◌≡◌, ℕ, ◌+◌, ◌-◌, ◌≤◌, ◌<◌, ◌^◌, Bool, true, false, nat_lt, nat_eq, List, [], ◌∷◌, ◌++◌, length, take, drop, Result, Ok, Err, refl, sym, ap, ◌∙◌, arith, append_assoc}
+use Rattle.std.specs.Prelude.{◌==◌}
+use Rattle.std.specs.Int.{Width, w32, w64, byte_len, to_be_bytes, from_be_bytes}
+use Rattle.std.proofs.lemmas.Bool.Decides.{nat_tests}
+use Rattle.std.proofs.lemmas.List.{take_at, drop_at, drop-drop}
+use Rattle.std.proofs.lemmas.Nat.{from_be_bytes-to_be_bytes_4, from_be_bytes-to_be_bytes_8}
+use Rattle.qt_atoms.specs.declared.atom.Step.{Step}
+use Rattle.qt_atoms.specs.declared.atom.Step.TheVariants as steps
+use Rattle.qt_atoms.specs.Atoms.{number_in, kind_in, framed, atom_at}
+use Rattle.qt_atoms.specs.Written.{atom, ended, begun_atom, with_number, Node, atom_of, IsNode, placed, rows}
+use Rattle.std.proofs.Common.{Option, None}
+use Rattle.std.specs.List.{flat_map, AllByRecursion}
+use Rattle.qt_atoms.specs.declared.atom.Atom.{Atom}
+use Rattle.qt_atoms.specs.Atoms.{Walk, Sized, and_then, walk, walk_over, StartsAt, LiesIn}
+use Rattle.qt_atoms.proofs.Walks.{walk-none, walk-step, walk-on}
+use Rattle.std.proofs.Common.{length-append}
+
+framed-fits : (kind : List ℕ) (at end size : ℕ) → 8 ≤ size → size ≤ end - at → framed kind at end 8 size ≡ Ok (steps.Atom (record { kind = kind; at = at; body = at + 8; end = at + size }))
+framed-fits kind at end size le fits =
+    let a : nat_lt size 8 ≡ false = grind (arith, nat_tests) in
+    let b : nat_lt (end - at) size ≡ false = grind (arith, nat_tests) in
+    rw (a, b) refl
+
+of-size : (file : List ℕ) (at end : ℕ) (top : Bool) (size : ℕ) → number_in w32 file at ≡ size → 8 ≤ size → size ≤ end - at → atom_at file at end top ≡ framed (kind_in file at) at end 8 size
+unfolding atom_at
+of-size file at end top size e le fits =
+    let a : nat_lt (end - at) 8 ≡ false = grind (arith, nat_tests) in
+    let b : nat_eq size 0 ≡ false = grind (arith, nat_tests) in
+    let c : nat_eq size 1 ≡ false = grind (arith, nat_tests) in
+    rw (e, a, b, c) refl
+
+-- an atom that was written is there
+pub atom_stands : (front kind body behind : List ℕ) (end : ℕ) (top : Bool) → length kind ≡ 4 → length body + 8 < 2 ^ 32 → length front + (length body + 8) ≤ end
+    → atom_at (front ++ (atom kind body ++ behind)) (length front) end top
+    ≡ Ok (steps.Atom (record { kind = kind; at = length front; body = length front + 8; end = length front + (length body + 8) }))
+atom_stands front kind body behind end top four small fits =
+    let file = front ++ (atom kind body ++ behind) in
+    let here : drop (length front) file ≡ atom kind body ++ behind = drop_at front (atom kind body ++ behind) (length front) refl in
+    let size : number_in w32 file (length front) ≡ length body + 8 = ap (λ l. from_be_bytes w32 (take 4 l)) here ∙ from_be_bytes-to_be_bytes_4 (length body + 8) small in
+    let kind_is : kind_in file (length front) ≡ kind =
+    ap (take 4) (sym (drop-drop 4 (length front) file) ∙ ap (drop 4) here) ∙ ap (take 4) (append_assoc kind body behind) ∙ take_at kind (body ++ behind) 4 four in
+    of-size file (length front) end top (length body + 8) size (omega arith) (omega arith)
+    ∙ framed-fits (kind_in file (length front)) (length front) end (length body + 8) (omega arith) (omega arith)
+    ∙ ap (λ k. Ok (steps.Atom (record { kind = k; at = length front; body = length front + 8; end = length front + (length body + 8) }))) kind_is
+
+-- an atom that was begun, filled and ended
+pub ended_atom : (front kind body : List ℕ) → length kind ≡ 4 → ended (begun_atom front kind ++ body) (length front) ≡ front ++ atom kind body
+ended_atom front kind body four =
+    let rest = 0 ∷ 0 ∷ 0 ∷ 0 ∷ (kind ++ body) in
+    let whole : begun_atom front kind ++ body ≡ front ++ rest = append_assoc front (0 ∷ 0 ∷ 0 ∷ 0 ∷ kind) body in
+    let len : length (front ++ rest) - length front ≡ length body + 8 = omega (arith, length-append front rest, length-append kind body) in
+    let behind : drop (length front + 4) (front ++ rest) ≡ kind ++ body = sym (drop-drop 4 (length front) (front ++ rest)) ∙ ap (drop 4) (drop_at front rest (length front) refl) in
+    ap (λ l. ended l (length front)) whole ∙ rw (len, behind, take_at front rest (length front) refl) refl
+
+-- a walk over atoms that were written one behind the other meets them, and nothing else
+pub walk_written : (nodes : List Node) (front behind : List ℕ) (end : ℕ) (top : Bool) → AllByRecursion IsNode nodes → end ≡ length front + length (flat_map atom_of nodes)
+    → walk (front ++ (flat_map atom_of nodes ++ behind)) (length front) end top ≡ record { atoms = placed (length front) nodes; bad = None }
+walk_written [] front behind end top h e = walk-none (front ++ behind) (length front) end top (omega (arith, e))
+walk_written (n ∷ nodes) front behind end top h e =
+    let A = atom_of n in
+    let rest = flat_map atom_of nodes in
+    let F = front ++ (A ++ (rest ++ behind)) in
+    let G = (front ++ A) ++ (rest ++ behind) in
+    let at = length front in
+    let a : Atom = record { kind = n.kind; at = at; body = at + 8; end = at + (length n.body + 8) } in
+    let lenA : length A ≡ length n.body + 8 = omega (arith, length-append n.kind n.body, h.0.kind) in
+    let len : length (front ++ A) ≡ at + (length n.body + 8) = omega (arith, length-append front A, lenA) in
+    let all : length (A ++ rest) ≡ length A + length rest = length-append A rest in
+    let inside : at + (length n.body + 8) ≤ end = omega (arith, e, all, lenA) in
+    let e0 : front ++ ((A ++ rest) ++ behind) ≡ F = ap (λ l. front ++ l) (append_assoc A rest behind) in
+    let e1 : F ≡ G = sym (append_assoc front A (rest ++ behind)) in
+    let there = atom_stands front n.kind n.body (rest ++ behind) end top h.0.kind h.0.size inside in
+    let first = walk-step F at end top (omega (arith, inside)) ∙ ap (λ r. and_then r (λ b. walk_over F end top ((end - at) - 1) ((b.end - b.at) - 1))) there in
+    let lies : LiesIn at end a = record { begins = omega arith; head = omega arith; within = omega arith; ends = inside } in
+    let starts : StartsAt at end (steps.Atom a) = (refl, lies) in
+    let on = walk-on F at end top a (omega (arith, inside)) starts in
+    let ih = walk_written nodes (front ++ A) behind end top h.1 (omega (arith, e, all, lenA, len)) in
+    let others : walk F (at + (length n.body + 8)) end top ≡ record { atoms = placed (at + (length n.body + 8)) nodes; bad = None } =
+    ap (λ f. walk f (at + (length n.body + 8)) end top) e1
+    ∙ ap (λ p. walk G p end top) (sym len) ∙ ih
+    ∙ ap (λ p. (let w : Walk = record { atoms = placed p nodes; bad = None } in w)) len in
+    ap (λ f. walk f at end top) e0 ∙ first ∙ ap (λ (w : Walk). (let v : Walk = record { atoms = a ∷ w.atoms; bad = w.bad } in v)) (on ∙ others)
+
+-- numbers of a width that were written one behind the other are read, where one is
+rows-of-width : (w : Width) (Fits : ℕ → Type 0) → ((n : ℕ) (behind : List ℕ) → Fits n → from_be_bytes w (take (byte_len w) (to_be_bytes w n ++ behind)) ≡ n) → ((n : ℕ) → length (to_be_bytes w n) ≡ byte_len w)
+    → (numbers front behind : List ℕ) → AllByRecursion Fits numbers
+    → rows (number_in w (front ++ (flat_map (to_be_bytes w) numbers ++ behind))) (length front) (byte_len w) (length numbers) ≡ numbers
+rows-of-width w Fits is-read width [] front behind h = refl
+rows-of-width w Fits is-read width (n ∷ numbers) front behind h =
+    let A = to_be_bytes w n in
+    let rest = flat_map (to_be_bytes w) numbers in
+    let F = front ++ ((A ++ rest) ++ behind) in
+    let G = (front ++ A) ++ (rest ++ behind) in
+    let e : F ≡ G = ap (λ l. front ++ l) (append_assoc A rest behind) ∙ sym (append_assoc front A (rest ++ behind)) in
+    let len : length (front ++ A) ≡ length front + byte_len w = length-append front A ∙ ap (λ m. length front + m) (width n) in
+    let here : number_in w F (length front) ≡ n = ap (λ l. from_be_bytes w (take (byte_len w) l)) (drop_at front ((A ++ rest) ++ behind) (length front) refl ∙ append_assoc A rest behind) ∙ is-read n (rest ++ behind) h.0 in
+    let others : rows (number_in w F) (length front + byte_len w) (byte_len w) (length numbers) ≡ numbers =
+    ap (λ f. rows (number_in w f) (length front + byte_len w) (byte_len w) (length numbers)) e
+    ∙ ap (λ p. rows (number_in w G) p (byte_len w) (length numbers)) (sym len)
+    ∙ rows-of-width w Fits is-read width numbers (front ++ A) behind h.1 in
+    ap (λ m. m ∷ rows (number_in w F) (length front + byte_len w) (byte_len w) (length numbers)) here ∙ ap (λ l. n ∷ l) others
+
+-- numbers of 32 bits that were written one behind the other are read
+pub rows_written : (numbers front behind : List ℕ) → AllByRecursion (λ n. n < 2 ^ 32) numbers
+    → rows (number_in w32 (front ++ (flat_map (to_be_bytes w32) numbers ++ behind))) (length front) 4 (length numbers) ≡ numbers
+rows_written = rows-of-width w32 (λ n. n < 2 ^ 32) (λ n behind h. from_be_bytes-to_be_bytes_4 n h) (λ n. refl)
+
+-- numbers of 64 bits that were written one behind the other are read
+pub rows_written_long : (numbers front behind : List ℕ) → AllByRecursion (λ n. n < 2 ^ 64) numbers
+    → rows (number_in w64 (front ++ (flat_map (to_be_bytes w64) numbers ++ behind))) (length front) 8 (length numbers) ≡ numbers
+rows_written_long = rows-of-width w64 (λ n. n < 2 ^ 64) (λ n behind h. from_be_bytes-to_be_bytes_8 n h) (λ n. refl)
