@@ -1,0 +1,68 @@
+-- What listing a movie prints and answers. Our own definitions.
+use Rattle.std.specs.Prelude.{◌≡◌, ℕ, ◌+◌, Bool, true, false, List, [], ◌∷◌, ◌++◌, length, Result, Ok, Err, codes}
+use Rattle.std.specs.Fmt.{decimal}
+use Rattle.pw_outside.specs.Reading.{Fault}
+use Rattle.pw_outside.specs.Writing.{SinkState, Puts, PutsFront}
+use Rattle.qt_tables.specs.declared.fault.MovieKind.{MovieKind}
+use Rattle.qt_tables.specs.declared.runs.Sample.{Sample}
+use Rattle.qt_tables.specs.Samples.{samples}
+use Rattle.qt_movie.specs.Movie.{Movie}
+use Rattle.run_look.specs.declared.end.LookEnd.{LookEnd}
+use Rattle.run_look.specs.declared.end.LookEnd.TheVariants as ends
+
+-- ---- the text
+
+-- the line of the track: its number among the movie's tracks, and its first description
+abbrev pub track_line : Movie → List ℕ
+track_line m = codes "track " ++ decimal m.number ++ codes " timescale " ++ decimal m.tables.timescale ++ codes " kind " ++ m.kind
+    ++ codes " width " ++ decimal m.width ++ codes " height " ++ decimal m.height ++ codes " samples " ++ decimal (length m.tables.sizes) ++ codes "\n"
+
+-- the line of the sample of this number
+abbrev pub sample_line : ℕ → Sample → List ℕ
+sample_line number s = codes "sample " ++ decimal number ++ codes " at " ++ decimal s.at ++ codes " size " ++ decimal s.size
+    ++ codes " duration " ++ decimal s.duration ++ codes "\n"
+
+-- the lines of samples, whose numbers begin with this one
+abbrev pub sample_lines : ℕ → List Sample → List ℕ
+sample_lines number [] = []
+sample_lines number (s ∷ ss) = sample_line number s ++ sample_lines (number + 1) ss
+
+-- a line for the track, and one for each of its samples
+abbrev pub list_text : Movie → List ℕ
+list_text m = track_line m ++ sample_lines 0 (samples m.tables)
+
+-- ---- the answer, by what reading the movie gives
+
+abbrev pub is_done : LookEnd → Bool
+is_done ends.Done = true
+is_done _ = false
+
+abbrev pub is_read_fault : LookEnd → Bool
+is_read_fault ends.ReadFault = true
+is_read_fault _ = false
+
+abbrev pub is_write_fault : LookEnd → Bool
+is_write_fault ends.WriteFault = true
+is_write_fault _ = false
+
+-- the answer where no port fails and memory lasts
+abbrev pub list_end : Result Movie (Fault MovieKind) → LookEnd
+list_end (Err f) = ends.BadMovie f.kind f.place
+list_end (Ok m) = ends.Done
+
+-- The answer is this one, unless a port failed or memory ran out.
+abbrev pub AnswersUnlessOutside : LookEnd → LookEnd → Type 0
+AnswersUnlessOutside ends.NoMemory end = Unit {0}
+AnswersUnlessOutside ends.ReadFault end = Unit {0}
+AnswersUnlessOutside ends.WriteFault end = Unit {0}
+AnswersUnlessOutside answer end = answer ≡ end
+
+-- The movie's text was appended.
+abbrev pub PrintsList : Result Movie (Fault MovieKind) → SinkState → SinkState → Type 0
+PrintsList (Err f) before after = ⊥
+PrintsList (Ok m) before after = Puts before after (list_text m)
+
+-- The first bytes of the movie's text were appended; of a file that is no such movie none.
+abbrev pub PrintsListFront : Result Movie (Fault MovieKind) → SinkState → SinkState → Type 0
+PrintsListFront (Err f) before after = after ≡ before
+PrintsListFront (Ok m) before after = PutsFront before after (list_text m)

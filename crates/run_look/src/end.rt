@@ -1,0 +1,18 @@
+//! How a run that looks at files ended.
+
+use qt_tables::MovieKind;
+
+/// How a run ended.
+#[derive(Clone, Copy, Debug, PartialEq, Eq)]
+pub enum LookEnd {
+    /// The whole run was done.
+    Done,
+    /// Memory ran out.
+    NoMemory,
+    /// A port that the run reads failed.
+    ReadFault,
+    /// A port that the run writes failed.
+    WriteFault,
+    /// The movie has this first fault, at this byte.
+    BadMovie { kind: MovieKind, place: u64 },
+}
