@@ -1,0 +1,11 @@
+pub mod Fronts
+pub mod Grown
+pub mod Asked
+pub mod Exists
+pub mod Kept
+pub mod Firsts
+pub mod Leading
+pub mod Produced
+pub mod OneBest
+pub mod Counts
+pub mod Picks

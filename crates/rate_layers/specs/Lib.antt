@@ -1,0 +1,6 @@
+pub mod Layers
+pub mod First
+pub mod Multiplier
+pub mod Laws
+pub mod Bound
+pub mod Merge
