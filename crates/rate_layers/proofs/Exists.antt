@@ -9,7 +9,7 @@ use Rattle.rate_table.specs.declared.entry.Pair.{Pair}
 use Rattle.rate_table.specs.Table.{Table, IsChoice, pair_of, least_size}
 use Rattle.rate_table.specs.Pairs.{Dominates, joined, CanFit, RisesAndFalls}
 use Rattle.rate_layers.specs.Layers.{Reaches, IsFront, IsFull}
-use Rattle.rate_table.proofs.Lists.{contains_cases, contains_head, contains_tail, contains_none}
+use Rattle.rate_table.proofs.Lists.{contains_cases, contains_head, contains_tail, contains_none, contains_map, map_contains, contains_flat, flat_contains}
 use Rattle.rate_layers.proofs.Fronts.{dominates_self, dominates_trans, first_below, front_layer, one_layer, same_pair, falls_tail}
 
 build : (q : Pair) (ps : List Pair) → RisesAndFalls ps → ((x : Pair) → Contains ps x → (q.size < x.size) × (x.error < q.error)) → RisesAndFalls (q ∷ ps)
@@ -94,26 +94,6 @@ front_of (p ∷ ps) =
             (λ i. let g = f.1.covers x i in let k = u.keeps g.0 g.1 in (k.0, k.1, dominates_trans k.0 g.0 x k.2 g.2)) (contains_cases p ps x c);
       },
     )
-
-pub contains_map : {X Y : Type 0} (f : X → Y) (xs : List X) (y : Y) → Contains (map f xs) y → (x : X) × Contains xs x × (f x ≡ y)
-contains_map f [] y c = absurd (contains_none y c)
-contains_map f (x ∷ xs) y c =
-    ⊎_elim (λ e. (x, contains_head x xs, e)) (λ i. let r = contains_map f xs y i in (r.0, contains_tail x xs r.0 r.1, r.2)) (contains_cases (f x) (map f xs) y c)
-
-pub map_contains : {X Y : Type 0} (f : X → Y) (xs : List X) (x : X) → Contains xs x → Contains (map f xs) (f x)
-map_contains f [] x c = absurd (contains_none x c)
-map_contains f (z ∷ xs) x c =
-    ⊎_elim (λ e. subst (λ w. Contains (f z ∷ map f xs) (f w)) e (contains_head (f z) (map f xs))) (λ i. contains_tail (f z) (map f xs) (f x) (map_contains f xs x i)) (contains_cases z xs x c)
-
-pub contains_flat : {X Y : Type 0} (f : X → List Y) (xs : List X) (y : Y) → Contains (flat_map f xs) y → (x : X) × Contains xs x × Contains (f x) y
-contains_flat f [] y c = absurd (contains_none y c)
-contains_flat f (x ∷ xs) y c =
-    ⊎_elim (λ i. (x, contains_head x xs, i)) (λ i. let r = contains_flat f xs y i in (r.0, contains_tail x xs r.0 r.1, r.2)) (Contains-append_cases (f x) (flat_map f xs) y c)
-
-pub flat_contains : {X Y : Type 0} (f : X → List Y) (xs : List X) (x : X) (y : Y) → Contains xs x → Contains (f x) y → Contains (flat_map f xs) y
-flat_contains f [] x y c d = absurd (contains_none x c)
-flat_contains f (z ∷ xs) x y c d =
-    ⊎_elim (λ e. Contains-append_left (f z) (flat_map f xs) y (subst (λ w. Contains (f w) y) (sym e) d)) (λ i. Contains-append_right (f z) (flat_map f xs) y (flat_contains f xs x y i d)) (contains_cases z xs x c)
 
 cond_contains : {X : Type 0} (b : Bool) (x : X) (zs : List X) (y : X) → Contains (cond b (x ∷ zs) zs) y → ((b ≡ true) × (x ≡ y)) ⊎ Contains zs y
 cond_contains true x zs y c = ⊎_elim (λ e. inl (refl, e)) (λ i. inr i) (contains_cases x zs y c)

@@ -14,6 +14,7 @@ use Rattle.rate_layers.proofs.Fronts.{same_pair, falls_tail, first_below}
 use Rattle.rate_table.proofs.Lists.{contains_cases, contains_head, contains_tail, contains_none}
 use Rattle.rate_layers.proofs.Grown.{choice_last, choice_push, pair_push}
 use Rattle.rate_layers.proofs.Asked.{IsTest, At}
+use Rattle.rate_table.proofs.Entries.{index_same}
 
 -- the order of index lists
 pub first_self : (xs : List ℕ) → ComesFirst xs xs
@@ -72,24 +73,6 @@ prefix_in t u Fine test k layer f p opt fits below c d hc hd e =
     let g1 : size_of (b ++ d) ≡ p.size = ap (λ (x : Pair). x.size) g in
     let g2 : error_of (b ++ d) ≡ p.error = ap (λ (x : Pair). x.error) g in
     subst (λ x. Contains layer x) (same_pair q.0 (pair_of c) (omega arith) (omega arith)) q.1
-
--- entries of one index are one
-index_tail : (x : Entry) (xs : List Entry) → IndicesRise (x ∷ xs) → IndicesRise xs
-index_tail x [] h = tt
-index_tail x (y ∷ xs) h = h.1
-
-index_below : (x : Entry) (xs : List Entry) (y : Entry) → IndicesRise (x ∷ xs) → Contains xs y → x.index < y.index
-index_below x [] y h c = absurd (contains_none y c)
-index_below x (z ∷ xs) y h c =
-    ⊎_elim (λ e. let e' = ap (λ (w : Entry). w.index) e in omega arith) (λ i. let b = index_below z xs y h.1 i in omega arith) (contains_cases z xs y c)
-
-pub index_same : (xs : List Entry) (x y : Entry) → IndicesRise xs → Contains xs x → Contains xs y → x.index ≡ y.index → x ≡ y
-index_same [] x y r c d e = absurd (contains_none x c)
-index_same (z ∷ xs) x y r c d e =
-    ⊎_elim
-    (λ a. ⊎_elim (λ b. sym a ∙ b) (λ j. let a' = ap (λ (w : Entry). w.index) a in absurd (omega (arith, index_below z xs y r j))) (contains_cases z xs y d))
-    (λ i. ⊎_elim (λ b. let b' = ap (λ (w : Entry). w.index) b in absurd (omega (arith, index_below z xs x r i))) (λ j. index_same xs x y (index_tail z xs r) i j e) (contains_cases z xs y d))
-    (contains_cases z xs x c)
 
 pub extended_cons : (p : Pair) (x : Entry) (d : List Entry) → extended p (x ∷ d) ≡ extended (joined p x) d
 extended_cons p x d = same_pair _ _ (omega (arith, sum_by-cons (λ (x : Entry). x.size) x d)) (omega (arith, sum_by-cons (λ (x : Entry). x.error) x d))

@@ -4,19 +4,7 @@ use Rattle.std.specs.List.{Contains}
 use Rattle.rate_table.specs.declared.entry.Pair.{Pair}
 use Rattle.rate_table.specs.Pairs.{Dominates, RisesAndFalls}
 use Rattle.rate_layers.specs.Layers.{Rises, IsLayer, IsFront}
-
-pub contains_cases : {X : Type 0} (x : X) (xs : List X) (y : X) → Contains (x ∷ xs) y → (x ≡ y) ⊎ Contains xs y
-contains_cases x xs y (zero, h, e) = inl e
-contains_cases x xs y (suc k, h, e) = inr (k, omega arith, e)
-
-pub contains_tail : {X : Type 0} (x : X) (xs : List X) (y : X) → Contains xs y → Contains (x ∷ xs) y
-contains_tail x xs y h = (suc h.0, omega (arith, h.1), h.2)
-
-pub contains_head : {X : Type 0} (x : X) (xs : List X) → Contains (x ∷ xs) x
-contains_head x xs = (0, omega arith, refl)
-
-pub contains_none : {X : Type 0} (y : X) → Contains [] y → ⊥
-contains_none y h = omega (arith, h.1)
+use Rattle.rate_table.proofs.Lists.{contains_cases, contains_head, contains_tail, contains_none}
 
 pub same_pair : (p q : Pair) → p.size ≡ q.size → p.error ≡ q.error → p ≡ q
 same_pair p q a b = λ i. record { size = a i; error = b i }

@@ -9,3 +9,4 @@ pub mod Produced
 pub mod OneBest
 pub mod Counts
 pub mod Picks
+pub mod Wholes

@@ -6,7 +6,7 @@ use Rattle.std.proofs.lemmas.List.Elements.{All-head, All-tail, All-contains, Al
 use Rattle.std.proofs.lemmas.Nat.{mul-le}
 use Rattle.std.proofs.lemmas.Bool.{cases_lt, cases_Bool, leb-true, le-leb, true≢false}
 use Rattle.rate_table.specs.declared.entry.Entry.{Entry}
-use Rattle.rate_table.specs.Table.{Table, IsChoice, Fits, size_of, IsSlice, IsTable}
+use Rattle.rate_table.specs.Table.{Table, IsChoice, Fits, size_of, IsSlice, IsTable, IsEntry}
 use Rattle.rate_table.specs.Pairs.{cost}
 use Rattle.rate_layers.specs.Multiplier.{Wins, IsPick, ArePicks, PicksFit, IsMultiplier}
 use Rattle.rate_table.proofs.Lists.{contains_cases, contains_head, contains_tail, contains_none}
@@ -126,6 +126,9 @@ picks_least m (s ∷ ss) h (x ∷ c) (y ∷ d) a b =
     steep : (m s t e f : ℕ) → f < m → t < s → e + m * s ≤ f + m * t → ⊥
     steep m s t e f l k h = let p = mul-le m (suc t) m s (omega arith) (omega arith) in omega arith
 
+small_errors : (slices : List (List Entry)) → All IsSlice slices → All (λ s. All (λ x. x.error < 2 ^ 43) s) slices
+small_errors slices ok = All-weaker IsSlice (λ s. All (λ x. x.error < 2 ^ 43) s) (λ s i. All-weaker IsEntry (λ x. x.error < 2 ^ 43) (λ x h. h.error) s i.limits) slices ok
+
 -- the least number that passes, up to one that does
 pub least_passing : (test : ℕ → Bool) (n : ℕ) → ((m : ℕ) × (m ≤ n) × (test m ≡ true) × ((k : ℕ) → k < m → test k ≡ false)) ⊎ ((k : ℕ) → k ≤ n → test k ≡ false)
 least_passing test zero =
@@ -155,10 +158,10 @@ multiplier_exists t ok c h fits =
     (least_passing (λ m. leb (t.fixed + size_of (choice m).0) t.budget) (2 ^ 43))
   where
     choice : (m : ℕ) → (c : List Entry) × ArePicks m t.slices c
-    choice m = picks_of m t.slices ok
+    choice m = picks_of m t.slices ok.each
 
     top : t.fixed + size_of (choice (2 ^ 43)).0 ≤ t.budget
-    top = omega (arith, picks_least (2 ^ 43) t.slices (All-weaker IsSlice (λ s. All (λ x. x.error < 2 ^ 43) s) (λ s i. i.limit) t.slices ok) (choice (2 ^ 43)).0 c (choice (2 ^ 43)).1 h)
+    top = omega (arith, picks_least (2 ^ 43) t.slices (small_errors t.slices ok.each) (choice (2 ^ 43)).0 c (choice (2 ^ 43)).1 h)
 
 -- one slice more
 pub picks_push : (m : ℕ) (slices : List (List Entry)) (s : List Entry) (c : List Entry) (x : Entry) → ArePicks m slices c → IsPick m s x → ArePicks m (slices ++ s ∷ []) (c ++ x ∷ [])
@@ -171,10 +174,13 @@ picks_push m (r ∷ slices) s (y ∷ c) x h i = (h.0, picks_push m slices s c x 
 pub top_picks : (slices : List (List Entry)) (room : ℕ) → All IsSlice slices → (d : List Entry) × IsChoice slices d × (size_of d ≤ room) → (c : List Entry) × ArePicks (2 ^ 43) slices c × (size_of c ≤ room)
 top_picks slices room ok (d, h, f) =
     let c = picks_of (2 ^ 43) slices ok in
-    (c.0, c.1, omega (arith, picks_least (2 ^ 43) slices (All-weaker IsSlice (λ s. All (λ x. x.error < 2 ^ 43) s) (λ s i. i.limit) slices ok) c.0 d c.1 h))
+    (c.0, c.1, omega (arith, picks_least (2 ^ 43) slices (small_errors slices ok) c.0 d c.1 h))
 
 -- where the picks in the middle don't fit, none from there down do
 pub none_lower : (slices : List (List Entry)) (room middle : ℕ) → All IsSlice slices → ((c : List Entry) × ArePicks middle slices c × (size_of c ≤ room) → ⊥) → (n : ℕ) (c : List Entry) → ArePicks n slices c → size_of c ≤ room → middle + 1 ≤ n
 none_lower slices room middle ok none n c h f =
     ⊎_elim (λ l. let p = picks_of middle slices ok in
     absurd (none (p.0, p.1, omega (arith, picks_down n middle slices c p.0 (omega arith) h p.1)))) (λ l. omega arith) (cases_lt n (middle + 1))
+
+pub multiplier_same : (t : Table) (m n : ℕ) → IsMultiplier t m → IsMultiplier t n → m ≡ n
+multiplier_same t m n f g = omega (arith, f.least n g.fits, g.least m f.fits)

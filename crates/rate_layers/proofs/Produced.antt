@@ -18,25 +18,11 @@ use Rattle.rate_layers.proofs.Exists.{full_front}
 use Rattle.rate_layers.proofs.Asked.{IsTest, At, Stays, full_test, kept_test, layer_none}
 use Rattle.rate_layers.proofs.Kept.{kept_front}
 use Rattle.rate_layers.proofs.Grown.{choice_push, pair_push}
-use Rattle.rate_layers.proofs.Firsts.{index_same, best_last, last_in}
+use Rattle.rate_table.proofs.Entries.{choice_same}
+use Rattle.rate_layers.proofs.Firsts.{best_last, last_in}
 
 all_from : {X : Type 0} (P : X → Type 0) (xs : List X) → ((x : X) → Contains xs x → P x) → All P xs
 all_from P xs f k d h = f (get_or xs k d) (Contains-get_or xs k d h)
-
--- choices of one index list are one
-pub choice_same : (slices : List (List Entry)) → All IsSlice slices → (c d : List Entry) → IsChoice slices c → IsChoice slices d → indices c ≡ indices d → c ≡ d
-choice_same [] a [] [] h i e = refl
-choice_same [] a [] (y ∷ d) h i e = absurd i
-choice_same [] a (x ∷ c) d h i e = absurd h
-choice_same (s ∷ ss) a [] d h i e = absurd h
-choice_same (s ∷ ss) a (x ∷ c) [] h i e = absurd i
-choice_same (s ∷ ss) a (x ∷ c) (y ∷ d) h i e =
-    let slice = All-head IsSlice s ss a in
-    let first : x.index ≡ y.index = cc in
-    let more : indices c ≡ indices d = cc in
-    let same = index_same s x y slice.rises h.0 i.0 first in
-    let rest = choice_same ss (All-tail IsSlice s ss a) c d h.1 i.1 more in
-    λ j. same j ∷ rest j
 
 -- what comes of a pair: it passes, or a clause says why not
 abbrev pub Judged : Table → Printed → (List (List Entry) → Pair → Type 0) → Type 0
@@ -82,10 +68,10 @@ module _ (t : Table) (r : Printed) (u : ℕ) (Fine : List (List Entry) → Pair 
       )
 
 -- the record of a best choice with the layers of a test
-pub produced : (t : Table) → IsTable t → (b : List Entry) → IsBest t b → (m : ℕ) (layers : List (List Pair)) (Fine : List (List Entry) → Pair → Type 0) → IsTest t (error_of b) Fine → Judged t (printed b m layers) Fine → length layers ≡ suc (length t.slices) → ((k : ℕ) → k ≤ length t.slices → IsFront (At t Fine k) (get_or layers k [])) → IsGoodFit t (printed b m layers)
+pub produced : (t : Table) → IsTable t → (b : List Entry) → IsBest t b → (m : ℕ) (layers : List (List Pair)) (Fine : List (List Entry) → Pair → Type 0) → IsTest t (error_of b) Fine → Judged t (record_of b m layers) Fine → length layers ≡ suc (length t.slices) → ((k : ℕ) → k ≤ length t.slices → IsFront (At t Fine k) (get_or layers k [])) → IsGoodFit t (record_of b m layers)
 produced t ok b best m layers Fine test judged n f =
     let none : Pair = record { size = 0; error = 0 } in
-    let r = printed b m layers in
+    let r = record_of b m layers in
     let fine = test.keeps t.slices none b best.choice (omega (arith, best.fits)) (omega arith) in
     let l0 = front_layer _ (none ∷ []) (layer_none t (error_of b) Fine test fine) in
     let m0 = front_layer _ (get_or layers 0 []) (f 0 (omega arith)) in
@@ -93,7 +79,7 @@ produced t ok b best m layers Fine test judged n f =
     record {
       counts = (length_indices b t.slices best.choice, n);
       entries = (b, best.choice, refl);
-      sums = λ c h e. subst (λ d. (size_of d ≡ size_of b) × (error_of d ≡ error_of b) × Fits t d) (choice_same t.slices ok b c best.choice h (sym e)) (refl, refl, best.fits);
+      sums = λ c h e. subst (λ d. (size_of d ≡ size_of b) × (error_of d ≡ error_of b) × Fits t d) (choice_same t.slices ok.each b c best.choice h (sym e)) (refl, refl, best.fits);
       first = one_layer _ (get_or layers 0 []) (none ∷ []) m0 l0;
       order = order;
       steps = steps_from t r (error_of b) Fine test judged t.slices layers 0 refl (omega arith) n (λ i h. let e : i ≡ 0 + i = omega arith in subst (λ j. IsFront (At t Fine j) (get_or layers i [])) e (f i h));
@@ -127,14 +113,14 @@ judged_kept t r later p =
     (λ l. ⊎_elim (λ g. inr (inr (λ h. omega arith))) (λ g. inl (l, g)) (cases_lt (r.error + r.multiplier * t.budget) (p.error + rest r.multiplier later + r.multiplier * (t.fixed + p.size))))
     (cases_lt t.budget (t.fixed + (p.size + least_size later)))
 
-pub produced_full : (t : Table) → IsTable t → (b : List Entry) → IsBest t b → (m : ℕ) (layers : List (List Pair)) → AreFull t layers → IsGoodFit t (printed b m layers)
+pub produced_full : (t : Table) → IsTable t → (b : List Entry) → IsBest t b → (m : ℕ) (layers : List (List Pair)) → AreFull t layers → IsGoodFit t (record_of b m layers)
 produced_full t ok b best m layers a =
-    produced t ok b best m layers (CanFit t) (full_test t (error_of b)) (judged_full t (printed b m layers)) a.0
+    produced t ok b best m layers (CanFit t) (full_test t (error_of b)) (judged_full t (record_of b m layers)) a.0
     (λ k h. full_front t k (get_or layers k []) (a.1 k h))
 
-pub produced_kept : (t : Table) → IsTable t → (b : List Entry) → IsBest t b → (m : ℕ) (layers : List (List Pair)) → AreKept t m (error_of b) layers → IsGoodFit t (printed b m layers)
+pub produced_kept : (t : Table) → IsTable t → (b : List Entry) → IsBest t b → (m : ℕ) (layers : List (List Pair)) → AreKept t m (error_of b) layers → IsGoodFit t (record_of b m layers)
 produced_kept t ok b best m layers a =
-    produced t ok b best m layers (Stays t m (error_of b)) (kept_test t m (error_of b)) (judged_kept t (printed b m layers)) a.0
+    produced t ok b best m layers (Stays t m (error_of b)) (kept_test t m (error_of b)) (judged_kept t (record_of b m layers)) a.0
     (λ k h. kept_front t m (error_of b) k (get_or layers k []) (a.1 k h))
 
 -- the layer after all slices
@@ -162,3 +148,11 @@ best_kept_law t m u some layer front p c i fits le f e first =
     let g = whole t (Stays t m u) layer (kept_front t m u (length t.slices) layer f) in
     let g' = subst (λ l. IsFront (λ p. Reaches t.slices p × Stays t m u [] p) l) e g in
     best_last t u (Stays t m u) (kept_test t m u) front p g' some i fits le c first
+
+-- Where the last kept layer has no pair, a fitting choice has more error.
+pub none_kept_law : (t : Table) (m u : ℕ) (c : List Entry) → IsKept t m u (length t.slices) [] → IsChoice t.slices c → Fits t c → u < error_of c
+none_kept_law t m u c f h fits =
+    ⊎_elim (λ l. l)
+    (λ l. let g = whole t (Stays t m u) [] (kept_front t m u (length t.slices) [] f) in
+    let q = g.covers (pair_of c) ((c, h, refl), (kept_test t m u).keeps [] (pair_of c) [] tt (omega arith) (omega arith)) in
+    absurd (contains_none q.0 q.1)) (cases_lt u (error_of c))

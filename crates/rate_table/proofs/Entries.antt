@@ -20,7 +20,7 @@ rest_rises x [] h = tt
 rest_rises x (y ∷ xs) h = h.1
 
 -- entries of one index are one
-index_same : (xs : List Entry) (x y : Entry) → IndicesRise xs → Contains xs x → Contains xs y → x.index ≡ y.index → x ≡ y
+pub index_same : (xs : List Entry) (x y : Entry) → IndicesRise xs → Contains xs x → Contains xs y → x.index ≡ y.index → x ≡ y
 index_same [] x y r c d e = absurd (contains_none x c)
 index_same (z ∷ xs) x y r c d e =
     ⊎_elim
