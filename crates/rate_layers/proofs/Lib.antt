@@ -6,7 +6,7 @@ pub mod Kept
 pub mod Firsts
 pub mod Leading
 pub mod Produced
-pub mod OneBest
 pub mod Counts
 pub mod Picks
 pub mod Wholes
+pub mod Merges

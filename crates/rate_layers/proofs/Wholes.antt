@@ -1,14 +1,16 @@
 -- All kept layers of a table together.
-use Rattle.std.proofs.Common.{◌≡◌, ℕ, zero, suc, ◌+◌, ◌*◌, ◌<◌, ◌≤◌, List, [], ◌∷◌, ◌++◌, length, get_or, sym, ◌∙◌, subst, arith, ⊎_elim}
+use Rattle.std.proofs.Common.{◌≡◌, ℕ, zero, suc, ◌+◌, ◌*◌, ◌<◌, ◌≤◌, List, [], ◌∷◌, ◌++◌, length, get_or, take, drop, leb, ◌&&◌, sym, ◌∙◌, subst, arith, ⊎_elim}
 use Rattle.std.proofs.lemmas.List.{get_or_append_left, get_or_push, length_push}
 use Rattle.std.proofs.lemmas.List.Sums.{sum_by-cons}
-use Rattle.std.proofs.lemmas.Bool.{cases_lt}
+use Rattle.std.proofs.lemmas.Bool.{cases_lt, leb-true, le-leb, and_parts, and_from}
 use Rattle.rate_table.specs.declared.entry.Pair.{Pair}
-use Rattle.rate_table.specs.Table.{Table}
+use Rattle.rate_table.specs.Table.{Table, least_size}
+use Rattle.rate_table.specs.Pairs.{rest}
 use Rattle.rate_layers.specs.Layers.{IsKept, AreKept, pairs_in}
 use Rattle.rate_layers.proofs.Fronts.{front_layer, one_layer}
-use Rattle.rate_layers.proofs.Kept.{kept_front}
-use Rattle.rate_layers.proofs.OneBest.{a_kept}
+use Rattle.rate_layers.proofs.Kept.{kept_front, front_kept}
+use Rattle.rate_layers.proofs.Exists.{front_of_tested}
+use Rattle.rate_layers.proofs.Asked.{Stays}
 use Rattle.rate_layers.proofs.Counts.{kept_length, kept_fewer}
 
 -- ---- lists by their indices
@@ -46,6 +48,15 @@ kept_same t m u k first second f g =
 pub kept_are_one : (t : Table) (m u : ℕ) (first second : List (List Pair)) → AreKept t m u first → AreKept t m u second → first ≡ second
 kept_are_one t m u first second f g =
     same_lists [] first second (f.0 ∙ sym g.0) (λ k l. kept_same t m u k (get_or first k []) (get_or second k []) (f.1 k (omega (arith, f.0))) (g.1 k (omega (arith, f.0))))
+
+-- the kept layer after each number of slices
+a_kept : (t : Table) (m u k : ℕ) → (layer : List Pair) × IsKept t m u k layer
+a_kept t m u k =
+    let later = drop k t.slices in
+    let f = front_of_tested (take k t.slices) (Stays t m u later)
+    (λ p. leb (t.fixed + (p.size + least_size later)) t.budget && leb (p.error + rest m later + m * (t.fixed + p.size)) (u + m * t.budget))
+    (λ p h. let a = and_parts _ _ h in (leb-true _ _ a.0, leb-true _ _ a.1)) (λ p h. and_from _ _ (le-leb _ _ h.0) (le-leb _ _ h.1)) in
+    (f.0, front_kept t m u k f.0 f.1)
 
 module _ (t : Table) (m u : ℕ) where
   -- the kept layers of the first slices
