@@ -4,3 +4,5 @@ pub mod Multiplier
 pub mod Laws
 pub mod Bound
 pub mod Merge
+pub mod Live
+pub mod Best

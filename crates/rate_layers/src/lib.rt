@@ -6,8 +6,12 @@ mod costs;
 mod fault;
 mod laws;
 mod layers;
+mod live;
 mod merge;
 mod multiplier;
+mod narrowed;
+mod outcome;
+mod search;
 
 pub use costs::least_costs;
 pub use fault::BestFault;
@@ -19,3 +23,5 @@ pub use laws::{
 };
 pub use layers::kept_layers;
 pub use multiplier::{least_multiplier, pick_sums};
+pub use outcome::Outcome;
+pub use search::best;
