@@ -46,4 +46,4 @@ returns-clause-multiplier c =
     let m = c.loop-low.high in
     multiplier_end t room m (omega (arith, budget, fixed, c.from.ensures, c.from-2.ensures, c.requires.fits.2))
     (subst (λ l. (c : List Entry) × ArePicks m l c × (size_of c ≤ room)) same i.fits)
-    (λ n c h f. omega (arith, i.least n c (subst (λ l. ArePicks n l c) (sym same) h) f))
+    (λ n d h f. omega (arith, i.least n d (subst (λ l. ArePicks n l d) (sym same) h) f))
