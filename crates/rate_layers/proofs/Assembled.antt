@@ -1,19 +1,20 @@
 -- What the loop over slices keeps.
-use Rattle.std.proofs.Common.{◌≡◌, ℕ, suc, ◌+◌, ◌*◌, ◌^◌, ◌<◌, ◌≤◌, List, [], ◌∷◌, ◌++◌, length, get_or, take, drop, sym, ap, subst, arith, ⊎_elim}
+use Rattle.std.proofs.Common.{◌≡◌, ℕ, suc, ◌+◌, ◌-◌, ◌*◌, ◌^◌, ◌<◌, ◌≤◌, List, [], ◌∷◌, ◌++◌, length, get_or, take, drop, sym, ap, ◌∙◌, subst, arith, ⊎_elim}
 use Rattle.std.specs.List.{All}
-use Rattle.std.proofs.lemmas.List.{get_or_append_left, get_or_push, length_push, length-take}
+use Rattle.std.proofs.lemmas.List.{get_or_append_left, get_or_push, get_or_default, length_push, length-take}
 use Rattle.std.proofs.lemmas.List.Sums.{sum_by-cons}
 use Rattle.std.proofs.lemmas.List.Elements.{All-head, All-tail, All-contains, All-take, Contains-get_or}
 use Rattle.std.proofs.lemmas.Bool.{cases_lt}
 use Rattle.rate_table.specs.declared.entry.Entry.{Entry}
 use Rattle.rate_table.specs.declared.entry.Pair.{Pair}
-use Rattle.rate_table.specs.Table.{Table, IsChoice, IsEntry, IsSlice, IsTable, error_of}
+use Rattle.rate_table.specs.Table.{Table, IsChoice, IsEntry, IsSlice, IsTable, error_of, least, least_size}
+use Rattle.rate_table.specs.Pairs.{cost, rest}
 use Rattle.rate_layers.specs.declared.bound.Bound.{Bound}
 use Rattle.rate_layers.specs.Layers.{Joins, IsFront, IsKept, AreKept, pairs_in}
 use Rattle.rate_layers.specs.Bound.{IsBoundOf, HasRoom, IsWithin, IsNext}
 use Rattle.rate_layers.proofs.Asked.{Stays, At, kept_test, layer_step}
 use Rattle.rate_layers.proofs.Kept.{front_kept}
-use Rattle.rate_layers.proofs.Bounds.{bound_stays, front_as}
+use Rattle.rate_layers.proofs.Bounds.{bound_stays, front_as, sum_step}
 use Rattle.rate_layers.proofs.Wholes.{kept_same, pairs_below}
 
 error_small : (slices : List (List Entry)) → All IsSlice slices → (c : List Entry) → IsChoice slices c → error_of c ≤ length slices * 2 ^ 43
@@ -59,6 +60,35 @@ module _ (t : Table) (m u : ℕ) where
       merged : IsFront (λ p. Joins layer (get_or t.slices k []) p × Stays t m u later p) next
       merged = front_as (λ p. Joins layer (get_or t.slices k []) p × (HasRoom b p × IsWithin b p)) (λ p. Joins layer (get_or t.slices k []) p × Stays t m u later p) next
           (λ p h. (h.0, (bound_stays t m u later b o p).0 h.1)) (λ p h. (h.0, (bound_stays t m u later b o p).1 h.1)) g
+
+  -- what one slice more makes of the layers and the two sums
+  pub record Further (layers : List (List Pair)) (k sizes costs : ℕ) : Type 0 where
+    pub assembled : Assembled layers k
+    pub sizes_left : sizes ≡ t.fixed + least_size (drop k t.slices)
+    pub costs_left : costs ≡ rest m (drop k t.slices)
+
+  pub further : (layers : List (List Pair)) (k sizes costs : ℕ) (layer next : List Pair) (s entries : List Entry) (b : Bound) (size cheapest : ℕ) → Further layers k sizes costs → k < length t.slices → s ≡ get_or t.slices k s → entries ≡ s → layer ≡ get_or layers k []
+      → size ≡ least (λ x. x.size) entries → cheapest ≡ least (cost m) entries
+      → b.multiplier ≡ m → b.end ≡ (t.budget + 1) - (sizes - size) → b.ceiling ≡ (u + m * t.budget + 1) - (costs - cheapest + m * t.fixed)
+      → IsNext b layer entries next → Further (layers ++ next ∷ []) (k + 1) (sizes - size) (costs - cheapest)
+  further layers k sizes costs layer next s entries b size cheapest f n is same_entries same_layer is_size is_cheapest bm be bc g =
+      let later = drop (suc k) t.slices in
+      let a1 = sum_step (least (λ x. x.size)) t.slices k s n is in
+      let a2 = sum_step (least (cost m)) t.slices k s n is in
+      let c1 : size ≡ least (λ x. x.size) s = is_size ∙ ap (λ l. least (λ x. x.size) l) same_entries in
+      let c2 : cheapest ≡ least (cost m) s = is_cheapest ∙ ap (λ l. least (cost m) l) same_entries in
+      let left1 : sizes - size ≡ t.fixed + least_size later = omega (arith, f.sizes_left, a1, c1) in
+      let left2 : costs - cheapest ≡ rest m later = omega (arith, f.costs_left, a2, c2) in
+      let o : IsBoundOf t m u later b = record { multiplier = bm; end = omega (arith, be, left1); ceiling = omega (arith, bc, left2) } in
+      let es : entries ≡ get_or t.slices k [] = same_entries ∙ is ∙ get_or_default t.slices k s [] n in
+      let g1 = subst (λ l. IsNext b l entries next) same_layer g in
+      let g2 = subst (λ l. IsNext b (get_or layers k []) l next) es g1 in
+      let k1 : suc k ≡ k + 1 = omega arith in
+      record {
+        assembled = assembled_push layers k b next n f.assembled o g2;
+        sizes_left = subst (λ i. sizes - size ≡ t.fixed + least_size (drop i t.slices)) k1 left1;
+        costs_left = subst (λ i. costs - cheapest ≡ rest m (drop i t.slices)) k1 left2;
+      }
 
   kept_at : (layers : List (List Pair)) (k : ℕ) → Assembled layers k → (i : ℕ) → i ≤ k → IsKept t m u i (get_or layers i [])
   kept_at layers k a i l = front_kept t m u i (get_or layers i []) (a.fronts i l)
