@@ -10,3 +10,5 @@ pub mod Counts
 pub mod Picks
 pub mod Wholes
 pub mod Merges
+pub mod Bounds
+pub mod Assembled

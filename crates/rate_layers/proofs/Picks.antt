@@ -170,17 +170,24 @@ picks_push m [] s (y ∷ c) x h i = absurd h
 picks_push m (r ∷ slices) s [] x h i = absurd h
 picks_push m (r ∷ slices) s (y ∷ c) x h i = (h.0, picks_push m slices s c x h.1 i)
 
--- the picks at the top
-pub top_picks : (slices : List (List Entry)) (room : ℕ) → All IsSlice slices → (d : List Entry) × IsChoice slices d × (size_of d ≤ room) → (c : List Entry) × ArePicks (2 ^ 43) slices c × (size_of c ≤ room)
-top_picks slices room ok (d, h, f) =
+-- Where a choice has no more than this size, the picks by the greatest multiplier have.
+pub top_picks : (slices : List (List Entry)) (room : ℕ) → All IsSlice slices → (d : List Entry) → IsChoice slices d → size_of d ≤ room → (c : List Entry) × ArePicks (2 ^ 43) slices c × (size_of c ≤ room)
+top_picks slices room ok d h f =
     let c = picks_of (2 ^ 43) slices ok in
     (c.0, c.1, omega (arith, picks_least (2 ^ 43) slices (small_errors slices ok) c.0 d c.1 h))
 
--- where the picks in the middle don't fit, none from there down do
+-- Where the picks by one multiplier have more, those by each lower one have.
 pub none_lower : (slices : List (List Entry)) (room middle : ℕ) → All IsSlice slices → ((c : List Entry) × ArePicks middle slices c × (size_of c ≤ room) → ⊥) → (n : ℕ) (c : List Entry) → ArePicks n slices c → size_of c ≤ room → middle + 1 ≤ n
 none_lower slices room middle ok none n c h f =
     ⊎_elim (λ l. let p = picks_of middle slices ok in
     absurd (none (p.0, p.1, omega (arith, picks_down n middle slices c p.0 (omega arith) h p.1)))) (λ l. omega arith) (cases_lt n (middle + 1))
+
+-- A least multiplier by sizes is that of the table.
+pub multiplier_end : (t : Table) (room m : ℕ) → t.fixed + room ≡ t.budget → (c : List Entry) × ArePicks m t.slices c × (size_of c ≤ room) → ((n : ℕ) (c : List Entry) → ArePicks n t.slices c → size_of c ≤ room → m ≤ n) → IsMultiplier t m
+multiplier_end t room m e (c, h, f) least = record {
+  fits = (c, h, omega arith);
+  least = λ n (d, i, g). least n d i (omega arith);
+}
 
 pub multiplier_same : (t : Table) (m n : ℕ) → IsMultiplier t m → IsMultiplier t n → m ≡ n
 multiplier_same t m n f g = omega (arith, f.least n g.fits, g.least m f.fits)

@@ -9,7 +9,8 @@ use rate_table::{Entry, FrameTable, SliceTable};
 
 /// What an entry costs: its error, and the multiplier for each byte.
 pub fn cost_of(entry: &Entry, multiplier: u64) -> u128
-    ensures { result ≡ cost multiplier entry.now }
+    ensures value { result ≡ cost multiplier entry.now }
+    ensures small { result < 2 ^ 81 }
 {
     u128::from(entry.error) + u128::from(multiplier) * u128::from(entry.size)
 }
@@ -29,7 +30,8 @@ pub fn least_size(entries: &[Entry]) -> u16
 /// The least cost of these entries.
 pub fn least_cost(entries: &[Entry], multiplier: u64) -> u128
     requires { 1 ≤ length entries.now }
-    ensures { result ≡ least (cost multiplier) entries.now }
+    ensures value { result ≡ least (cost multiplier) entries.now }
+    ensures small { result < 2 ^ 81 }
 {
     let mut least = cost_of(&entries[0], multiplier);
     for entry in entries {

@@ -1,6 +1,6 @@
 //! All layers of a table under a bound.
 
-ghost use Rattle.std.specs.Prelude.{◌≡◌, ◌+◌, ◌*◌, ◌<◌, ◌≤◌, ◌^◌, ℕ, List, [], ◌∷◌, IfOk, IfErr, length, map};
+ghost use Rattle.std.specs.Prelude.{◌≡◌, ◌+◌, ◌*◌, ◌<◌, ◌≤◌, ◌^◌, ℕ, List, [], ◌∷◌, ◌++◌, OnOk, IfOk, IfErr, length, map};
 ghost use Rattle.rate_table.specs.declared.entry.Pair.{Pair};
 ghost use Rattle.rate_layers.specs.declared.fault.BestFault.TheVariants.{LayersFull};
 ghost use Rattle.rate_layers.specs.Layers.{IsFront, AreKept, pairs_in};
@@ -18,8 +18,7 @@ const MOST: usize = 1 << 25;
 
 /// The pair of nothing, where it passes.
 fn first_layer(alloc: Global, bound: &Bound) -> Result<Vec<Pair>, AllocError>
-    ensures layer { IfOk result (λ v. IsFront (λ p. (p ≡ record { size = 0; error = 0 }) × (HasRoom bound.now p × IsWithin bound.now p)) v.items) }
-    ensures few { IfOk result (λ v. length v.items ≤ 1) }
+    ensures { IfOk result (λ v. IsFront (λ p. (p ≡ record { size = 0; error = 0 }) × (HasRoom bound.now p × IsWithin bound.now p)) v.items) }
 {
     let mut layer = Vec::new(alloc);
     if 0 < bound.end && is_within(bound, 0, 0) {
@@ -35,6 +34,27 @@ fn exact(alloc: Global, layer: &[Pair]) -> Result<Vec<Pair>, AllocError>
     let mut copy = Vec::with_capacity(alloc, layer.len())?;
     copy.extend_from_slice(layer)?;
     Ok(copy)
+}
+
+/// Puts a finished layer behind the others, and counts its pairs; not where there are too many.
+fn put_layer(
+    alloc: Global,
+    layers: &mut Vec<Vec<Pair>>,
+    pairs: &mut usize,
+    next: &[Pair],
+) -> Result<(), BestFault>
+    requires { pairs.old ≤ 2 ^ 25 }
+    ensures layers { OnOk result (map (λ l. l.items) layers.new.items ≡ map (λ l. l.items) layers.old.items ++ next.now ∷ []) }
+    ensures pairs { OnOk result (pairs.new ≡ pairs.old + length next.now) }
+    ensures few { OnOk result (pairs.new ≤ 2 ^ 25) }
+    ensures full { IfErr result (λ e. e ≡ LayersFull → 2 ^ 25 < pairs.old + length next.now) }
+{
+    if MOST - *pairs < next.len() {
+        return Err(BestFault::LayersFull);
+    }
+    *pairs += next.len();
+    layers.push(exact(alloc, next)?)?;
+    Ok(())
 }
 
 /// The layers that a multiplier and an error keep: after each number of slices the pairs that no other dominates,
@@ -56,23 +76,18 @@ pub fn kept_layers(
     let slices = table.slices.as_slice();
     let mut sizes = least(table);
     let mut costs = least_costs(table, multiplier);
-    let first = first_layer(alloc, &bound_of(table, sizes, costs, multiplier, error))?;
-    let mut pairs = first.len();
-    let mut layers = Vec::new(alloc);
-    layers.push(first)?;
-    let mut next = Vec::new(alloc);
+    let mut next = first_layer(alloc, &bound_of(table, sizes, costs, multiplier, error))?;
     let mut spare = Vec::new(alloc);
+    let mut layers = Vec::new(alloc);
+    let mut pairs = 0;
+    put_layer(alloc, &mut layers, &mut pairs, &next)?;
     for k in 0..slices.len() {
         let entries = slices[k].entries();
         sizes -= u64::from(least_size(entries));
         costs -= least_cost(entries, multiplier);
         let bound = bound_of(table, sizes, costs, multiplier, error);
         next_layer(&mut next, &mut spare, &bound, &layers[k], entries)?;
-        if MOST - pairs < next.len() {
-            return Err(BestFault::LayersFull);
-        }
-        pairs += next.len();
-        layers.push(exact(alloc, &next)?)?;
+        put_layer(alloc, &mut layers, &mut pairs, &next)?;
     }
     Ok(layers)
 }

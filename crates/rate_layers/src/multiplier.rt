@@ -37,6 +37,8 @@ fn sums_of(slices: &[SliceTable], multiplier: u64) -> (u64, u64)
     requires few { length slices.now ≤ 131070 }
     requires each { All IsSlice slices.now }
     ensures picks { (c : List Entry) × ArePicks multiplier slices.now c × (result.0 ≡ size_of c) × (result.1 ≡ error_of c) }
+    ensures size { result.0 < 2 ^ 34 }
+    ensures error { result.1 < 2 ^ 61 }
 {
     let mut size: u64 = 0;
     let mut error: u64 = 0;
@@ -52,15 +54,19 @@ fn sums_of(slices: &[SliceTable], multiplier: u64) -> (u64, u64)
 /// cost, then of least size, then of least index. No memory is taken.
 pub fn pick_sums(table: &FrameTable, multiplier: u64) -> (u64, u64)
     ensures picks { (c : List Entry) × ArePicks multiplier table.now.slices c × (result.0 ≡ size_of c) × (result.1 ≡ error_of c) }
+    ensures size { result.0 < 2 ^ 34 }
+    ensures error { result.1 < 2 ^ 61 }
 {
     sums_of(table.slices.as_slice(), multiplier)
 }
 
-/// Whether the picks by this multiplier fit.
-fn picks_fit(table: &FrameTable, multiplier: u64) -> bool
-    ensures { IsTrue result ↔ PicksFit table.now multiplier }
+/// Whether the picks by this multiplier have at most this size.
+fn picks_fit(slices: &[SliceTable], multiplier: u64, room: u64) -> bool
+    requires few { length slices.now ≤ 131070 }
+    requires each { All IsSlice slices.now }
+    ensures { IsTrue result ↔ ((c : List Entry) × ArePicks multiplier slices.now c × (size_of c ≤ room)) }
 {
-    u64::from(table.fixed) + pick_sums(table, multiplier).0 <= u64::from(table.budget)
+    sums_of(slices, multiplier).0 <= room
 }
 
 /// The least multiplier whose picks fit, of a table where a choice fits. No memory is taken.
@@ -69,11 +75,13 @@ pub fn least_multiplier(table: &FrameTable) -> u64
     ensures multiplier { IsMultiplier table.now result }
     ensures limit { result ≤ 2 ^ 43 }
 {
+    let slices = table.slices.as_slice();
+    let room = u64::from(table.budget) - u64::from(table.fixed);
     let mut low: u64 = 0;
     let mut high: u64 = 1 << 43;
     while low < high {
         let middle = low + (high - low) / 2;
-        if picks_fit(table, middle) {
+        if picks_fit(slices, middle, room) {
             high = middle;
         } else {
             low = middle + 1;
