@@ -20,7 +20,7 @@ rest_rises x [] h = tt
 rest_rises x (y ∷ xs) h = h.1
 
 -- entries of one index are one
-index_same : (xs : List Entry) (x y : Entry) → IndicesRise xs → Contains xs x → Contains xs y → x.index ≡ y.index → x ≡ y
+pub index_same : (xs : List Entry) (x y : Entry) → IndicesRise xs → Contains xs x → Contains xs y → x.index ≡ y.index → x ≡ y
 index_same [] x y r c d e = absurd (contains_none x c)
 index_same (z ∷ xs) x y r c d e =
     ⊎_elim
@@ -62,7 +62,7 @@ least_choice ((x ∷ s) ∷ ss) a =
     (r.0 ∷ c.0, (r.1, c.1), omega (arith, sum_by-cons (λ (x : Entry). x.size) r.0 c.0, sum_by-cons (least (λ x. x.size)) (x ∷ s) ss, r.2, c.2))
 
 -- no entry is below the least
-least_at : (f : Entry → ℕ) (xs : List Entry) (k : ℕ) (x : Entry) → k < length xs → get_or xs k x ≡ x → least f xs ≤ f x
+pub least_at : (f : Entry → ℕ) (xs : List Entry) (k : ℕ) (x : Entry) → k < length xs → get_or xs k x ≡ x → least f xs ≤ f x
 least_at f [] k x h e = omega arith
 least_at f (y ∷ []) zero x h e = let e' = ap f e in omega arith
 least_at f (y ∷ []) (suc k) x h e = omega arith

@@ -1,9 +1,10 @@
 -- Laws of the best choice, over the definitions alone.
-use Rattle.std.specs.Prelude.{◌≡◌, ◌<◌, ◌↔◌, List, length}
+use Rattle.std.specs.Prelude.{◌≡◌, ℕ, ◌<◌, ◌↔◌, List, length}
 use Rattle.std.specs.List.{Contains}
 use Rattle.rate_table.specs.declared.entry.Entry.{Entry}
 use Rattle.rate_table.specs.Table.{Table, IsTable, IsChoice, Fits, HasNoFit, IsBest, indices, least_bytes}
 use Rattle.rate_table.specs.Choices.{all_choices, width}
+use Rattle.rate_table.specs.Records.{Printed, IsGoodFit, IsLeast, SaysNone}
 
 -- Where a choice fits there is a best one.
 abbrev pub BestExists : Type 0
@@ -28,3 +29,12 @@ AllChoicesCount = (slices : List (List Entry)) → length (all_choices slices) �
 -- Of a table's choices one alone has these indices.
 abbrev pub IndicesTellChoice : Type 0
 IndicesTellChoice = (t : Table) (first second : List Entry) → IsTable t → IsChoice t.slices first → IsChoice t.slices second → indices first ≡ indices second → first ≡ second
+
+-- The choice of a good record fits, has the printed sums, and no fitting choice has less error. This is said of every
+-- record, whoever made it, and whatever multiplier it has.
+abbrev pub GoodIsLeast : Type 0
+GoodIsLeast = (t : Table) (r : Printed) → IsGoodFit t r → IsLeast t r
+
+-- Where a good record says that none fits, none does.
+abbrev pub GoodNoneFits : Type 0
+GoodNoneFits = (t : Table) (printed : ℕ) → SaysNone t printed → HasNoFit t

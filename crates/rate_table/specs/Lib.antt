@@ -1,4 +1,6 @@
 pub mod Table
 pub mod Choices
+pub mod Pairs
+pub mod Records
 pub mod Laws
 pub mod Reading

@@ -1,6 +1,6 @@
 //! Laws over the definitions alone.
 
-ghost use Rattle.rate_table.specs.Laws.{BestExists, BestIsOne, NoneFitsBelowLeast, AllChoicesAreChoices, AllChoicesCount, IndicesTellChoice};
+ghost use Rattle.rate_table.specs.Laws.{BestExists, BestIsOne, NoneFitsBelowLeast, AllChoicesAreChoices, AllChoicesCount, IndicesTellChoice, GoodIsLeast, GoodNoneFits};
 
 /// Where a choice fits there is a best one.
 pub fn best_exists()
@@ -30,4 +30,14 @@ pub fn all_choices_count()
 /// Of a table's choices one alone has these indices.
 pub fn indices_tell_choice()
     ensures { IndicesTellChoice }
+{}
+
+/// The choice of a good record fits, has the printed sums, and no fitting choice has less error.
+pub fn good_is_least()
+    ensures { GoodIsLeast }
+{}
+
+/// Where a good record says that no choice fits, none does.
+pub fn good_none_fits()
+    ensures { GoodNoneFits }
 {}

@@ -1,0 +1,14 @@
+pub mod Fronts
+pub mod Grown
+pub mod Asked
+pub mod Exists
+pub mod Kept
+pub mod Firsts
+pub mod Leading
+pub mod Produced
+pub mod Counts
+pub mod Picks
+pub mod Wholes
+pub mod Merges
+pub mod Bounds
+pub mod Assembled

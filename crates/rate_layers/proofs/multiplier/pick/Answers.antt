@@ -1,0 +1,40 @@
+use Rattle.std.proofs.Common.{subst, take, get_or, ◌+◌, sym, refl}
+use Rattle.std.specs.List.{Contains, All}
+use Rattle.std.proofs.lemmas.List.{take_all}
+use Rattle.std.proofs.lemmas.List.Elements.{All-contains, All-more, All-weaker, Contains-get_or}
+use Rattle.std.proofs.lemmas.Bool.{false≢true}
+use Rattle.rate_table.specs.declared.entry.Entry.{Entry}
+use Rattle.rate_layers.specs.Multiplier.{Wins}
+use Rattle.rate_layers.proofs.Picks.{pick_wins, wins_trans, wins_self}
+use Rattle.rate_layers.proofs.multiplier.pick.Goals as goal
+use Rattle.rate_layers.proofs.multiplier.pick.Goals.{then-not-is_better, else-not-is_better}
+
+no_entry : Entry
+no_entry = record { index = 0; size = 0; error = 0 }
+
+pub loop-x-preserved : goal.loop-x-preserved
+unfolding no_entry
+loop-x-preserved c =
+    let xs = c.args.entries.now in
+    let m = c.args.multiplier in
+    let k = c.loop-x.x-index in
+    let e = get_or xs k no_entry in
+    let best = c.loop-x.best in
+    elim c.if-not-is_better.branch [
+      | then-not-is_better w ↦
+          subst (λ (b : Entry). record { within : Contains xs b; wins : All (λ y. Wins m b y) (take (k + 1) xs) }) (sym w.best-is) (record {
+            within = Contains-get_or xs k no_entry c.loop-x-test.true;
+            wins = All-more (λ y. Wins m e y) xs k no_entry c.loop-x-test.true
+                (All-weaker (λ y. Wins m best y) (λ y. Wins m e y) (λ y h. wins_trans m e best y (w.if-not-is_better.ensures.no false≢true) h) (take k xs) c.loop-x.invariant.wins) (wins_self m e e refl);
+          })
+      | else-not-is_better w ↦
+          subst (λ (b : Entry). record { within : Contains xs b; wins : All (λ y. Wins m b y) (take (k + 1) xs) }) (sym w.best-is) (record {
+            within = c.loop-x.invariant.within;
+            wins = All-more (λ y. Wins m best y) xs k no_entry c.loop-x-test.true c.loop-x.invariant.wins (w.if-not-is_better.ensures.yes refl);
+          })
+    ]
+
+pub returns : goal.returns
+returns c =
+    pick_wins c.args.multiplier c.args.entries.now c.loop-x.best c.loop-x.invariant.within (λ y i.
+    All-contains (λ (y : Entry). Wins c.args.multiplier c.loop-x.best y) c.args.entries.now y (subst (λ xs. All (λ (y : Entry). Wins c.args.multiplier c.loop-x.best y) xs) (take_all c.loop-x.x-index c.args.entries.now c.loop-x-test.false) c.loop-x.invariant.wins) i)

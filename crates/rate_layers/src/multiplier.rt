@@ -1,0 +1,91 @@
+//! The least multiplier whose picks fit.
+
+ghost use Rattle.std.specs.Prelude.{◌≡◌, ◌+◌, ◌*◌, ◌<◌, ◌≤◌, ◌^◌, ◌↔◌, IsTrue, ℕ, List, length};
+ghost use Rattle.std.specs.List.{All, Contains};
+ghost use Rattle.rate_table.specs.declared.entry.Entry.{Entry};
+ghost use Rattle.rate_table.specs.Table.{IsSlice, IsChoice, Fits, size_of, error_of};
+ghost use Rattle.rate_layers.specs.Multiplier.{IsPick, ArePicks, PicksFit, IsMultiplier, Wins};
+
+use crate::costs::cost_of;
+use rate_table::{Entry, FrameTable, SliceTable};
+
+/// Whether one entry is taken rather than another, or is the other.
+fn is_better(a: &Entry, b: &Entry, multiplier: u64) -> bool
+    ensures yes { IsTrue result → Wins multiplier a.now b.now }
+    ensures no { (IsTrue result → ⊥) → Wins multiplier b.now a.now }
+{
+    let first = cost_of(a, multiplier);
+    let second = cost_of(b, multiplier);
+    first < second || first == second && (a.size < b.size || a.size == b.size && a.index <= b.index)
+}
+
+/// The entry of least cost, then of least size, then of least index.
+fn pick(entries: &[Entry], multiplier: u64) -> Entry
+    requires { 0 < length entries.now }
+    ensures { IsPick multiplier entries.now result }
+{
+    let mut best = entries[0];
+    for x in entries {
+        if !is_better(&best, x, multiplier) {
+            best = *x;
+        }
+    }
+    best
+}
+
+fn sums_of(slices: &[SliceTable], multiplier: u64) -> (u64, u64)
+    requires few { length slices.now ≤ 131070 }
+    requires each { All IsSlice slices.now }
+    ensures picks { (c : List Entry) × ArePicks multiplier slices.now c × (result.0 ≡ size_of c) × (result.1 ≡ error_of c) }
+    ensures size { result.0 < 2 ^ 34 }
+    ensures error { result.1 < 2 ^ 61 }
+{
+    let mut size: u64 = 0;
+    let mut error: u64 = 0;
+    for slice in slices {
+        let x = pick(slice.entries(), multiplier);
+        size += u64::from(x.size);
+        error += x.error;
+    }
+    (size, error)
+}
+
+/// Size, without the fixed bytes, and error of the picks by this multiplier: in each slice the entry of least
+/// cost, then of least size, then of least index. No memory is taken.
+pub fn pick_sums(table: &FrameTable, multiplier: u64) -> (u64, u64)
+    ensures picks { (c : List Entry) × ArePicks multiplier table.now.slices c × (result.0 ≡ size_of c) × (result.1 ≡ error_of c) }
+    ensures size { result.0 < 2 ^ 34 }
+    ensures error { result.1 < 2 ^ 61 }
+{
+    sums_of(table.slices.as_slice(), multiplier)
+}
+
+/// Whether the picks by this multiplier have at most this size.
+fn picks_fit(slices: &[SliceTable], multiplier: u64, room: u64) -> bool
+    requires few { length slices.now ≤ 131070 }
+    requires each { All IsSlice slices.now }
+    ensures { IsTrue result ↔ ((c : List Entry) × ArePicks multiplier slices.now c × (size_of c ≤ room)) }
+{
+    sums_of(slices, multiplier).0 <= room
+}
+
+/// The least multiplier whose picks fit, of a table where a choice fits. No memory is taken.
+pub fn least_multiplier(table: &FrameTable) -> u64
+    requires fits { (c : List Entry) × IsChoice table.now.slices c × Fits table.now c }
+    ensures multiplier { IsMultiplier table.now result }
+    ensures limit { result ≤ 2 ^ 43 }
+{
+    let slices = table.slices.as_slice();
+    let room = u64::from(table.budget) - u64::from(table.fixed);
+    let mut low: u64 = 0;
+    let mut high: u64 = 1 << 43;
+    while low < high {
+        let middle = low + (high - low) / 2;
+        if picks_fit(slices, middle, room) {
+            high = middle;
+        } else {
+            low = middle + 1;
+        }
+    }
+    high
+}

@@ -1,0 +1,136 @@
+//! The best choice of a table.
+
+ghost use Rattle.std.specs.Prelude.{◌≡◌, ◌≢◌, ◌+◌, ◌-◌, ◌*◌, ◌<◌, ◌≤◌, ◌^◌, ℕ, suc, List, [], ◌∷◌, ◌++◌, IfOk, IfErr, IfSome, IfNone, IsErr, Err, length, map, slice_index_or};
+ghost use Rattle.rate_table.specs.declared.entry.Entry.{Entry};
+ghost use Rattle.rate_table.specs.declared.entry.Pair.{Pair};
+ghost use Rattle.rate_table.specs.Table.{IsChoice, Fits, HasNoFit, error_of};
+ghost use Rattle.rate_table.specs.Pairs.{rest};
+ghost use Rattle.rate_table.specs.Records.{IsGoodFit, SaysNone};
+ghost use Rattle.rate_layers.specs.declared.fault.BestFault.TheVariants.{LayersFull};
+ghost use Rattle.rate_layers.specs.Layers.{AreKept, pairs_in};
+ghost use Rattle.rate_layers.specs.Multiplier.{IsMultiplier};
+ghost use Rattle.rate_layers.specs.Live.{AreFound};
+ghost use Rattle.rate_layers.specs.Best.{OnFits, OnNone, TellsBest, TellsLayers, PassesByPicks, PassesByBest};
+
+use crate::costs::least_costs;
+use crate::fault::BestFault;
+use crate::layers::kept_layers;
+use crate::live::first_choice;
+use crate::multiplier::{least_multiplier, pick_sums};
+use crate::narrowed::narrow;
+use crate::outcome::Outcome;
+use rate_table::{FrameTable, Pair, least};
+use std::alloc::Global;
+
+/// Layers, and the pair of the best choice, which is the last one of the last layer.
+#[derive(Drop)]
+struct Found {
+    layers: Vec<Vec<Pair>>,
+    goal: Pair,
+}
+
+/// The last pair of the last layer.
+fn last_pair(layers: &[Vec<Pair>]) -> Option<Pair>
+    ensures some { IfSome result (λ p. (front : List Pair) × (slice_index_or (map (λ l. l.items) layers.now) (length layers.now - 1) [] ≡ front ++ p ∷ [])) }
+    ensures none { IfNone result (slice_index_or (map (λ l. l.items) layers.now) (length layers.now - 1) [] ≡ []) }
+{
+    match layers.last() {
+        Some(layer) => layer.last().copied(),
+        None => None,
+    }
+}
+
+/// The layers that this error keeps, if a fitting choice has no more.
+fn found_within(
+    alloc: Global,
+    table: &FrameTable,
+    multiplier: u64,
+    error: u64,
+) -> Result<Option<Found>, BestFault>
+    ensures some { IfOk result (λ o. IfSome o (λ f. AreFound table.now multiplier error f.goal (map (λ l. l.items) f.layers.items))) }
+    ensures none { IfOk result (λ o. IfNone o ((c : List Entry) → IsChoice table.now.slices c → Fits table.now c → error < error_of c)) }
+    ensures full { IfErr result (λ e. e ≡ LayersFull → (layers : List (List Pair)) → AreKept table.now multiplier error layers → 2 ^ 25 < pairs_in layers) }
+{
+    let layers = kept_layers(alloc, table, multiplier, error)?;
+    match last_pair(&layers) {
+        Some(goal) if goal.error <= error => Ok(Some(Found { layers, goal })),
+        _ => Ok(None),
+    }
+}
+
+/// No fitting choice has less error. It is 0 where the costs of the budget are above all others.
+fn lower_bound(table: &FrameTable, multiplier: u64) -> u128
+    ensures { result ≡ (rest multiplier table.now.slices + multiplier * table.now.fixed) - multiplier * table.now.budget }
+{
+    let byte = u128::from(multiplier);
+    let costs = least_costs(table, multiplier) + byte * u128::from(table.fixed);
+    costs.saturating_sub(byte * u128::from(table.budget))
+}
+
+/// The layers that some error keeps that a fitting choice has. Small errors are tried first: from a lower bound of all
+/// errors a 4,096th of the way to the error of the multiplier's picks, then four times as far, up to that error, which
+/// a fitting choice has.
+fn find(alloc: Global, table: &FrameTable, multiplier: u64) -> Result<Found, BestFault>
+    requires { IsMultiplier table.now multiplier }
+    ensures found { IfOk result (λ f. (u : ℕ) × AreFound table.now multiplier u f.goal (map (λ l. l.items) f.layers.items)) }
+    ensures full { IfErr result (λ e. e ≡ LayersFull → PassesByPicks table.now) }
+{
+    let most = pick_sums(table, multiplier).1;
+    let low = lower_bound(table, multiplier).min(u128::from(most)) as u64;
+    for shift in [12, 10, 8, 6, 4, 2] {
+        let error = low + ((most - low) >> shift);
+        if let Some(found) = found_within(alloc, table, multiplier, error)? {
+            return Ok(found);
+        }
+    }
+    match found_within(alloc, table, multiplier, most)? {
+        Some(found) => Ok(found),
+        None => unreachable!(),
+    }
+}
+
+/// The best choice of a table where one fits.
+fn best_fit(alloc: Global, table: &FrameTable) -> Result<Outcome, BestFault>
+    requires { (c : List Entry) × IsChoice table.now.slices c × Fits table.now c }
+    ensures fits { OnFits result (TellsBest table.now) }
+    ensures layers { OnFits result (TellsLayers table.now) }
+    ensures good { OnFits result (IsGoodFit table.now) }
+    ensures none { OnNone result (λ least. ⊥) }
+    ensures full_only { IfErr result (λ e. e ≡ LayersFull → PassesByPicks table.now) }
+    ensures full_always { PassesByBest table.now → IsErr result }
+{
+    let multiplier = least_multiplier(table);
+    let Found { mut layers, goal } = find(alloc, table, multiplier)?;
+    narrow(table, multiplier, goal, &mut layers);
+    let choice = first_choice(alloc, table, &layers, goal)?;
+    Ok(Outcome::Fits {
+        choice,
+        size: u64::from(goal.size),
+        error: goal.error,
+        layers,
+        multiplier,
+    })
+}
+
+/// The best choice of a table: the fitting one of least error, then of least size, then the first in the order of
+/// index lists; with the layers and the multiplier that show that none has less error. `None` where no choice fits.
+/// The layers take 16 bytes a pair, and the layer at work twice as much.
+///
+/// The errors are `LayersFull` where the layers number more than 2^25 pairs, and `NoMemory`.
+pub fn best(alloc: Global, table: &FrameTable) -> Result<Outcome, BestFault>
+    ensures fits { OnFits result (TellsBest table.now) }
+    ensures layers { OnFits result (TellsLayers table.now) }
+    ensures good { OnFits result (IsGoodFit table.now) }
+    ensures none { OnNone result (λ least. HasNoFit table.now × SaysNone table.now least) }
+    // `LayersFull` comes only where the layers kept by the error of the multiplier's picks number more than 2^25 pairs.
+    ensures full_only { IfErr result (λ e. e ≡ LayersFull → PassesByPicks table.now) }
+    // Where those kept by the best choice's own error do, there is no other answer than `LayersFull` and `NoMemory`.
+    ensures full_always { PassesByBest table.now → IsErr result }
+    ensures full_never { (table.now.budget + 1) * (length table.now.slices + 1) ≤ 2 ^ 25 → result ≢ Err LayersFull }
+{
+    let bytes = least(table);
+    if u64::from(table.budget) < bytes {
+        return Ok(Outcome::None { least: bytes });
+    }
+    best_fit(alloc, table)
+}
