@@ -6,3 +6,4 @@ pub mod Enumerated
 pub mod Best
 pub mod Costs
 pub mod Sound
+pub mod Numbered

@@ -4,3 +4,4 @@ pub mod Pairs
 pub mod Records
 pub mod Laws
 pub mod Reading
+pub mod Small

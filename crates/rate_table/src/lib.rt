@@ -6,6 +6,7 @@ mod fault;
 mod field;
 mod laws;
 mod reading;
+mod small;
 mod sums;
 mod table;
 #[cfg(test)]
@@ -18,5 +19,6 @@ pub use laws::{
     good_none_fits, indices_tell_choice, none_fits_below_least,
 };
 pub use reading::{read_body, read_file, read_table};
+pub use small::{SmallFault, SmallOutcome, best_small};
 pub use sums::{least, total};
 pub use table::{FrameTable, SliceTable, Slices};

@@ -1,5 +1,5 @@
 -- What `plan` answers and writes. Our own definitions.
-use Rattle.std.specs.Prelude.{◌≡◌, ℕ, List, ◌++◌, nat_lt, ◌≤◌, ◌⊎◌, Result, Ok, Err, codes, if◌then◌else◌}
+use Rattle.std.specs.Prelude.{◌≡◌, ℕ, List, ◌++◌, length, ◌+◌, ◌*◌, ◌^◌, ◌<◌, ◌⊎◌, Result, Ok, Err, codes}
 use Rattle.std.specs.List.{flat_map}
 use Rattle.std.specs.Fmt.{decimal}
 use Rattle.pw_outside.specs.Reading.{Fault}
@@ -7,11 +7,12 @@ use Rattle.pw_outside.specs.Writing.{SinkState, Puts, PutsFront}
 use Rattle.rate_table.specs.declared.entry.Entry.{Entry}
 use Rattle.rate_table.specs.declared.fault.ProofKind.{ProofKind}
 use Rattle.rate_table.specs.Table.{Table, IsBest, HasNoFit, indices, size_of, error_of, least_bytes}
-use Rattle.rate_table.specs.Choices.{width}
+use Rattle.rate_layers.specs.Best.{PassesByPicks, PassesByBest}
 use Rattle.workshop.specs.declared.status.Status.{Status}
 use Rattle.workshop.specs.declared.status.Status.TheVariants as s
-use Rattle.workshop.specs.declared.small.SmallOutcome.{SmallOutcome}
-use Rattle.workshop.specs.declared.small.SmallOutcome.TheVariants as outcomes
+use Rattle.workshop.specs.Status.{AnswersUnlessOutside}
+use Rattle.rate_layers.specs.declared.outcome.Outcome.{Outcome}
+use Rattle.rate_layers.specs.declared.outcome.Outcome.TheVariants as outcomes
 
 -- ---- the text
 
@@ -28,8 +29,8 @@ abbrev pub none_text : ℕ → List ℕ
 none_text least = codes "none least " ++ decimal least ++ codes "\n"
 
 -- the lines of an outcome
-abbrev pub outcome_text : SmallOutcome → List ℕ
-outcome_text (outcomes.Fits choice size error) = fits_text choice.items size error
+abbrev pub outcome_text : Outcome → List ℕ
+outcome_text (outcomes.Fits choice size error layers multiplier) = fits_text choice.items size error
 outcome_text (outcomes.None least) = none_text least
 
 -- The text is that of the table's best choice; or of none, with the table's least bytes, where no choice fits.
@@ -40,10 +41,24 @@ IsPlanText t text =
 
 -- ---- the answer, by what reading the table file gives
 
--- the answer where no port fails and memory lasts
-abbrev pub plan_status : Result Table (Fault ProofKind) → Status
-plan_status (Err f) = s.BadProof f.kind f.place
-plan_status (Ok t) = if nat_lt 65536 (width t.slices) then s.TooWide else s.Done
+-- The budget, and one for each slice, are so many that a layer with a pair for each size may pass 2^25 pairs together.
+abbrev pub IsWide : Table → Type 0
+IsWide t = 2 ^ 25 < (t.budget + 1) * (length t.slices + 1)
+
+-- The answer to a table, where no port failed and memory lasted. It is too full where the layers kept by the error of the best
+-- choice number more than 2^25 pairs, and only where those kept by the error of the multiplier's picks do.
+abbrev pub AnswersTable : Table → Status → Type 0
+AnswersTable t s.Done = PassesByBest t → ⊥
+AnswersTable t (s.LayersFull frame) = (frame ≡ 0) × PassesByPicks t × IsWide t
+AnswersTable t s.NoMemory = Unit {0}
+AnswersTable t s.ReadFault = Unit {0}
+AnswersTable t s.WriteFault = Unit {0}
+AnswersTable t _ = ⊥
+
+-- the answer to a file: the first fault of a file that is no table, and else the answer to its table
+abbrev pub AnswersPlan : Result Table (Fault ProofKind) → Status → Type 0
+AnswersPlan (Err f) status = AnswersUnlessOutside status (s.BadProof f.kind f.place)
+AnswersPlan (Ok t) status = AnswersTable t status
 
 -- The text of the table's best choice was appended.
 abbrev pub PrintsPlan : Result Table (Fault ProofKind) → SinkState → SinkState → Type 0
@@ -53,9 +68,9 @@ PrintsPlan (Ok t) before after = (text : List ℕ) × IsPlanText t text × Puts 
 -- The first bytes of that text were appended.
 abbrev pub PrintsPart : Result Table (Fault ProofKind) → SinkState → SinkState → Type 0
 PrintsPart (Err f) before after = ⊥
-PrintsPart (Ok t) before after = (text : List ℕ) × IsPlanText t text × (width t.slices ≤ 65536) × PutsFront before after text
+PrintsPart (Ok t) before after = (text : List ℕ) × IsPlanText t text × PutsFront before after text
 
--- A table of at most 65,536 choices ends in Done, or for want of memory.
-abbrev pub Completes : Status → Result Table (Fault ProofKind) → Type 0
-Completes status (Err f) = Unit {0}
-Completes status (Ok t) = width t.slices ≤ 65536 → (status ≡ s.Done) ⊎ (status ≡ s.NoMemory)
+-- A table whose layers, kept by the error of the multiplier's picks, have no more than 2^25 pairs ends in Done, or for want of memory.
+abbrev pub CompletesPlan : Status → Result Table (Fault ProofKind) → Type 0
+CompletesPlan status (Err f) = Unit {0}
+CompletesPlan status (Ok t) = (PassesByPicks t → ⊥) → (status ≡ s.Done) ⊎ (status ≡ s.NoMemory)

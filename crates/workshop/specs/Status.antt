@@ -11,8 +11,9 @@ code_of (s.Usage _ _) = 1
 code_of s.NoMemory = 2
 code_of s.ReadFault = 3
 code_of s.WriteFault = 4
+code_of (s.LayersFull _) = 7
+code_of (s.BadMovie _ _) = 8
 code_of (s.BadProof _ _) = 10
-code_of s.TooWide = 12
 
 abbrev pub is_done : Status → Bool
 is_done s.Done = true

@@ -1,5 +1,5 @@
 -- The grammar of the command line: a table of commands, and the walk over the words. Our own definition.
-use Rattle.std.specs.Prelude.{◌≡◌, ℕ, ◌+◌, ◌==◌, nat_eq, nat_lt, Bool, List, [], ◌∷◌, ◌++◌, length, find, slice_get, Option, None, Some, Result, Ok, Err, codes, if◌then◌else◌}
+use Rattle.std.specs.Prelude.{◌≡◌, ℕ, ◌+◌, ◌==◌, nat_eq, nat_lt, Bool, true, false, List, [], ◌∷◌, ◌++◌, length, find, slice_get, Option, None, Some, Result, Ok, Err, codes, if◌then◌else◌}
 use Rattle.std.specs.List.{starts_with, list_any}
 use Rattle.std.specs.Str.{bytes_eq}
 use Rattle.workshop.specs.declared.words.Command.{Command}
@@ -90,10 +90,19 @@ abbrev pub usage_fault : Result (Command × List ℕ) (UsageKind × ℕ) → Opt
 usage_fault (Ok s) = None
 usage_fault (Err fault) = Some fault
 
--- the command that the words are a run of, where they have no fault
-abbrev pub run_of : Result (Command × List ℕ) (UsageKind × ℕ) → Option Command
-run_of (Ok s) = Some s.0
-run_of (Err fault) = None
+-- The words are a run of this command.
+abbrev pub IsRun : Command → Result (Command × List ℕ) (UsageKind × ℕ) → Type 0
+IsRun c (Ok s) = s.0 ≡ c
+IsRun c (Err fault) = ⊥
+
+-- whether the run reads the port `proof`, and whether it reads `movie`
+abbrev pub reads_proof : Result (Command × List ℕ) (UsageKind × ℕ) → Bool
+reads_proof (Ok (command.Plan, operands)) = true
+reads_proof _ = false
+
+abbrev pub reads_movie : Result (Command × List ℕ) (UsageKind × ℕ) → Bool
+reads_movie (Ok (command.List, operands)) = true
+reads_movie _ = false
 
 -- the words that name each port's file; none where the words have a fault
 abbrev pub names_in : Result (Command × List ℕ) (UsageKind × ℕ) → Names

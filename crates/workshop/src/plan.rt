@@ -6,14 +6,14 @@ ghost use Rattle.std.specs.Io.KnownBytes.{IsAtEnd};
 ghost use Rattle.pw_outside.specs.Ports.{CountsFault};
 ghost use Rattle.pw_outside.specs.Reading.{Told};
 ghost use Rattle.rate_table.specs.Reading.{tabled};
-ghost use Rattle.workshop.specs.Status.{is_done, is_read_fault, is_write_fault, has_written, usage_of, AnswersUnlessOutside};
-ghost use Rattle.workshop.specs.Plan.{spaced, outcome_text, plan_status, PrintsPlan, PrintsPart};
+ghost use Rattle.workshop.specs.Status.{is_done, is_read_fault, is_write_fault, has_written, usage_of};
+ghost use Rattle.workshop.specs.Plan.{spaced, outcome_text, AnswersPlan, PrintsPlan, PrintsPart};
 ghost use Rattle.pw_outside.specs.Writing.{sink_state, Puts, PutsFront};
 
-use crate::small::{SmallFault, SmallOutcome, best_small};
 use crate::status::Status;
 use pw_outside::{ByteSink, ByteSource, NoMemory, put};
 use pw_text::{put_decimal, put_words};
+use rate_layers::{BestFault, Outcome, best};
 use rate_table::{TableFault, read_file};
 use std::alloc::Global;
 
@@ -29,15 +29,16 @@ fn put_indices(text: &mut Vec<u8>, choice: &[u8]) -> Result<(), NoMemory>
 }
 
 /// The lines of an outcome.
-fn text_of(alloc: Global, outcome: SmallOutcome) -> Result<Vec<u8>, NoMemory>
+fn text_of(alloc: Global, outcome: Outcome) -> Result<Vec<u8>, NoMemory>
     ensures { IfOk result (λ text. text.items ≡ outcome_text outcome) }
 {
     let mut text = Vec::new(alloc);
     match outcome {
-        SmallOutcome::Fits {
+        Outcome::Fits {
             choice,
             size,
             error,
+            ..
         } => {
             put_words(&mut text, "choice")?;
             put_indices(&mut text, &choice)?;
@@ -47,7 +48,7 @@ fn text_of(alloc: Global, outcome: SmallOutcome) -> Result<Vec<u8>, NoMemory>
             put_decimal(&mut text, error)?;
             put_words(&mut text, "\n")?;
         }
-        SmallOutcome::None { least } => {
+        Outcome::None { least } => {
             put_words(&mut text, "none least ")?;
             put_decimal(&mut text, least)?;
             put_words(&mut text, "\n")?;
@@ -75,7 +76,7 @@ fn print<K: ByteSink>(sink: &mut K, lines: &[u8]) -> Status
 
 /// Reads a table file to its end, and prints its best choice.
 pub(crate) fn plan<S: ByteSource, K: ByteSink>(alloc: Global, proof: &mut S, text: &mut K) -> Status
-    ensures answer { Told (S.left proof.old) (λ bytes. AnswersUnlessOutside result (plan_status (tabled bytes))) }
+    ensures answer { Told (S.left proof.old) (λ bytes. AnswersPlan (tabled bytes) result) }
     ensures usage { usage_of result ≡ None }
     ensures text { Told (S.left proof.old) (λ bytes. OnTrue (is_done result)
         (PrintsPlan (tabled bytes) (sink_state (K.held text.old) (K.taken text.old)) (sink_state (K.held text.new) (K.taken text.new)))) }
@@ -93,10 +94,10 @@ pub(crate) fn plan<S: ByteSource, K: ByteSink>(alloc: Global, proof: &mut S, tex
         Err(TableFault::Failed) => return Status::ReadFault,
         Err(TableFault::NoMemory) => return Status::NoMemory,
     };
-    let outcome = match best_small(alloc, &table) {
+    let outcome = match best(alloc, &table) {
         Ok(outcome) => outcome,
-        Err(SmallFault::TooWide) => return Status::TooWide,
-        Err(SmallFault::NoMemory) => return Status::NoMemory,
+        Err(BestFault::LayersFull) => return Status::LayersFull { frame: 0 },
+        Err(BestFault::NoMemory) => return Status::NoMemory,
     };
     match text_of(alloc, outcome) {
         Ok(lines) => print(text, &lines),

@@ -1,5 +1,6 @@
 //! What a run answers.
 
+use qt_tables::MovieKind;
 use rate_table::ProofKind;
 use std::fmt;
 
@@ -31,10 +32,12 @@ pub enum Status {
     ReadFault,
     /// A port that the command writes failed.
     WriteFault,
+    /// The layers of this frame's table number more than 2^25 pairs; the table of `plan` is frame 0.
+    LayersFull { frame: u32 },
+    /// The movie has this first fault, at this byte.
+    BadMovie { kind: MovieKind, place: u64 },
     /// The table or the proof has this first fault, at this byte.
     BadProof { kind: ProofKind, place: u64 },
-    /// The table has more than 65,536 choices.
-    TooWide,
 }
 
 impl Status {
@@ -51,8 +54,9 @@ impl Status {
             Status::NoMemory => 2,
             Status::ReadFault => 3,
             Status::WriteFault => 4,
+            Status::LayersFull { .. } => 7,
+            Status::BadMovie { .. } => 8,
             Status::BadProof { .. } => 10,
-            Status::TooWide => 12,
         }
     }
 }
@@ -66,8 +70,9 @@ impl fmt::Display for Status {
             Status::NoMemory => write!(f, "no memory"),
             Status::ReadFault => write!(f, "read fault"),
             Status::WriteFault => write!(f, "write fault"),
+            Status::LayersFull { frame } => write!(f, "frame {frame}: too many pairs"),
+            Status::BadMovie { kind, place } => write!(f, "movie: {kind:?} at {place}"),
             Status::BadProof { kind, place } => write!(f, "proof: {kind:?} at {place}"),
-            Status::TooWide => write!(f, "too wide"),
         }
     }
 }

@@ -4,8 +4,8 @@ use Rattle.std.proofs.Common.{refl, ◌≡◌, ◌+◌, ◌/◌, ◌<◌, [], dr
 use Rattle.std.proofs.lemmas.List.{get_or_read}
 use Rattle.rate_table.specs.Table.{IsSlice}
 use Rattle.rate_table.specs.Choices.{width}
-use Rattle.workshop.proofs.Numbered.{width-div, number-below, choice_at-more, width-pos, rest_of_slices}
-use Rattle.workshop.proofs.small.choice_of.Goals as goal
+use Rattle.rate_table.proofs.Numbered.{width-div, number-below, choice_at-more, width-pos, rest_of_slices}
+use Rattle.rate_table.proofs.small.choice_of.Goals as goal
 
 pub bounds-entries-rest : goal.bounds-entries-rest
 bounds-entries-rest c =

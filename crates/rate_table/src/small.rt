@@ -1,12 +1,15 @@
-//! The best choice of a table with few choices.
+//! The best choice of a table with few choices, by trying all: the plain program beside the definitions, with which
+//! faster ones are compared.
 
 ghost use Rattle.std.specs.Prelude.{◌≡◌, ◌+◌, ◌*◌, ◌^◌, ◌<◌, ◌≤◌, ◌↔◌, ◌++◌, All, OnOk, IfOk, IfSome, Some, None, if◌then◌else◌, nat_le, nat_lt, ◌==◌, ◌&&◌, ◌||◌, Err, length, map, option_map};
 ghost use Rattle.std.specs.List.{flat_map};
 ghost use Rattle.rate_table.specs.Table.{IsSlice, indices};
 ghost use Rattle.rate_table.specs.Choices.{all_choices, width, better, best_of};
-ghost use Rattle.workshop.specs.Small.{IsOutcome, all_sums, plus, choice_at};
+ghost use Rattle.rate_table.specs.Small.{IsOutcome, all_sums, plus, choice_at};
 
-use rate_table::{Entry, FrameTable, SliceTable, least};
+use crate::entry::Entry;
+use crate::sums::least;
+use crate::table::{FrameTable, SliceTable};
 use std::alloc::{AllocError, Global};
 
 /// At most so many choices are tried.
@@ -35,7 +38,7 @@ pub enum SmallFault {
 
 impl From<AllocError> for SmallFault {
     ghost use Rattle.std.specs.Prelude.{◌≡◌};
-    ghost use Rattle.workshop.specs.declared.small.SmallFault.TheVariants.{NoMemory};
+    ghost use Rattle.rate_table.specs.declared.small.SmallFault.TheVariants.{NoMemory};
 
     ghost from_gives = { λ _ e. e ≡ NoMemory };
 

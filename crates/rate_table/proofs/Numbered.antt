@@ -11,8 +11,8 @@ use Rattle.rate_table.specs.declared.entry.Entry.{Entry}
 use Rattle.rate_table.specs.Table.{IsEntry, IsSlice, size_of, error_of, indices}
 use Rattle.rate_table.specs.Choices.{all_choices, width}
 use Rattle.rate_table.proofs.Enumerated.{count_is_width}
-use Rattle.workshop.specs.declared.small.Sums.{Sums}
-use Rattle.workshop.specs.Small.{sums_of, all_sums, plus, choice_at}
+use Rattle.rate_table.specs.declared.small.Sums.{Sums}
+use Rattle.rate_table.specs.Small.{sums_of, all_sums, plus, choice_at}
 
 -- ---- how many choices there are
 

@@ -2,8 +2,8 @@ use Rattle.std.proofs.Common.{◌≡◌, ◌<◌, ◌++◌, drop}
 use Rattle.std.specs.List.{All}
 use Rattle.rate_table.specs.Table.{IsSlice, indices}
 use Rattle.rate_table.specs.Choices.{width}
-use Rattle.workshop.specs.Small.{choice_at}
-use Rattle.workshop.proofs.small.choice_of.Given as goal
+use Rattle.rate_table.specs.Small.{choice_at}
+use Rattle.rate_table.proofs.small.choice_of.Given as goal
 
 abbrev pub invariant-loop-slice : goal.invariant-loop-slice
 invariant-loop-slice l = record {

@@ -3,9 +3,9 @@ use Rattle.std.specs.Prelude.{◌≡◌, ℕ, ◌+◌, List, [], map, get_or}
 use Rattle.rate_table.specs.declared.entry.Entry.{Entry}
 use Rattle.rate_table.specs.Table.{Table, IsBest, HasNoFit, indices, size_of, error_of, least_bytes}
 use Rattle.rate_table.specs.Choices.{all_choices}
-use Rattle.workshop.specs.declared.small.SmallOutcome.{SmallOutcome}
-use Rattle.workshop.specs.declared.small.SmallOutcome.TheVariants as outcomes
-use Rattle.workshop.specs.declared.small.Sums.{Sums}
+use Rattle.rate_table.specs.declared.small.SmallOutcome.{SmallOutcome}
+use Rattle.rate_table.specs.declared.small.SmallOutcome.TheVariants as outcomes
+use Rattle.rate_table.specs.declared.small.Sums.{Sums}
 
 -- the indices, the size and the error of the table's best choice
 pub record IsBestWith (t : Table) (choice : List ℕ) (size error : ℕ) : Type 0 where

@@ -2,7 +2,7 @@ use Rattle.std.proofs.Common.{◌≡◌, ◌≤◌, ◌*◌, drop}
 use Rattle.std.specs.List.{All}
 use Rattle.rate_table.specs.Table.{IsSlice}
 use Rattle.rate_table.specs.Choices.{width}
-use Rattle.workshop.proofs.small.width_of.Given as goal
+use Rattle.rate_table.proofs.small.width_of.Given as goal
 
 abbrev pub invariant-loop-slice : goal.invariant-loop-slice
 invariant-loop-slice l = record {

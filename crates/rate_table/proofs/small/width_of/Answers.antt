@@ -1,8 +1,8 @@
 use Rattle.std.proofs.Common.{arith, []}
 use Rattle.std.proofs.lemmas.Grind.{common_steps}
 use Rattle.std.proofs.lemmas.List.{get_or_read}
-use Rattle.workshop.proofs.Numbered.{width-ge}
-use Rattle.workshop.proofs.small.width_of.Goals as goal
+use Rattle.rate_table.proofs.Numbered.{width-ge}
+use Rattle.rate_table.proofs.small.width_of.Goals as goal
 
 pub returns-then-product-gt-MOST : goal.returns-then-product-gt-MOST
 returns-then-product-gt-MOST c =

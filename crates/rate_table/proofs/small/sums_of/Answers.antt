@@ -2,10 +2,10 @@ use Rattle.std.proofs.Common.{◌≡◌, ℕ, List, ◌∷◌, ◌-◌, ◌+◌,
 use Rattle.std.proofs.lemmas.List.{drop_more, length-drop, get_or_read}
 use Rattle.rate_table.specs.declared.entry.Entry.{Entry}
 use Rattle.rate_table.specs.Table.{IsSlice}
-use Rattle.workshop.specs.Small.{all_sums}
+use Rattle.rate_table.specs.Small.{all_sums}
 use Rattle.std.proofs.lemmas.List.Elements.{All-drop}
-use Rattle.workshop.proofs.Numbered.{sums-small, all_sums-cons, length-all_sums}
-use Rattle.workshop.proofs.small.sums_of.Goals as goal
+use Rattle.rate_table.proofs.Numbered.{sums-small, all_sums-cons, length-all_sums}
+use Rattle.rate_table.proofs.small.sums_of.Goals as goal
 
 pub extended-requires : goal.extended-requires
 extended-requires c =

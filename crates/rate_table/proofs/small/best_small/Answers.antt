@@ -1,10 +1,10 @@
 use Rattle.std.proofs.Common.{◌≡◌, ◌<◌, ◌∙◌, length, sym, ap, subst}
 use Rattle.rate_table.specs.Table.{Table, IsTable, indices}
 use Rattle.rate_table.proofs.Enumerated.{best_of-is_best, best_of-none}
-use Rattle.workshop.specs.declared.small.Sums.{Sums}
-use Rattle.workshop.specs.Small.{choice_at, all_sums}
-use Rattle.workshop.proofs.Numbered.{sums_read}
-use Rattle.workshop.proofs.small.best_small.Goals as goal
+use Rattle.rate_table.specs.declared.small.Sums.{Sums}
+use Rattle.rate_table.specs.Small.{choice_at, all_sums}
+use Rattle.rate_table.proofs.Numbered.{sums_read}
+use Rattle.rate_table.proofs.small.best_small.Goals as goal
 
 pub returns-in-None-clause-best : goal.returns-in-None-clause-best
 returns-in-None-clause-best c = (best_of-none c.args.table.now c.in-None.ensures.best, c.least.ensures)

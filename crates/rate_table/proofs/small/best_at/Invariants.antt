@@ -1,8 +1,8 @@
 use Rattle.std.proofs.Common.{None, ◌≡◌, ◌<◌, drop}
 use Rattle.std.specs.Prelude.{option_map, IfSome}
 use Rattle.rate_table.specs.Choices.{best_of, all_choices}
-use Rattle.workshop.specs.Small.{choice_at}
-use Rattle.workshop.proofs.small.best_at.Given as goal
+use Rattle.rate_table.specs.Small.{choice_at}
+use Rattle.rate_table.proofs.small.best_at.Given as goal
 
 abbrev pub invariant-loop-i : goal.invariant-loop-i
 invariant-loop-i l = record {

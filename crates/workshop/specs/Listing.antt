@@ -1,0 +1,28 @@
+-- What `list` answers. Our own definitions.
+use Rattle.std.specs.Prelude.{◌≡◌, ◌⊎◌, Result, Ok, Err}
+use Rattle.pw_outside.specs.Reading.{Fault}
+use Rattle.qt_tables.specs.declared.fault.MovieKind.{MovieKind}
+use Rattle.qt_movie.specs.Movie.{Movie}
+use Rattle.run_look.specs.declared.end.LookEnd.{LookEnd}
+use Rattle.run_look.specs.declared.end.LookEnd.TheVariants as ends
+use Rattle.workshop.specs.Status.{AnswersUnlessOutside}
+use Rattle.workshop.specs.declared.status.Status.{Status}
+use Rattle.workshop.specs.declared.status.Status.TheVariants as s
+
+-- the answer with the fields of a run's end
+abbrev pub status_of : LookEnd → Status
+status_of ends.Done = s.Done
+status_of ends.NoMemory = s.NoMemory
+status_of ends.ReadFault = s.ReadFault
+status_of ends.WriteFault = s.WriteFault
+status_of (ends.BadMovie kind place) = s.BadMovie kind place
+
+-- the answer to a file: the first fault of a file that is no movie with a track of ProRes
+abbrev pub AnswersList : Result Movie (Fault MovieKind) → Status → Type 0
+AnswersList (Err f) status = AnswersUnlessOutside status (s.BadMovie f.kind f.place)
+AnswersList (Ok m) status = AnswersUnlessOutside status s.Done
+
+-- A movie is listed, unless memory runs out.
+abbrev pub CompletesList : Status → Result Movie (Fault MovieKind) → Type 0
+CompletesList status (Err f) = Unit {0}
+CompletesList status (Ok m) = (status ≡ s.Done) ⊎ (status ≡ s.NoMemory)

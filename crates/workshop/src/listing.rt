@@ -1,0 +1,20 @@
+//! The answer to a run of `list`.
+
+ghost use Rattle.std.specs.Prelude.{◌≡◌};
+ghost use Rattle.workshop.specs.Listing.{status_of};
+
+use crate::status::Status;
+use run_look::LookEnd;
+
+/// The answer with the fields of a run's end.
+pub(crate) fn status_of(end: LookEnd) -> Status
+    ensures { result ≡ status_of end }
+{
+    match end {
+        LookEnd::Done => Status::Done,
+        LookEnd::NoMemory => Status::NoMemory,
+        LookEnd::ReadFault => Status::ReadFault,
+        LookEnd::WriteFault => Status::WriteFault,
+        LookEnd::BadMovie { kind, place } => Status::BadMovie { kind, place },
+    }
+}
