@@ -44,6 +44,28 @@ walk-on file at end top a lt s =
     let e : ((end - at) - 1) - ((a.end - a.at) - 1) ≡ end - a.end = omega (arith, s.0, lies.begins, lies.head, lies.within, lies.ends) in
     passed file end top ((end - at) - 1) ((a.end - a.at) - 1) (omega (arith, s.0, lies.begins, lies.head, lies.within, lies.ends)) ∙ ap (λ m. walk_over file end top m 0) e
 
+none-whole : (found : Option Atom) (bad : Option ℕ) → found_or found (none_or_bad bad) ≡ Ok None → bad ≡ None
+none-whole None None h = refl
+none-whole None (Some place) h = grind arith
+none-whole (Some a) bad h = grind arith
+
+-- the walk from an atom on, the walk that ends here, and the walk that a bad size ends
+pub walk_atom : (file : List ℕ) (at end : ℕ) (top : Bool) (a : Atom) → at < end → atom_at file at end top ≡ Ok (steps.Atom a) → StartsAt at end (steps.Atom a)
+    → walk file at end top ≡ record { atoms = a ∷ (walk file a.end end top).atoms; bad = (walk file a.end end top).bad }
+walk_atom file at end top a lt h s =
+    walk-step file at end top lt ∙ ap (λ r. and_then r (λ b. walk_over file end top ((end - at) - 1) ((b.end - b.at) - 1))) h
+    ∙ ap (λ (w : Walk). (let v : Walk = record { atoms = a ∷ w.atoms; bad = w.bad } in v)) (walk-on file at end top a lt s)
+
+pub walk_end : (file : List ℕ) (at end : ℕ) (top : Bool) → at < end → atom_at file at end top ≡ Ok steps.End → walk file at end top ≡ record { atoms = []; bad = None }
+walk_end file at end top lt h = walk-step file at end top lt ∙ ap (λ r. and_then r (λ b. walk_over file end top ((end - at) - 1) ((b.end - b.at) - 1))) h
+
+pub walk_bad : (file : List ℕ) (at end : ℕ) (top : Bool) (place : ℕ) → at < end → atom_at file at end top ≡ bad_size place → walk file at end top ≡ record { atoms = []; bad = Some place }
+walk_bad file at end top place lt h = walk-step file at end top lt ∙ ap (λ r. and_then r (λ b. walk_over file end top ((end - at) - 1) ((b.end - b.at) - 1))) h
+
+-- a walk in which no atom passes a test has no bad size, where that is all that was found
+pub none_is_whole : (test : Atom → Bool) (w : Walk) → first_in test w ≡ Ok None → w.bad ≡ None
+none_is_whole test w h = none-whole (find test w.atoms) w.bad h
+
 -- ---- the first of a walk
 
 first-step : (test : Atom → Bool) (file : List ℕ) (at end : ℕ) (top : Bool) (r : Sized Step) → at < end → atom_at file at end top ≡ r

@@ -1,0 +1,2 @@
+pub mod Movie
+pub mod Ranges

@@ -1,0 +1,13 @@
+//! Movies of ProRes pictures in QuickTime files, read and written.
+#![tactic(auto)]
+
+mod description;
+mod external;
+mod fields;
+mod moov;
+mod parts;
+mod reader;
+mod track;
+
+pub use description::Description;
+pub use parts::Parts;
