@@ -6,12 +6,12 @@ use Rattle.std.proofs.lemmas.Bool.Decides.{nat_tests}
 use Rattle.std.proofs.lemmas.List.{take_more, take_all, length-take-le}
 use Rattle.std.proofs.lemmas.List.Elements.{All-cons, All-nil}
 use Rattle.std.proofs.lemmas.List.Sums.{sum_by_more}
-use Rattle.std.proofs.Math.Nat.{suc-mul, mul-le-mul_left, div-lt_iff_lt-mul}
+use Rattle.std.proofs.Math.Nat.{suc-mul, div-lt_iff_lt-mul}
 use Rattle.std.proofs.lemmas.Nat.{div-add-mod'}
-use Rattle.std.proofs.lemmas.Option.{get_or_from_slice_get, slice_get-get_or, slice_get_within}
+use Rattle.std.proofs.lemmas.Option.{get_or_from_slice_get, slice_get-get_or, slice_get_within, slice_get_past}
 use Rattle.qt_tables.specs.declared.runs.ChunkRun.{ChunkRun}
 use Rattle.qt_tables.specs.Samples.{Chunk, chunk_of, run_from, run_of, no_run, chunks_from, chunks, held_by}
-use Rattle.qt_tables.specs.Sums.{chunks_before, held_before}
+use Rattle.qt_tables.specs.Sums.{chunks_before, held_before, InRun}
 use Rattle.qt_tables.specs.Tables.{begins_at_1, is_in_order, AreRuns}
 
 -- ---- runs in order
@@ -200,21 +200,7 @@ held-first (run ∷ runs) offsets are =
     let e : min (run.first - 1) (length offsets) ≡ 0 = omega (arith, one) in
     sym (ap (λ n. held_by (take n (chunks (run ∷ runs) offsets))) e)
 
--- the sum stays within what the chunks may hold
-pub sum-fits : (total a b samples : ℕ) → total ≤ 4294967295 * a → a ≤ b → samples ≤ 4294967295 → total + (b - a) * samples ≤ 4294967295 * b
-sum-fits total a b samples le order small =
-    let product : (b - a) * samples ≤ (b - a) * 4294967295 = mul-le-mul_left (b - a) small in
-    omega (arith, product, le, order)
-
 -- ---- the chunk of a sample
-
--- Sample i of a track is in this chunk of run j, the first sample of which has this number.
-pub record InRun (runs : List ChunkRun) (offsets : List ℕ) (i c from : ℕ) (run : ChunkRun) : Type 0 where
-  pub in_range : c < length offsets
-  pub chunk : slice_get (chunks runs offsets) c ≡ Some (chunk_of (get_or offsets c 0) run)
-  pub first : from ≡ held_by (take c (chunks runs offsets))
-  pub begun : from ≤ i
-  pub ends : i < from + run.samples
 
 pub in-run : (runs : List ChunkRun) (offsets : List ℕ) (j i : ℕ) (d : ChunkRun) → AreRuns runs → j < length runs → held_before runs offsets j ≤ i → i < held_before runs offsets (j + 1)
     → InRun runs offsets i (((get_or runs j d).first - 1) + (i - held_before runs offsets j) / (get_or runs j d).samples) (i - (i - held_before runs offsets j) % (get_or runs j d).samples) (get_or runs j d)
@@ -231,13 +217,13 @@ in-run runs offsets j i d are lt begun ends =
     let rise = fronts-rise n j runs are lt in
     let next = held-next runs offsets j a b d are lt refl refl in
     let within : i - h < (b - a) * s = omega (arith, begun, ends, next) in
-    let fewer : q < b - a = (div-lt_iff_lt-mul some).backward within in
+    let fewer : q < b - a = (div-lt_iff_lt-mul some).1 within in
     let few = front-few n (slice_get runs (j + 1)) in
     let front = front-of n runs j d lt in
     let place : (run.first - 1) + q ≡ a + q = omega (arith, front, few, fewer) in
     let held = held-in-run runs offsets j q d are lt (omega (arith, fewer)) in
     let parts = div-add-mod' (i - h) s in
-    let below : (i - h) % s < s = mod-lt (i - h) s some in
+    let below : (i - h) % s < s = mod-lt (i - h) some in
     let len = length-chunks_from runs 1 offsets in
     let in_chunks : (run.first - 1) + q < length (chunks runs offsets) = omega (arith, place, fewer, few, len) in
     record {
@@ -247,3 +233,22 @@ in-run runs offsets j i d are lt begun ends =
       begun = omega arith;
       ends = omega (arith, below, parts, begun)
     }
+
+-- all samples are in front of what is behind the last run
+pub held-all : (runs : List ChunkRun) (offsets : List ℕ) → held_before runs offsets (length runs) ≡ held_by (chunks runs offsets)
+held-all runs offsets =
+    let past : slice_get runs (length runs) ≡ None = slice_get_past runs (length runs) (omega arith) in
+    let len = length-chunks_from runs 1 offsets in
+    ap (λ o. held_by (take (chunks_before (length offsets) o) (chunks runs offsets))) past ∙ ap held_by (take_all (length offsets) (chunks runs offsets) (omega (arith, len)))
+
+-- where there are samples, there is a run
+pub some-run : (runs : List ChunkRun) (offsets : List ℕ) (i : ℕ) → AreRuns runs → i < held_by (chunks runs offsets) → 1 ≤ length runs
+some-run [] offsets i are lt = absurd (omega (arith, held-first [] offsets are, held-all [] offsets, lt))
+some-run (run ∷ runs) offsets i are lt = omega arith
+
+first-is : (runs : List ChunkRun) (d : ChunkRun) → AreRuns runs → 0 < length runs → (get_or runs 0 d).first ≡ 1
+first-is [] d are lt = absurd (omega arith)
+first-is (run ∷ runs) d are lt = grind (arith, nat_tests, are.begins)
+
+pub first-of : (runs : List ChunkRun) (k : ℕ) (d : ChunkRun) → AreRuns runs → k < length runs → 1 ≤ (get_or runs k d).first
+first-of runs k d are lt = omega (arith, at-least-first runs (rises-suc runs are) k d lt, first-is runs d are (omega arith))

@@ -3,3 +3,4 @@ pub mod Pieces
 pub mod Near
 pub mod Chunks
 pub mod RunningSums
+pub mod Places

@@ -2,11 +2,14 @@
 #![tactic(auto)]
 
 mod fault;
+mod finding;
 mod judging;
+mod rows;
 mod runs;
 mod sums;
+mod tables;
 mod window;
-mod rows;
 
 pub use fault::{MovieFault, MovieKind};
 pub use runs::{ChunkRun, Sample, TimeRun};
+pub use tables::SampleTables;

@@ -1,6 +1,6 @@
 //! Running sums over tables, so that a sample is found by halving.
 
-ghost use Rattle.std.specs.Prelude.{◌≡◌, ◌≤◌, ◌<◌, ◌+◌, ◌-◌, length, slice_get, slice_index, IfOk, IfErr};
+ghost use Rattle.std.specs.Prelude.{◌≡◌, ◌≤◌, ◌<◌, ◌+◌, ◌-◌, ◌*◌, length, slice_get, slice_index, IfOk, IfErr};
 ghost use Rattle.qt_tables.specs.declared.fault.MovieFault.TheVariants as faults;
 ghost use Rattle.qt_tables.specs.Sums.{AreSums, bytes_before, timed_before, chunks_before, held_before};
 ghost use Rattle.qt_tables.specs.Tables.{AreRuns};
@@ -52,6 +52,16 @@ fn chunks_in_front(runs: &[ChunkRun], chunks: u64, k: usize) -> u64
     }
 }
 
+/// So many samples, and those of so many chunks of a run.
+fn with_chunks(total: u64, chunks: u64, run: ChunkRun) -> u64
+    requires few { chunks ≤ 1000000 }
+    requires room { total ≤ 4294967295 * 1000000 }
+    ensures value { result ≡ total + chunks * run.samples }
+    ensures small { result ≤ total + chunks * 4294967295 }
+{
+    total + chunks * u64::from(run.samples)
+}
+
 /// The samples in front of each run of chunks, and of all chunks.
 pub(crate) fn run_sums(
     alloc: Global,
@@ -70,7 +80,7 @@ pub(crate) fn run_sums(
     let mut begun = chunks_in_front(runs, chunks, 0);
     'runs: for k in 0..runs.len() {
         let next = chunks_in_front(runs, chunks, k + 1);
-        total += (next - begun) * u64::from(runs[k].samples);
+        total = with_chunks(total, next - begun, runs[k]);
         sums.push(total)?;
         begun = next;
     }
