@@ -9,13 +9,22 @@ use Rattle.qt_tables.specs.Samples.{samples}
 use Rattle.qt_movie.specs.Movie.{Movie}
 use Rattle.run_look.specs.declared.end.LookEnd.{LookEnd}
 use Rattle.run_look.specs.declared.end.LookEnd.TheVariants as ends
+use Rattle.run_look.specs.declared.listing.Stop.{Stop}
+use Rattle.run_look.specs.declared.listing.Stop.TheVariants as stops
 
 -- ---- the text
 
--- the line of the track: its number among the movie's tracks, and its first description
+-- a track: its number among the movie's tracks, its time scale, and the kind of its first description
+abbrev pub track_words : Movie → List ℕ
+track_words m = codes "track " ++ decimal m.number ++ codes " timescale " ++ decimal m.tables.timescale ++ codes " kind " ++ m.kind
+
+-- width and height by its first description
+abbrev pub size_words : Movie → List ℕ
+size_words m = codes " width " ++ decimal m.width ++ codes " height " ++ decimal m.height
+
+-- the line of the track
 abbrev pub track_line : Movie → List ℕ
-track_line m = codes "track " ++ decimal m.number ++ codes " timescale " ++ decimal m.tables.timescale ++ codes " kind " ++ m.kind
-    ++ codes " width " ++ decimal m.width ++ codes " height " ++ decimal m.height ++ codes " samples " ++ decimal (length m.tables.sizes) ++ codes "\n"
+track_line m = track_words m ++ size_words m ++ codes " samples " ++ decimal (length m.tables.sizes) ++ codes "\n"
 
 -- the line of the sample of this number
 abbrev pub sample_line : ℕ → Sample → List ℕ
@@ -45,6 +54,11 @@ abbrev pub is_write_fault : LookEnd → Bool
 is_write_fault ends.WriteFault = true
 is_write_fault _ = false
 
+-- whether writing stopped since the sink failed
+abbrev pub is_stopped_by_sink : {X : Type 0} → Result X Stop → Bool
+is_stopped_by_sink (Err stops.Failed) = true
+is_stopped_by_sink _ = false
+
 -- the answer where no port fails and memory lasts
 abbrev pub list_end : Result Movie (Fault MovieKind) → LookEnd
 list_end (Err f) = ends.BadMovie f.kind f.place
@@ -64,5 +78,5 @@ PrintsList (Ok m) before after = Puts before after (list_text m)
 
 -- The first bytes of the movie's text were appended; of a file that is no such movie none.
 abbrev pub PrintsListFront : Result Movie (Fault MovieKind) → SinkState → SinkState → Type 0
-PrintsListFront (Err f) before after = after ≡ before
+PrintsListFront (Err f) before after = Puts before after []
 PrintsListFront (Ok m) before after = PutsFront before after (list_text m)
