@@ -13,3 +13,4 @@ pub mod Merges
 pub mod Bounds
 pub mod Assembled
 pub mod Onward
+pub mod Found
