@@ -1,5 +1,5 @@
 -- From found layers to the first choice with the goal's pair.
-use Rattle.std.proofs.Common.{◌≡◌, ℕ, zero, suc, ◌+◌, ◌-◌, ◌<◌, ◌≤◌, List, [], ◌∷◌, ◌++◌, Vec, Global, length, map, get_or, take, drop, refl, sym, ap, ◌∙◌, subst, arith, ⊎_elim}
+use Rattle.std.proofs.Common.{◌≡◌, ℕ, zero, suc, ◌+◌, ◌-◌, ◌^◌, ◌<◌, ◌≤◌, List, [], ◌∷◌, ◌++◌, Vec, Global, length, map, get_or, take, drop, refl, sym, ap, ◌∙◌, subst, arith, ⊎_elim}
 use Rattle.std.specs.List.{Contains}
 use Rattle.std.proofs.lemmas.List.{get_or_append_left, get_or_push, get_or-map, get_or_default, length_push, drop_all, map_push, append_assoc, append-nil}
 use Rattle.std.proofs.lemmas.Bool.{cases_lt}
@@ -9,14 +9,14 @@ use Rattle.rate_table.specs.declared.entry.Pair.{Pair}
 use Rattle.rate_table.specs.Table.{Table, IsTable, IsChoice, Fits, size_of, error_of, pair_of, indices, IndicesRise}
 use Rattle.rate_table.specs.Pairs.{joined}
 use Rattle.rate_layers.specs.First.{IsFirst, extended, IsFirstFrom, Leads}
-use Rattle.rate_layers.specs.Layers.{Reaches, Rises, IsFront, AreKept}
+use Rattle.rate_layers.specs.Layers.{Reaches, Rises, IsFront, IsKept, AreKept, pairs_in}
 use Rattle.rate_layers.specs.Live.{LeadsOn, IsFirstOn, LeadOn, LeadTo, AreFound, AreLives}
 use Rattle.rate_layers.proofs.Fronts.{same_pair}
 use Rattle.rate_layers.proofs.Asked.{Stays, At, IsTest, kept_test}
 use Rattle.rate_layers.proofs.Kept.{kept_front}
 use Rattle.rate_layers.proofs.Firsts.{IsOptimal, below_last, last_in, prefix_in, extended_cons, greedy_end}
 use Rattle.rate_layers.proofs.Leading.{AreLive, leads_next, live_step, walk_step, live_end, first_from_none}
-use Rattle.rate_layers.proofs.Produced.{whole}
+use Rattle.rate_layers.proofs.Produced.{whole, none_kept_law}
 
 -- the pairs of each vector
 abbrev pub items_of : List (Vec Pair Global) → List (List Pair)
@@ -226,3 +226,32 @@ module _ (t : Table) (goal : Pair) (lives : List (List Pair)) (a : AreLives t go
       stays : (p : Pair) → Leads [] p goal → p ≡ goal
       stays p ([], h, e) = let b = ap (λ (q : Pair). q.size) e in let b' = ap (λ (q : Pair). q.error) e in same_pair p goal (omega arith) (omega arith)
       stays p (x ∷ d, h, e) = absurd h
+
+-- ---- what the last pair of the last layer tells
+
+module _ (t : Table) (m u : ℕ) (layers : List (List Pair)) (kept : AreKept t m u layers) where
+  ends : (front : List Pair) (p : Pair) → get_or layers (length t.slices) [] ≡ front ++ p ∷ [] → IsFront (λ p. Reaches t.slices p × Stays t m u [] p) (front ++ p ∷ [])
+  ends front p e = subst (λ l. IsFront (λ p. Reaches t.slices p × Stays t m u [] p) l) e
+      (whole t (Stays t m u) (get_or layers (length t.slices) []) (kept_front t m u (length t.slices) (get_or layers (length t.slices) []) (kept.1 (length t.slices) (omega arith))))
+
+  -- it is the goal where its error is within the bound
+  pub found_here : pairs_in layers ≤ 2 ^ 25 → (at : ℕ) → at ≡ length t.slices → (p : Pair) → (front : List Pair) × (get_or layers at [] ≡ front ++ p ∷ []) → p.error ≤ u → AreFound t m u p layers
+  found_here few at n p (front, e) l =
+      let e' = subst (λ i. get_or layers i [] ≡ front ++ p ∷ []) n e in
+      let o = (ends front p e').only p (last_in front p) in
+      let c = o.0.0 in
+      let es : size_of c ≡ p.size = ap (λ (q : Pair). q.size) o.0.2 in
+      let ee : error_of c ≡ p.error = ap (λ (q : Pair). q.error) o.0.2 in
+      let f = o.1.0 in
+      record { kept = kept; few = few; some = (c, o.0.1, omega arith, omega arith); last = (front, e') }
+
+  -- and else no fitting choice is within it
+  pub none_within : (at : ℕ) → at ≡ length t.slices → (p : Pair) → (front : List Pair) × (get_or layers at [] ≡ front ++ p ∷ []) → u < p.error → (c : List Entry) → IsChoice t.slices c → Fits t c → u < error_of c
+  none_within at n p (front, e) l c i f =
+      let e' = subst (λ i. get_or layers i [] ≡ front ++ p ∷ []) n e in
+      ⊎_elim (λ b. b) (λ b. absurd (omega (arith, (below_last t u (Stays t m u) (kept_test t m u) front p (ends front p e') c i f b).0))) (cases_lt u (error_of c))
+
+  pub none_ends : (at : ℕ) → at ≡ length t.slices → get_or layers at [] ≡ [] → (c : List Entry) → IsChoice t.slices c → Fits t c → u < error_of c
+  none_ends at n e c i f =
+      let k = kept.1 (length t.slices) (omega arith) in
+      none_kept_law t m u c (subst (λ l. IsKept t m u (length t.slices) l) (subst (λ i. get_or layers i [] ≡ []) n e) k) i f

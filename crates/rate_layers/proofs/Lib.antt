@@ -14,3 +14,4 @@ pub mod Bounds
 pub mod Assembled
 pub mod Onward
 pub mod Found
+pub mod Lessened
