@@ -15,3 +15,4 @@ pub mod Assembled
 pub mod Onward
 pub mod Found
 pub mod Lessened
+pub mod Refused
