@@ -1,18 +1,18 @@
 -- From found layers to the first choice with the goal's pair.
-use Rattle.std.proofs.Common.{◌≡◌, ℕ, zero, suc, ◌+◌, ◌-◌, ◌^◌, ◌<◌, ◌≤◌, List, [], ◌∷◌, ◌++◌, Vec, Global, length, map, get_or, take, drop, refl, sym, ap, ◌∙◌, subst, arith, ⊎_elim}
+use Rattle.std.proofs.Common.{◌≡◌, ℕ, suc, ◌+◌, ◌-◌, ◌^◌, ◌<◌, ◌≤◌, List, [], ◌∷◌, ◌++◌, Vec, Global, length, map, get_or, drop, sym, ap, ◌∙◌, subst, arith, ⊎_elim}
 use Rattle.std.specs.List.{Contains}
 use Rattle.std.proofs.lemmas.List.{get_or_append_left, get_or_push, get_or-map, get_or_default, length_push, drop_all, map_push, append_assoc, append-nil}
 use Rattle.std.proofs.lemmas.Bool.{cases_lt}
 use Rattle.std.proofs.Math.Seq.{drop-cons}
 use Rattle.rate_table.specs.declared.entry.Entry.{Entry}
 use Rattle.rate_table.specs.declared.entry.Pair.{Pair}
-use Rattle.rate_table.specs.Table.{Table, IsTable, IsChoice, Fits, size_of, error_of, pair_of, indices, IndicesRise}
+use Rattle.rate_table.specs.Table.{Table, IsChoice, Fits, size_of, error_of, pair_of, indices, IndicesRise}
 use Rattle.rate_table.specs.Pairs.{joined}
 use Rattle.rate_layers.specs.First.{IsFirst, extended, IsFirstFrom, Leads}
 use Rattle.rate_layers.specs.Layers.{Reaches, Rises, IsFront, IsKept, AreKept, pairs_in}
 use Rattle.rate_layers.specs.Live.{LeadsOn, IsFirstOn, LeadOn, LeadTo, AreFound, AreLives}
 use Rattle.rate_layers.proofs.Fronts.{same_pair}
-use Rattle.rate_layers.proofs.Asked.{Stays, At, IsTest, kept_test}
+use Rattle.rate_layers.proofs.Asked.{Stays, At, kept_test}
 use Rattle.rate_layers.proofs.Kept.{kept_front}
 use Rattle.rate_layers.proofs.Firsts.{IsOptimal, below_last, last_in, prefix_in, extended_cons, greedy_end}
 use Rattle.rate_layers.proofs.Leading.{AreLive, leads_next, live_step, walk_step, live_end, first_from_none}

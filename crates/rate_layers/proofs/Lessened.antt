@@ -1,10 +1,9 @@
 -- Found layers under a smaller error.
-use Rattle.std.proofs.Common.{◌≡◌, ℕ, zero, suc, ◌+◌, ◌-◌, ◌*◌, ◌^◌, ◌<◌, ◌≤◌, List, [], ◌∷◌, ◌++◌, Vec, Global, Bool, true, cond, length, get_or, set, drop, nat_lt, refl, sym, ap, ◌∙◌, subst, arith, ⊎_elim}
+use Rattle.std.proofs.Common.{◌≡◌, ℕ, zero, suc, ◌+◌, ◌-◌, ◌*◌, ◌<◌, ◌≤◌, List, [], ◌∷◌, ◌++◌, Vec, Global, Bool, true, cond, length, get_or, set, drop, nat_lt, refl, sym, ap, ◌∙◌, subst, arith, ⊎_elim}
 use Rattle.std.specs.List.{filter}
 use Rattle.std.proofs.lemmas.Bool.{cases_lt, cases_Bool, ltb-true, lt-ltb}
 use Rattle.std.proofs.lemmas.Nat.{mul-le}
 use Rattle.std.proofs.lemmas.List.{length-set, get_or-set_same, get_or-set_other, drop_all}
-use Rattle.rate_table.specs.declared.entry.Entry.{Entry}
 use Rattle.rate_table.specs.declared.entry.Pair.{Pair}
 use Rattle.rate_table.specs.Table.{Table, size_of, error_of}
 use Rattle.rate_table.specs.Pairs.{rest, StaysWithin}

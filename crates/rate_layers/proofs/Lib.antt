@@ -16,3 +16,4 @@ pub mod Onward
 pub mod Found
 pub mod Lessened
 pub mod Refused
+pub mod Concluded

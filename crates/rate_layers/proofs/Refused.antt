@@ -1,11 +1,11 @@
 -- When layers are too many.
-use Rattle.std.proofs.Common.{◌≡◌, ℕ, ◌+◌, ◌*◌, ◌^◌, ◌<◌, ◌≤◌, List, length, sym, ap, subst, arith}
+use Rattle.std.proofs.Common.{ℕ, ◌+◌, ◌*◌, ◌^◌, ◌<◌, ◌≤◌, List, length, arith}
 use Rattle.rate_table.specs.declared.entry.Entry.{Entry}
 use Rattle.rate_table.specs.declared.entry.Pair.{Pair}
 use Rattle.rate_table.specs.Table.{Table, IsChoice, Fits, error_of}
 use Rattle.rate_layers.specs.Layers.{AreKept, pairs_in}
 use Rattle.rate_layers.specs.Multiplier.{ArePicks, IsMultiplier}
-use Rattle.rate_layers.specs.Best.{PassesByPicks, PassesByBest}
+use Rattle.rate_layers.specs.Best.{PassesByPicks}
 use Rattle.rate_layers.proofs.Wholes.{kept_exist, kept_narrow, kept_are_fewer}
 use Rattle.rate_layers.proofs.Picks.{picks_choice, picks_fit}
 

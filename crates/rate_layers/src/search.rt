@@ -3,7 +3,7 @@
 ghost use Rattle.std.specs.Prelude.{◌≡◌, ◌≢◌, ◌+◌, ◌-◌, ◌*◌, ◌<◌, ◌≤◌, ◌^◌, ℕ, suc, List, [], ◌∷◌, ◌++◌, IfOk, IfErr, IfSome, IfNone, IsErr, Err, length, map, slice_index_or};
 ghost use Rattle.rate_table.specs.declared.entry.Entry.{Entry};
 ghost use Rattle.rate_table.specs.declared.entry.Pair.{Pair};
-ghost use Rattle.rate_table.specs.Table.{IsChoice, Fits, HasNoFit, error_of};
+ghost use Rattle.rate_table.specs.Table.{IsTable, IsChoice, Fits, HasNoFit, error_of};
 ghost use Rattle.rate_table.specs.Pairs.{rest};
 ghost use Rattle.rate_table.specs.Records.{IsGoodFit, SaysNone};
 ghost use Rattle.rate_layers.specs.declared.fault.BestFault.TheVariants.{LayersFull};
@@ -101,7 +101,8 @@ fn find(alloc: Global, table: &FrameTable, multiplier: u64) -> Result<Found, Bes
 
 /// The best choice of a table where one fits.
 fn best_fit(alloc: Global, table: &FrameTable) -> Result<Outcome, BestFault>
-    requires { (c : List Entry) × IsChoice table.now.slices c × Fits table.now c }
+    requires table { IsTable table.now }
+    requires some { (c : List Entry) × IsChoice table.now.slices c × Fits table.now c }
     ensures fits { OnFits result (TellsBest table.now) }
     ensures layers { OnFits result (TellsLayers table.now) }
     ensures good { OnFits result (IsGoodFit table.now) }

@@ -1,4 +1,4 @@
-use Rattle.std.proofs.Common.{rules, ltb, get_or, arith}
+use Rattle.std.proofs.Common.{rules, ltb}
 use Rattle.std.proofs.lemmas.List.Sorted.{IsPartitionPoint-from_clause, IsPartitionedBy-ltb}
 use Rattle.std.proofs.lemmas.List.{get_or_default}
 use Rattle.rate_table.specs.declared.entry.Pair.{Pair}

@@ -1,6 +1,5 @@
-use Rattle.std.proofs.Common.{rules, ◌≡◌, ◌+◌, sym, subst, arith, ap}
+use Rattle.std.proofs.Common.{rules, ◌≡◌, ◌+◌, sym, subst, arith}
 use Rattle.std.specs.List.{Contains}
-use Rattle.rate_table.specs.declared.entry.Pair.{Pair}
 use Rattle.rate_table.specs.Pairs.{joined}
 use Rattle.rate_layers.specs.Live.{IsFirstFromSize}
 use Rattle.rate_layers.proofs.Onward.{found_is}

@@ -1,6 +1,5 @@
-use Rattle.std.proofs.Common.{◌≡◌, ℕ, ◌+◌, ◌-◌, ◌<◌, ◌≤◌, List, [], ◌∷◌, ◌++◌, Vec, Global, length, map, get_or, sym, ap, ◌∙◌, subst, arith}
+use Rattle.std.proofs.Common.{◌≡◌, ◌-◌, ◌<◌, [], ◌∷◌, ◌++◌, Vec, Global, length, get_or, sym, ap, ◌∙◌, subst, arith}
 use Rattle.std.proofs.lemmas.List.{length-map}
-use Rattle.rate_table.specs.declared.entry.Entry.{Entry}
 use Rattle.rate_table.specs.declared.entry.Pair.{Pair}
 use Rattle.rate_table.specs.Table.{Table}
 use Rattle.rate_layers.specs.Layers.{Rises}

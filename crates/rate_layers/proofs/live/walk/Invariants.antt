@@ -1,5 +1,4 @@
 use Rattle.std.proofs.Common.{map}
-use Rattle.rate_layers.specs.Live.{AreLives}
 use Rattle.rate_layers.proofs.Found.{Walking}
 use Rattle.rate_layers.proofs.live.walk.Given as goal
 

@@ -1,4 +1,4 @@
-use Rattle.std.proofs.Common.{rules, ◌≡◌, ◌+◌, ◌*◌, nat_lt}
+use Rattle.std.proofs.Common.{rules, ◌+◌, ◌*◌, nat_lt}
 use Rattle.std.proofs.lemmas.Fn.{filter_same}
 use Rattle.std.proofs.lemmas.Bool.{ltb_from_iff}
 use Rattle.rate_layers.proofs.narrowed.keep_within.Goals as goal
