@@ -12,3 +12,4 @@ pub mod Wholes
 pub mod Merges
 pub mod Bounds
 pub mod Assembled
+pub mod Thinning

@@ -8,6 +8,7 @@ mod laws;
 mod layers;
 mod merge;
 mod multiplier;
+mod thin;
 
 pub use costs::least_costs;
 pub use fault::BestFault;
