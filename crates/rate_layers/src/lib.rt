@@ -8,6 +8,8 @@ mod laws;
 mod layers;
 mod merge;
 mod multiplier;
+#[cfg(test)]
+mod tests;
 mod thin;
 
 pub use costs::least_costs;
@@ -19,4 +21,4 @@ pub use laws::{
     picks_fall,
 };
 pub use layers::kept_layers;
-pub use multiplier::{least_multiplier, pick_sums};
+pub use multiplier::{fitting_multiplier, least_multiplier, pick_sums};
