@@ -47,8 +47,14 @@ fn keeps_the_layers_of_two_slices(rt: HostRuntime) {
             .as_slice()
         );
     }
-    // No choice that fits has less error than 10.
+    // No choice that fits has less error than 10; what an error of 9 keeps has more.
     let layers = kept_layers(rt.alloc(), &table, 2, 9).expect(&rt, "layers");
+    assert_eq!(rt; layers.len(), 3);
+    assert_eq!(rt;
+        layers[2].as_slice(),
+        [Pair { size: 9, error: 16 }].as_slice()
+    );
+    let layers = kept_layers(rt.alloc(), &table, 2, 7).expect(&rt, "layers");
     assert_eq!(rt; layers.len(), 3);
     assert!(rt; layers[2].is_empty());
 }
