@@ -17,3 +17,4 @@ pub mod Found
 pub mod Lessened
 pub mod Refused
 pub mod Concluded
+pub mod Thinning
