@@ -12,3 +12,9 @@ pub mod Wholes
 pub mod Merges
 pub mod Bounds
 pub mod Assembled
+pub mod Onward
+pub mod Found
+pub mod Lessened
+pub mod Refused
+pub mod Concluded
+pub mod Thinning

@@ -6,10 +6,11 @@ use Rattle.std.proofs.lemmas.List.Elements.{All-head, All-tail, All-contains, Al
 use Rattle.std.proofs.lemmas.Nat.{mul-le}
 use Rattle.std.proofs.lemmas.Bool.{cases_lt, cases_Bool, leb-true, le-leb, true≢false}
 use Rattle.rate_table.specs.declared.entry.Entry.{Entry}
-use Rattle.rate_table.specs.Table.{Table, IsChoice, Fits, size_of, IsSlice, IsTable, IsEntry}
+use Rattle.rate_table.specs.Table.{Table, IsChoice, Fits, HasNoFit, size_of, least_bytes, IsSlice, IsTable, IsEntry}
 use Rattle.rate_table.specs.Pairs.{cost}
 use Rattle.rate_layers.specs.Multiplier.{Wins, IsPick, ArePicks, PicksFit, IsMultiplier}
 use Rattle.rate_table.proofs.Lists.{contains_cases, contains_head, contains_tail, contains_none}
+use Rattle.rate_table.proofs.Entries.{least_choice, least_below}
 
 -- the order of taking
 pub wins_self : (m : ℕ) (a b : Entry) → a ≡ b → Wins m a b
@@ -191,3 +192,11 @@ multiplier_end t room m e (c, h, f) least = record {
 
 pub multiplier_same : (t : Table) (m n : ℕ) → IsMultiplier t m → IsMultiplier t n → m ≡ n
 multiplier_same t m n f g = omega (arith, f.least n g.fits, g.least m f.fits)
+
+-- Where the fixed bytes and the least sizes are within the budget, a choice fits.
+pub some_fit : (t : Table) → IsTable t → least_bytes t ≤ t.budget → (c : List Entry) × IsChoice t.slices c × Fits t c
+some_fit t ok h = let c = least_choice t.slices ok.each in (c.0, c.1, omega (arith, c.2))
+
+-- Where they pass it, none does.
+pub none_fits : (t : Table) → t.budget < least_bytes t → HasNoFit t
+none_fits t h c i f = omega (arith, least_below (λ x. x.size) t.slices c i)

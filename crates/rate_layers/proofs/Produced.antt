@@ -149,10 +149,10 @@ best_kept_law t m u some layer front p c i fits le f e first =
     let g' = subst (λ l. IsFront (λ p. Reaches t.slices p × Stays t m u [] p) l) e g in
     best_last t u (Stays t m u) (kept_test t m u) front p g' some i fits le c first
 
--- Where the last kept layer has no pair, a fitting choice has more error.
-pub none_kept_law : (t : Table) (m u : ℕ) (c : List Entry) → IsKept t m u (length t.slices) [] → IsChoice t.slices c → Fits t c → u < error_of c
-none_kept_law t m u c f h fits =
+-- Where each pair of the last kept layer has more error, a fitting choice has.
+pub none_kept_law : (t : Table) (m u : ℕ) (layer : List Pair) (c : List Entry) → IsKept t m u (length t.slices) layer → ((p : Pair) → Contains layer p → u < p.error) → IsChoice t.slices c → Fits t c → u < error_of c
+none_kept_law t m u layer c f above h fits =
     ⊎_elim (λ l. l)
-    (λ l. let g = whole t (Stays t m u) [] (kept_front t m u (length t.slices) [] f) in
+    (λ l. let g = whole t (Stays t m u) layer (kept_front t m u (length t.slices) layer f) in
     let q = g.covers (pair_of c) ((c, h, refl), (kept_test t m u).keeps [] (pair_of c) [] tt (omega arith) (omega arith)) in
-    absurd (contains_none q.0 q.1)) (cases_lt u (error_of c))
+    absurd (omega (arith, above q.0 q.1, q.2))) (cases_lt u (error_of c))

@@ -65,9 +65,10 @@ BestOfKept = (t : Table) (m u : ℕ) (some : List Entry) (layer front : List Pai
     → IsChoice t.slices some → Fits t some → error_of some ≤ u → IsKept t m u (length t.slices) layer
     → layer ≡ front ++ p ∷ [] → IsFirst t.slices p c → IsBest t c
 
--- Where the last kept layer has no pair, each fitting choice has more error.
+-- Where each pair of the last kept layer has more error than that, if there are any, each fitting choice has.
 abbrev pub NoneOfKept : Type 0
-NoneOfKept = (t : Table) (m u : ℕ) (c : List Entry) → IsKept t m u (length t.slices) [] → IsChoice t.slices c → Fits t c → u < error_of c
+NoneOfKept = (t : Table) (m u : ℕ) (layer : List Pair) (c : List Entry) → IsKept t m u (length t.slices) layer
+    → ((p : Pair) → Contains layer p → u < p.error) → IsChoice t.slices c → Fits t c → u < error_of c
 
 -- Kept layers together have at most one pair more than the budget has bytes for each layer.
 abbrev pub KeptAreNarrow : Type 0

@@ -8,6 +8,12 @@ use Rattle.rate_table.specs.Pairs.{joined}
 use Rattle.rate_layers.specs.First.{Leads}
 use Rattle.rate_layers.specs.Layers.{Rises, AreKept, pairs_in}
 
+-- the pair of least size, of these whose size isn't below
+pub record IsFirstFromSize (pairs : List Pair) (size : ℕ) (q : Pair) : Type 0 where
+  pub has : Contains pairs q
+  pub from : size ≤ q.size
+  pub least : (r : Pair) → Contains pairs r → size ≤ r.size → q.size ≤ r.size
+
 -- An entry of the slice leads from p to one of these pairs.
 abbrev pub LeadsOn : List Entry → List Pair → Pair → Type 0
 LeadsOn slice next p = (x : Entry) × Contains slice x × Contains next (joined p x)

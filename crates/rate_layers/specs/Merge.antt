@@ -42,3 +42,8 @@ pub record Merging (b : Bound) (x : Entry) (done left layer_done layer_left out 
   pub front : IsFront (λ p. Contains done p ⊎ JoinsOne b layer_done x p) out
   pub behind : (r : Pair) → Contains left r → AreBehind r out
   pub layer_behind : (r : Pair) → Contains layer_left r → AreBehind (joined r x) out
+
+-- some of a slice's entries, one of which has no more size and no more error than each
+pub record Thinned (slice few : List Entry) : Type 0 where
+  pub only : (x : Entry) → Contains few x → Contains slice x
+  pub covers : (x : Entry) → Contains slice x → (y : Entry) × Contains few y × (y.size ≤ x.size) × (y.error ≤ x.error)

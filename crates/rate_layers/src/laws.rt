@@ -57,7 +57,7 @@ pub fn best_of_kept()
     ensures { BestOfKept }
 {}
 
-/// Where the last kept layer has no pair, each fitting choice has more error.
+/// Where each pair of the last kept layer has more error than that of the bound, each fitting choice has.
 pub fn none_of_kept()
     ensures { NoneOfKept }
 {}

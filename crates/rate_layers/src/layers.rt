@@ -9,7 +9,7 @@ ghost use Rattle.rate_layers.specs.Bound.{HasRoom, IsWithin};
 use crate::bound::{Bound, bound_of, is_within};
 use crate::costs::{least_cost, least_costs, least_size};
 use crate::fault::BestFault;
-use crate::merge::next_layer;
+use crate::merge::{Work, next_layer};
 use rate_table::{FrameTable, Pair, least};
 use std::alloc::{AllocError, Global};
 
@@ -76,18 +76,18 @@ pub fn kept_layers(
     let slices = table.slices.as_slice();
     let mut sizes = least(table);
     let mut costs = least_costs(table, multiplier);
-    let mut next = first_layer(alloc, &bound_of(table, sizes, costs, multiplier, error))?;
-    let mut spare = Vec::new(alloc);
+    let first = first_layer(alloc, &bound_of(table, sizes, costs, multiplier, error))?;
     let mut layers = Vec::new(alloc);
     let mut pairs = 0;
-    put_layer(alloc, &mut layers, &mut pairs, &next)?;
+    put_layer(alloc, &mut layers, &mut pairs, &first)?;
+    let mut work = Work::new(alloc);
     for k in 0..slices.len() {
         let entries = slices[k].entries();
         sizes -= u64::from(least_size(entries));
         costs -= least_cost(entries, multiplier);
         let bound = bound_of(table, sizes, costs, multiplier, error);
-        next_layer(&mut next, &mut spare, &bound, &layers[k], entries)?;
-        put_layer(alloc, &mut layers, &mut pairs, &next)?;
+        next_layer(&mut work, &bound, &layers[k], entries)?;
+        put_layer(alloc, &mut layers, &mut pairs, &work.next)?;
     }
     Ok(layers)
 }

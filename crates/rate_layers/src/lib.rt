@@ -12,6 +12,9 @@ mod multiplier;
 mod narrowed;
 mod outcome;
 mod search;
+#[cfg(test)]
+mod tests;
+mod thin;
 
 pub use costs::least_costs;
 pub use fault::BestFault;
@@ -22,6 +25,6 @@ pub use laws::{
     picks_fall,
 };
 pub use layers::kept_layers;
-pub use multiplier::{least_multiplier, pick_sums};
+pub use multiplier::{fitting_multiplier, least_multiplier, pick_sums};
 pub use outcome::Outcome;
 pub use search::best;

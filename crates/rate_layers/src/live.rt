@@ -1,27 +1,43 @@
 //! The walk to the first choice that reaches a pair.
 
-ghost use Rattle.std.specs.Prelude.{◌≡◌, ℕ, ◌↔◌, IsTrue, IfOk, IfSome, IfNone, List, map};
+ghost use Rattle.std.specs.Prelude.{◌≡◌, ℕ, ◌<◌, ◌↔◌, IsTrue, IfOk, IfSome, IfNone, List, map};
 ghost use Rattle.std.specs.List.{Contains};
 ghost use Rattle.rate_table.specs.declared.entry.Entry.{Entry};
+ghost use Rattle.rate_table.specs.declared.entry.Pair.{Pair};
 ghost use Rattle.rate_table.specs.Table.{IndicesRise, indices};
 ghost use Rattle.rate_table.specs.Pairs.{joined};
 ghost use Rattle.rate_layers.specs.First.{IsFirst};
 ghost use Rattle.rate_layers.specs.Layers.{Rises};
-ghost use Rattle.rate_layers.specs.Live.{LeadsOn, IsFirstOn, LeadOn, AreFound, AreLives};
+ghost use Rattle.rate_layers.specs.Live.{IsFirstFromSize, LeadsOn, IsFirstOn, LeadOn, AreFound, AreLives};
 
 use rate_table::{Entry, FrameTable, Pair};
 use std::alloc::{AllocError, Global};
 
-/// Whether one of these pairs, of rising sizes, is the pair joined with the entry.
+/// The first of these pairs, of rising sizes, whose size isn't below.
+fn first_from(pairs: &[Pair], size: u64) -> Option<Pair>
+    requires { Rises pairs.now }
+    ensures some { IfSome result (IsFirstFromSize pairs.now size) }
+    ensures none { IfNone result ((q : Pair) → Contains pairs.now q → q.size < size) }
+{
+    let at = pairs.partition_point(|q| u64::from(q.size) < size);
+    if at < pairs.len() { Some(pairs[at]) } else { None }
+}
+
+/// Whether one pair is another joined with the entry.
+fn is_joined(q: Pair, p: Pair, x: Entry) -> bool
+    ensures { IsTrue result ↔ (joined p x ≡ q) }
+{
+    u64::from(p.size) + u64::from(x.size) == u64::from(q.size)
+        && u128::from(p.error) + u128::from(x.error) == u128::from(q.error)
+}
+
+/// Whether the pair joined with the entry is one of these pairs, of rising sizes.
 fn leads(next: &[Pair], p: Pair, x: Entry) -> bool
     requires { Rises next.now }
     ensures { IsTrue result ↔ Contains next.now (joined p x) }
 {
-    let size = u64::from(p.size) + u64::from(x.size);
-    let error = u128::from(p.error) + u128::from(x.error);
-    let at = next.partition_point(|q| u64::from(q.size) < size);
-    match next.get(at) {
-        Some(q) => u64::from(q.size) == size && u128::from(q.error) == error,
+    match first_from(next, u64::from(p.size) + u64::from(x.size)) {
+        Some(q) => is_joined(q, p, x),
         None => false,
     }
 }
@@ -41,6 +57,15 @@ fn first_lead(slice: &[Entry], next: &[Pair], p: Pair) -> Option<Entry>
     None
 }
 
+/// Whether an entry of the slice leads from the pair to one of these pairs.
+fn leads_on(slice: &[Entry], next: &[Pair], p: Pair) -> bool
+    requires indices { IndicesRise slice.now }
+    requires next { Rises next.now }
+    ensures { IsTrue result ↔ LeadsOn slice.now next.now p }
+{
+    first_lead(slice, next, p).is_some()
+}
+
 /// The pairs of a layer from which an entry of the slice leads to one of these pairs.
 fn live(
     alloc: Global,
@@ -55,7 +80,7 @@ fn live(
 {
     let mut live = Vec::new(alloc);
     for p in layer {
-        if first_lead(slice, next, *p).is_some() {
+        if leads_on(slice, next, *p) {
             live.push(*p)?;
         }
     }

@@ -11,8 +11,9 @@ ghost use Rattle.rate_layers.specs.Bound.{HasRoom, IsWithin, IsSmall, IsNext};
 ghost use Rattle.rate_layers.specs.Merge.{IsBehind, AreBehind, Offered, Passes, JoinsIf, Merged, Merging};
 
 use crate::bound::{Bound, is_within};
+use crate::thin::thin;
 use rate_table::{Entry, Pair};
-use std::alloc::AllocError;
+use std::alloc::{AllocError, Global};
 use std::mem;
 
 /// Whether a pair that comes behind a layer has less error than each of its pairs.
@@ -103,9 +104,8 @@ fn merge_one(
     Ok(())
 }
 
-/// Makes `next` the next layer: of the pairs of a layer joined with the entries of a slice, of those that pass,
-/// the undominated ones. `spare` is a second vector to write in.
-pub fn next_layer(
+/// Makes `next` the next layer, entry by entry. `spare` is a second vector to write in.
+fn merge_all(
     next: &mut Vec<Pair>,
     spare: &mut Vec<Pair>,
     bound: &Bound,
@@ -124,5 +124,49 @@ pub fn next_layer(
         merge_one(spare, bound, next, layer, *x)?;
         mem::swap(next, spare);
     }
+    Ok(())
+}
+
+/// What the merges of one layer after the other are written in.
+#[derive(Drop)]
+pub struct Work {
+    pub next: Vec<Pair>,
+    pub spare: Vec<Pair>,
+    pub few: Vec<Entry>,
+    pub fewer: Vec<Entry>,
+}
+
+impl Work {
+    pub fn new(alloc: Global) -> Work {
+        Work {
+            next: Vec::new(alloc),
+            spare: Vec::new(alloc),
+            few: Vec::new(alloc),
+            fewer: Vec::new(alloc),
+        }
+    }
+}
+
+/// Makes `work.next` the next layer: of the pairs of a layer joined with the entries of a slice, of those that
+/// pass, the undominated ones.
+pub fn next_layer(
+    work: &mut Work,
+    bound: &Bound,
+    layer: &[Pair],
+    slice: &[Entry],
+) -> Result<(), AllocError>
+    requires small { IsSmall bound.now }
+    requires layer { RisesAndFalls layer.now }
+    requires errors { All (λ p. p.error < 2 ^ 63) layer.now }
+    requires entries { All IsEntry slice.now }
+    ensures { OnOk result (IsNext bound.now layer.now slice.now work.new.next.items) }
+{
+    // Entries are compared with each other where that is less work than to merge them.
+    if layer.len() < slice.len() {
+        return merge_all(&mut work.next, &mut work.spare, bound, layer, slice);
+    }
+    thin(&mut work.few, slice)?;
+    thin(&mut work.fewer, &work.few)?;
+    merge_all(&mut work.next, &mut work.spare, bound, layer, &work.fewer)?;
     Ok(())
 }

@@ -1,13 +1,13 @@
 //! The least multiplier whose picks fit.
 
-ghost use Rattle.std.specs.Prelude.{◌≡◌, ◌+◌, ◌*◌, ◌<◌, ◌≤◌, ◌^◌, ◌↔◌, IsTrue, ℕ, List, length};
+ghost use Rattle.std.specs.Prelude.{◌≡◌, ◌+◌, ◌*◌, ◌<◌, ◌≤◌, ◌^◌, ◌↔◌, IsTrue, IfSome, IfNone, ℕ, List, length};
 ghost use Rattle.std.specs.List.{All, Contains};
 ghost use Rattle.rate_table.specs.declared.entry.Entry.{Entry};
-ghost use Rattle.rate_table.specs.Table.{IsSlice, IsChoice, Fits, size_of, error_of};
+ghost use Rattle.rate_table.specs.Table.{IsSlice, IsChoice, Fits, HasNoFit, size_of, error_of};
 ghost use Rattle.rate_layers.specs.Multiplier.{IsPick, ArePicks, PicksFit, IsMultiplier, Wins};
 
 use crate::costs::cost_of;
-use rate_table::{Entry, FrameTable, SliceTable};
+use rate_table::{Entry, FrameTable, SliceTable, least};
 
 /// Whether one entry is taken rather than another, or is the other.
 fn is_better(a: &Entry, b: &Entry, multiplier: u64) -> bool
@@ -88,4 +88,16 @@ pub fn least_multiplier(table: &FrameTable) -> u64
         }
     }
     high
+}
+
+/// The least multiplier whose picks fit; `None` where no choice fits. No memory is taken.
+pub fn fitting_multiplier(table: &FrameTable) -> Option<u64>
+    ensures some { IfSome result (IsMultiplier table.now) }
+    ensures limit { IfSome result (λ m. m ≤ 2 ^ 43) }
+    ensures none { IfNone result (HasNoFit table.now) }
+{
+    if u64::from(table.budget) < least(table) {
+        return None;
+    }
+    Some(least_multiplier(table))
 }

@@ -3,7 +3,7 @@
 ghost use Rattle.std.specs.Prelude.{◌≡◌, ◌≢◌, ◌+◌, ◌-◌, ◌*◌, ◌<◌, ◌≤◌, ◌^◌, ℕ, suc, List, [], ◌∷◌, ◌++◌, IfOk, IfErr, IfSome, IfNone, IsErr, Err, length, map, slice_index_or};
 ghost use Rattle.rate_table.specs.declared.entry.Entry.{Entry};
 ghost use Rattle.rate_table.specs.declared.entry.Pair.{Pair};
-ghost use Rattle.rate_table.specs.Table.{IsChoice, Fits, HasNoFit, error_of};
+ghost use Rattle.rate_table.specs.Table.{IsTable, IsChoice, Fits, HasNoFit, error_of};
 ghost use Rattle.rate_table.specs.Pairs.{rest};
 ghost use Rattle.rate_table.specs.Records.{IsGoodFit, SaysNone};
 ghost use Rattle.rate_layers.specs.declared.fault.BestFault.TheVariants.{LayersFull};
@@ -67,6 +67,16 @@ fn lower_bound(table: &FrameTable, multiplier: u64) -> u128
     costs.saturating_sub(byte * u128::from(table.budget))
 }
 
+/// The error one part of the way from the lower to the greater.
+fn between(low: u64, most: u64, part: u64) -> u64
+    requires order { low ≤ most }
+    requires part { 1 ≤ part }
+    ensures least { low ≤ result }
+    ensures most { result ≤ most }
+{
+    low + (most - low) / part
+}
+
 /// The layers that some error keeps that a fitting choice has. Small errors are tried first: from a lower bound of all
 /// errors a 4,096th of the way to the error of the multiplier's picks, then four times as far, up to that error, which
 /// a fitting choice has.
@@ -77,8 +87,8 @@ fn find(alloc: Global, table: &FrameTable, multiplier: u64) -> Result<Found, Bes
 {
     let most = pick_sums(table, multiplier).1;
     let low = lower_bound(table, multiplier).min(u128::from(most)) as u64;
-    for shift in [12, 10, 8, 6, 4, 2] {
-        let error = low + ((most - low) >> shift);
+    for part in [4096, 1024, 256, 64, 16, 4] {
+        let error = between(low, most, part);
         if let Some(found) = found_within(alloc, table, multiplier, error)? {
             return Ok(found);
         }
@@ -91,7 +101,8 @@ fn find(alloc: Global, table: &FrameTable, multiplier: u64) -> Result<Found, Bes
 
 /// The best choice of a table where one fits.
 fn best_fit(alloc: Global, table: &FrameTable) -> Result<Outcome, BestFault>
-    requires { (c : List Entry) × IsChoice table.now.slices c × Fits table.now c }
+    requires table { IsTable table.now }
+    requires some { (c : List Entry) × IsChoice table.now.slices c × Fits table.now c }
     ensures fits { OnFits result (TellsBest table.now) }
     ensures layers { OnFits result (TellsLayers table.now) }
     ensures good { OnFits result (IsGoodFit table.now) }

@@ -32,15 +32,15 @@ loop-k-init c =
     let u = c.args.error in
     let b = c.bound_of.ensures in
     let o : IsBoundOf t m u t.slices c.bound_of.result = record { multiplier = b.multiplier; end = omega (arith, b.end, c.least-sizes.ensures); ceiling = omega (arith, b.ceiling, c.least_costs-costs.ensures.value) } in
-    let e : items_of c.put_layer.new.layers.items ≡ c.in_ok-next.next.items ∷ [] = c.in_ok-put_layer.ensures.layers ∙ ap (λ l. items_of l ++ c.deref.result.now ∷ []) c.new-layers.ensures.items ∙ ap (λ l. l ∷ []) c.deref.ensures.value in
+    let e : items_of c.put_layer.new.layers.items ≡ c.in_ok-first.first.items ∷ [] = c.in_ok-put_layer.ensures.layers ∙ ap (λ l. items_of l ++ c.deref.result.now ∷ []) c.new-layers.ensures.items ∙ ap (λ l. l ∷ []) c.deref.ensures.value in
     let n = ap pairs_in e in
     let n' = ap length c.deref.ensures.value in
     record {
-      layers = subst (λ l. Assembled t m u l 0) (sym e) (assembled_first t m u c.in_ok-next.next.items (front_first t m u c.bound_of.result c.in_ok-next.next.items o c.in_ok-next.ensures));
+      layers = subst (λ l. Assembled t m u l 0) (sym e) (assembled_first t m u c.in_ok-first.first.items (front_first t m u c.bound_of.result c.in_ok-first.first.items o c.in_ok-first.ensures));
       sizes = c.least-sizes.ensures;
       costs = c.least_costs-costs.ensures.value;
       small = c.least_costs-costs.ensures.small;
-      pairs = omega (arith, n, n', c.in_ok-put_layer.ensures.pairs, sum_by-cons length c.in_ok-next.next.items []);
+      pairs = omega (arith, n, n', c.in_ok-put_layer.ensures.pairs, sum_by-cons length c.in_ok-first.first.items []);
       few = c.in_ok-put_layer.ensures.few;
     }
 
@@ -53,9 +53,9 @@ returns-in_err-put_layer-clause-full c =
     let o : IsBoundOf t m u t.slices c.bound_of.result = record { multiplier = b.multiplier; end = omega (arith, b.end, c.least-sizes.ensures); ceiling = omega (arith, b.ceiling, c.least_costs-costs.ensures.value) } in
     let p = err_from_is_err_and c.from_residual-in_err-put_layer.result c.from_residual-in_err-put_layer.ensures.1 in
     rw (p.1, p.2) (λ h all f.
-    let a = assembled_first t m u c.in_ok-next.next.items (front_first t m u c.bound_of.result c.in_ok-next.next.items o c.in_ok-next.ensures) in
+    let a = assembled_first t m u c.in_ok-first.first.items (front_first t m u c.bound_of.result c.in_ok-first.first.items o c.in_ok-first.ensures) in
     let n = ap length c.deref.ensures.value in
-    omega (arith, n, c.in_err-put_layer.ensures.full h, sum_by-cons length c.in_ok-next.next.items [], assembled_below t m u (c.in_ok-next.next.items ∷ []) all 0 (omega arith) a f))
+    omega (arith, n, c.in_err-put_layer.ensures.full h, sum_by-cons length c.in_ok-first.first.items [], assembled_below t m u (c.in_ok-first.first.items ∷ []) all 0 (omega arith) a f))
 
 pub next_layer-requires-clause-layer : goal.next_layer-requires-clause-layer
 next_layer-requires-clause-layer c =
@@ -87,15 +87,15 @@ returns-in_err-put_layer-2-clause-full c =
     let is : s ≡ get_or t.slices k s = subst (λ l. s ≡ get_or l k s) same c.index-slices-k.is in
     let b = c.bound_of-bound.ensures in
     let f : Further t m u layers k c.loop-k.sizes c.loop-k.costs = record { assembled = i.layers; sizes_left = i.sizes; costs_left = i.costs } in
-    let g = further t m u layers k c.loop-k.sizes c.loop-k.costs c.deref-in-loop-k.result.now c.next_layer.new.next.items s c.entries-entries.result.now c.bound_of-bound.result c.from-sizes.result c.least_cost-costs.result f
-        (omega (arith, few, c.loop-k-test.true)) is c.entries-entries.ensures.entries
-        (element c.loop-k.layers.items k c.index.result.now c.deref-in-loop-k.result.now n c.index.ensures c.deref-in-loop-k.ensures.value)
-        (c.from-sizes.ensures ∙ c.least_size.ensures) c.least_cost-costs.ensures.value b.multiplier b.end b.ceiling (c.in_ok-next_layer.ensures) in
-    let d : c.deref-in-loop-k-2.result.now ≡ c.next_layer.new.next.items = c.deref-in-loop-k-2.ensures.value in
+    let g = further t m u layers k c.loop-k.sizes c.loop-k.costs c.deref-in-loop-k.result.now c.next_layer.new.work.next.items s c.entries-entries.result.now c.bound_of-bound.result c.from-sizes.result c.least_cost-costs.result f
+    (omega (arith, few, c.loop-k-test.true)) is c.entries-entries.ensures.entries
+    (element c.loop-k.layers.items k c.index.result.now c.deref-in-loop-k.result.now n c.index.ensures c.deref-in-loop-k.ensures.value)
+    (c.from-sizes.ensures ∙ c.least_size.ensures) c.least_cost-costs.ensures.value b.multiplier b.end b.ceiling (c.in_ok-next_layer.ensures) in
+    let d : c.deref-in-loop-k-2.result.now ≡ c.next_layer.new.work.next.items = c.deref-in-loop-k-2.ensures.value in
     let p = err_from_is_err_and c.from_residual-in_err-put_layer-2.result c.from_residual-in_err-put_layer-2.ensures.1 in
     rw (p.1, p.2) (λ h all a.
     let e = ap length d in
-    omega (arith, e, i.pairs, c.in_err-put_layer-2.ensures.full h, more_pairs layers c.next_layer.new.next.items, assembled_below t m u (layers ++ c.next_layer.new.next.items ∷ []) all (k + 1) (omega (arith, few, c.loop-k-test.true)) g.assembled a))
+    omega (arith, e, i.pairs, c.in_err-put_layer-2.ensures.full h, more_pairs layers c.next_layer.new.work.next.items, assembled_below t m u (layers ++ c.next_layer.new.work.next.items ∷ []) all (k + 1) (omega (arith, few, c.loop-k-test.true)) g.assembled a))
 
 pub loop-k-preserved : goal.loop-k-preserved
 loop-k-preserved c =
@@ -112,12 +112,12 @@ loop-k-preserved c =
     let is : s ≡ get_or t.slices k s = subst (λ l. s ≡ get_or l k s) same c.index-slices-k.is in
     let b = c.bound_of-bound.ensures in
     let f : Further t m u layers k c.loop-k.sizes c.loop-k.costs = record { assembled = i.layers; sizes_left = i.sizes; costs_left = i.costs } in
-    let g = further t m u layers k c.loop-k.sizes c.loop-k.costs c.deref-in-loop-k.result.now c.next_layer.new.next.items s c.entries-entries.result.now c.bound_of-bound.result c.from-sizes.result c.least_cost-costs.result f
-        (omega (arith, few, c.loop-k-test.true)) is c.entries-entries.ensures.entries
-        (element c.loop-k.layers.items k c.index.result.now c.deref-in-loop-k.result.now n c.index.ensures c.deref-in-loop-k.ensures.value)
-        (c.from-sizes.ensures ∙ c.least_size.ensures) c.least_cost-costs.ensures.value b.multiplier b.end b.ceiling (c.in_ok-next_layer.ensures) in
-    let d : c.deref-in-loop-k-2.result.now ≡ c.next_layer.new.next.items = c.deref-in-loop-k-2.ensures.value in
-    let e : items_of c.put_layer-in-loop-k.new.layers.items ≡ layers ++ c.next_layer.new.next.items ∷ [] = c.in_ok-put_layer-2.ensures.layers ∙ ap (λ l. layers ++ l ∷ []) d in
+    let g = further t m u layers k c.loop-k.sizes c.loop-k.costs c.deref-in-loop-k.result.now c.next_layer.new.work.next.items s c.entries-entries.result.now c.bound_of-bound.result c.from-sizes.result c.least_cost-costs.result f
+    (omega (arith, few, c.loop-k-test.true)) is c.entries-entries.ensures.entries
+    (element c.loop-k.layers.items k c.index.result.now c.deref-in-loop-k.result.now n c.index.ensures c.deref-in-loop-k.ensures.value)
+    (c.from-sizes.ensures ∙ c.least_size.ensures) c.least_cost-costs.ensures.value b.multiplier b.end b.ceiling (c.in_ok-next_layer.ensures) in
+    let d : c.deref-in-loop-k-2.result.now ≡ c.next_layer.new.work.next.items = c.deref-in-loop-k-2.ensures.value in
+    let e : items_of c.put_layer-in-loop-k.new.layers.items ≡ layers ++ c.next_layer.new.work.next.items ∷ [] = c.in_ok-put_layer-2.ensures.layers ∙ ap (λ l. layers ++ l ∷ []) d in
     let e' = ap length d in
     let n' = ap pairs_in e in
     record {
@@ -125,7 +125,7 @@ loop-k-preserved c =
       sizes = g.sizes_left;
       costs = g.costs_left;
       small = omega (arith, i.small);
-      pairs = omega (arith, e', n', i.pairs, c.in_ok-put_layer-2.ensures.pairs, more_pairs layers c.next_layer.new.next.items);
+      pairs = omega (arith, e', n', i.pairs, c.in_ok-put_layer-2.ensures.pairs, more_pairs layers c.next_layer.new.work.next.items);
       few = c.in_ok-put_layer-2.ensures.few;
     }
 

@@ -1,6 +1,6 @@
 use Rattle.std.proofs.Common.{take}
 use Rattle.rate_layers.specs.Bound.{IsNext}
-use Rattle.rate_layers.proofs.merge.next_layer.Given as goal
+use Rattle.rate_layers.proofs.merge.merge_all.Given as goal
 
 abbrev pub invariant-loop-x : goal.invariant-loop-x
 invariant-loop-x l = IsNext l.bound l.layer (take l.x-index l.slice) l.next.items

@@ -1,0 +1,6 @@
+use Rattle.std.proofs.Common.{◌≤◌}
+use Rattle.rate_layers.proofs.search.find.Given as goal
+
+-- the lower bound is one
+abbrev pub invariant-loop-part : goal.invariant-loop-part
+invariant-loop-part l = l.low ≤ l.most
