@@ -51,10 +51,10 @@ places_node es = if are_near es then record { kind = codes "stco"; body = near_b
 -- the tables, one behind the other
 abbrev pub table_nodes : List Extent → (duration : ℕ) → List Node
 table_nodes es duration =
-  record { kind = codes "stts"; body = times_body (length es) duration }
-  ∷ record { kind = codes "stsc"; body = runs_body (length es) }
-  ∷ record { kind = codes "stsz"; body = sizes_body es }
-  ∷ places_node es ∷ []
+    record { kind = codes "stts"; body = times_body (length es) duration }
+    ∷ record { kind = codes "stsc"; body = runs_body (length es) }
+    ∷ record { kind = codes "stsz"; body = sizes_body es }
+    ∷ places_node es ∷ []
 
 unfoldable pub tables_bytes : List Extent → (duration : ℕ) → List ℕ
 tables_bytes es duration = flat_map atom_of (table_nodes es duration)
@@ -68,7 +68,7 @@ written_tables es duration timescale = record {
   sizes = sizes_of es;
   times = (if length es == 0 then [] else record { count = length es; duration = duration } ∷ []);
   runs = (if length es == 0 then [] else record { first = 1; samples = 1; description = 1 } ∷ []);
-  offsets = places_of es
+  offsets = places_of es;
 }
 
 -- the samples that were written

@@ -8,6 +8,8 @@ mod rows;
 mod runs;
 mod sums;
 mod tables;
+#[cfg(test)]
+mod tests;
 mod window;
 mod writer;
 
