@@ -117,7 +117,7 @@ sample-in (x ∷ cs) sizes times (suc c) i size duration chunk there begun ends 
     let m : length front ≡ n = length-samples_at x.description x.at (take n sizes) times (omega (arith, k, len, within, one, begun)) ∙ k in
     let le : n ≤ i = omega (arith, one, begun) in
     let rest = sample-in cs (drop n sizes) (drop n times) c (i - n) size duration chunk there (omega (arith, one, begun)) (omega (arith, one, ends, begun))
-        (get-drop n i sizes le ∙ e) (get-drop n i times le ∙ f) (omega (arith, length-drop n sizes, length-drop n times, len)) in
+    (get-drop n i sizes le ∙ e) (get-drop n i times le ∙ f) (omega (arith, length-drop n sizes, length-drop n times, len)) in
     let off : (i - n) - h ≡ i - (n + h) = omega arith in
     get-behind front (samples_in cs (drop n sizes) (drop n times)) i (omega (arith, m, le))
     ∙ ap (λ q. slice_get (samples_in cs (drop n sizes) (drop n times)) (i - q)) m
@@ -134,3 +134,27 @@ bytes-between sizes f i le =
     let front : total (take f (take i sizes)) ≡ bytes_before sizes f = ap total (take-take f i sizes le) in
     let rest : total (drop f (take i sizes)) ≡ total (take (i - f) (drop f sizes)) = ap (λ n. total (drop f (take n sizes))) e ∙ ap total (drop-take f (i - f) sizes) in
     omega (arith, whole, front, rest)
+
+pub bytes-rise : (sizes : List ℕ) (f i : ℕ) → f ≤ i → bytes_before sizes f ≤ bytes_before sizes i
+bytes-rise sizes f i le = omega (arith, bytes-between sizes f i le)
+
+-- the bytes of sizes below 2^32
+pub bytes-fit : (sizes : List ℕ) (i : ℕ) → ((k : ℕ) → get_or sizes k 0 < 4294967296) → i ≤ length sizes → bytes_before sizes i ≤ 4294967295 * i
+bytes-fit sizes zero small le = omega arith
+bytes-fit sizes (suc i) small le =
+    let e : i + 1 ≡ suc i = omega arith in
+    let one : bytes_before sizes (suc i) ≡ bytes_before sizes i + get_or sizes i 0 = rw (← e) (sum_by_more (λ (n : ℕ). n) sizes i 0 (omega arith)) in
+    omega (arith, one, small i, bytes-fit sizes i small (omega arith))
+
+fields : (s : Sample) (description at size duration : ℕ) → s.description ≡ description → s.at ≡ at → s.size ≡ size → s.duration ≡ duration → sample description at size duration ≡ s
+fields s description at size duration e f g h = rw (← e, ← f, ← g, ← h) refl
+
+-- the sample that the code gives is sample i
+pub sample-is : (cs : List Chunk) (sizes times : List ℕ) (c i from : ℕ) (chunk : Chunk) (s : Sample) → slice_get cs c ≡ Some chunk → from ≡ held_by (take c cs) → from ≤ i → i < from + chunk.samples
+    → i < length sizes → length times ≡ length sizes → slice_get times i ≡ Some s.duration
+    → s.at ≡ chunk.at + total (take (i - from) (drop from sizes)) → s.size ≡ get_or sizes i 0 → s.description ≡ chunk.description
+    → slice_get (samples_in cs sizes times) i ≡ Some s
+sample-is cs sizes times c i from chunk s there first begun ends within len duration at size description =
+    let place : s.at ≡ chunk.at + total (take (i - held_by (take c cs)) (drop (held_by (take c cs)) sizes)) = rw (← first) at in
+    sample-in cs sizes times c i (get_or sizes i 0) s.duration chunk there (omega (arith, first, begun)) (omega (arith, first, ends)) (slice_get-get_or sizes i 0 within) duration len
+    ∙ ap Some (fields s chunk.description (chunk.at + total (take (i - held_by (take c cs)) (drop (held_by (take c cs)) sizes))) (get_or sizes i 0) s.duration description place size refl)

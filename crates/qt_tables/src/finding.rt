@@ -1,11 +1,12 @@
-//! The duration and the chunk of a sample, found by halving.
+//! A sample, found by halving.
 
-ghost use Rattle.std.specs.Prelude.{◌≡◌, ◌≤◌, ◌<◌, ◌+◌, ◌-◌, ◌/◌, ◌%◌, Some, length, sum_by, slice_get};
+ghost use Rattle.std.specs.Prelude.{◌≡◌, ◌≤◌, ◌<◌, ◌+◌, ◌-◌, ◌/◌, ◌%◌, ◌^◌, Some, length, sum, sum_by, take, drop, slice_get, slice_index};
+ghost use Rattle.std.specs.List.{All};
 ghost use Rattle.qt_tables.specs.Samples.{chunks, durations, held_by};
-ghost use Rattle.qt_tables.specs.Sums.{AreSums, timed_before, held_before, InRun};
+ghost use Rattle.qt_tables.specs.Sums.{AreSums, bytes_before, timed_before, held_before, InRun};
 ghost use Rattle.qt_tables.specs.Tables.{AreRuns};
 
-use crate::runs::{ChunkRun, TimeRun};
+use crate::runs::{ChunkRun, Sample, TimeRun};
 use crate::sums::last_begun;
 
 /// The duration of a sample.
@@ -51,4 +52,34 @@ pub(crate) fn held_of(runs: &[ChunkRun], sums: &[u64], offsets: &[u64], i: u32) 
 {
     let k = last_begun(sums, u64::from(i));
     held_in(runs[k], sums[k] as u32, i)
+}
+
+/// Sample i, which a chunk holds, with this duration.
+pub(crate) fn sample_in(
+    sizes: &[u32],
+    sums: &[u64],
+    offsets: &[u64],
+    held: Held,
+    duration: u32,
+    i: u32,
+) -> Sample
+    requires few { length sizes.now ≤ 1000000 }
+    requires sums { AreSums (length sizes.now) (bytes_before sizes.now) sums.now }
+    requires near { All (λ offset. offset < 2 ^ 62) offsets.now }
+    requires inside { i < length sizes.now }
+    requires chunk { held.chunk < length offsets.now }
+    requires first { held.first ≤ i }
+    ensures place { result.at ≡ slice_index offsets.now held.chunk + sum (take (i - held.first) (drop held.first sizes.now)) }
+    ensures near { result.at < 2 ^ 63 }
+    ensures size { result.size ≡ slice_index sizes.now i }
+    ensures duration { result.duration ≡ duration }
+    ensures description { result.description ≡ held.run.description }
+{
+    let before = sums[i as usize] - sums[held.first as usize];
+    Sample {
+        at: offsets[held.chunk] + before,
+        size: sizes[i as usize],
+        duration,
+        description: held.run.description,
+    }
 }

@@ -8,8 +8,12 @@ mod rows;
 mod runs;
 mod sums;
 mod tables;
+#[cfg(test)]
+mod tests;
 mod window;
+mod writer;
 
 pub use fault::{MovieFault, MovieKind};
 pub use runs::{ChunkRun, Sample, TimeRun};
 pub use tables::SampleTables;
+pub use writer::{Extent, TableWriter};

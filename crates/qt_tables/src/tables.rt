@@ -1,14 +1,19 @@
 //! The sample tables of a track.
 
-ghost use Rattle.std.specs.Prelude.{◌≡◌, ◌≤◌, ◌<◌, ◌-◌, ◌==◌, length, IfOk, slice_index};
+ghost use Rattle.std.specs.Prelude.{◌≡◌, ◌≤◌, ◌<◌, ◌==◌, length, sum_by, IfOk};
 ghost use Rattle.pw_outside.specs.Ports.{CountsFault};
 ghost use Rattle.pw_outside.specs.Reading.{Answers, Told};
 ghost use Rattle.qt_tables.specs.Faults.{told_fault, is_failed};
+ghost use Rattle.qt_tables.specs.Samples.{chunks, held_by};
+ghost use Rattle.qt_tables.specs.Sums.{AreSums, timed_before, held_before};
 ghost use Rattle.qt_tables.specs.Tables.{tables_in, AreTables};
 
 use crate::fault::{MovieFault, MovieKind, bad};
-use crate::finding::{duration_of, held_of};
-use crate::judging::{descriptions_in, offsets_of, offsets_table_of, runs_of, sizes_of, table_of, times_of, timescale_of};
+use crate::finding::{duration_of, held_of, sample_in};
+use crate::judging::{
+    descriptions_in, offsets_of, offsets_table_of, runs_of, sizes_of, table_of, times_of,
+    timescale_of,
+};
 use crate::runs::{ChunkRun, Sample, TimeRun};
 use crate::sums::{run_sums, size_sums, time_sums};
 use pw_outside::ByteStore;
@@ -42,12 +47,20 @@ impl Model for SampleTables {
     ghost invariant = { λ t. AreTables (record { timescale = t.timescale; sizes = t.sizes.items; times = t.times.items; runs = t.runs.items; offsets = t.offsets.items }) × AreSums (length t.sizes.items) (bytes_before t.sizes.items) t.size_sums.items × AreSums (length t.times.items) (timed_before t.times.items) t.time_sums.items × AreSums (length t.runs.items) (held_before t.runs.items t.offsets.items) t.run_sums.items };
 }
 
-/// Whether the sums over a table say that it speaks of so many samples.
-fn last_is(sums: &[u64], count: usize) -> bool
-    requires some { 0 < length sums.now }
-    ensures { result ≡ (slice_index sums.now (length sums.now - 1) == count) }
+/// Whether runs of durations speak of so many samples.
+fn are_timed(times: &[TimeRun], sums: &[u64], count: usize) -> bool
+    requires { AreSums (length times.now) (timed_before times.now) sums.now }
+    ensures { result ≡ (sum_by (λ r. r.count) times.now == count) }
 {
-    sums[sums.len() - 1] == count as u64
+    sums[times.len()] == count as u64
+}
+
+/// Whether chunks hold so many samples.
+fn are_held(runs: &[ChunkRun], offsets: &[u64], sums: &[u64], count: usize) -> bool
+    requires { AreSums (length runs.now) (held_before runs.now offsets.now) sums.now }
+    ensures { result ≡ (held_by (chunks runs.now offsets.now) == count) }
+{
+    sums[runs.len()] == count as u64
 }
 
 impl SampleTables {
@@ -92,11 +105,11 @@ impl SampleTables {
         let table = offsets_table_of(store, stbl)?;
         let offsets = offsets_of(alloc, store, &table)?;
         let time_sums = time_sums(alloc, &times)?;
-        if !last_is(&time_sums, sizes.len()) {
+        if !are_timed(&times, &time_sums, sizes.len()) {
             return Err(bad(MovieKind::TablesDisagree, stsz.at));
         }
         let run_sums = run_sums(alloc, &runs, &offsets)?;
-        if !last_is(&run_sums, sizes.len()) {
+        if !are_held(&runs, &offsets, &run_sums, sizes.len()) {
             return Err(bad(MovieKind::TablesDisagree, stsz.at));
         }
         let size_sums = size_sums(alloc, &sizes)?;
@@ -135,12 +148,14 @@ impl SampleTables {
         ensures near { result.at < 2 ^ 63 }
     {
         let held = held_of(&self.runs, &self.run_sums, &self.offsets, i);
-        let before = self.size_sums[i as usize] - self.size_sums[held.first as usize];
-        Sample {
-            at: self.offsets[held.chunk] + before,
-            size: self.sizes[i as usize],
-            duration: duration_of(&self.times, &self.time_sums, i),
-            description: held.run.description,
-        }
+        let duration = duration_of(&self.times, &self.time_sums, i);
+        sample_in(
+            &self.sizes,
+            &self.size_sums,
+            &self.offsets,
+            held,
+            duration,
+            i,
+        )
     }
 }
