@@ -4,6 +4,7 @@
 mod description;
 mod external;
 mod fields;
+mod leaves;
 mod moov;
 mod parts;
 mod reader;

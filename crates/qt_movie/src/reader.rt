@@ -17,11 +17,7 @@ use std::alloc::Global;
 
 /// The track that is taken of a file of so many bytes.
 #[tactic(auto, unfolding(crate::specs::Movie::taken_in, pw_outside::specs::Reading::bind))]
-fn taken_of<M: ByteStore>(
-    alloc: Global,
-    store: &mut M,
-    end: u64,
-) -> Result<VideoTrack, MovieFault>
+fn taken_of<M: ByteStore>(alloc: Global, store: &mut M, end: u64) -> Result<VideoTrack, MovieFault>
     requires end { Told (M.bytes store.old) (λ file. end ≡ length file) }
     ensures value { Told (M.bytes store.old) (λ file. Answers told_fault (λ x. x) result (taken_in file)) }
     ensures lies { IfOk result (TrackLies 0 end) }
