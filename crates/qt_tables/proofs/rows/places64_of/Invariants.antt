@@ -1,0 +1,17 @@
+use Rattle.std.proofs.Common.{◌≡◌, ℕ, ◌+◌, ◌-◌, ◌*◌, ◌^◌, ◌<◌, ◌≤◌, ◌++◌, length}
+use Rattle.pw_outside.specs.Reading.{Told}
+use Rattle.qt_atoms.specs.Written.{rows}
+use Rattle.qt_tables.specs.Window.{Shows}
+use Rattle.std.specs.Int.{w64}
+use Rattle.qt_atoms.specs.Atoms.{number_in}
+use Rattle.qt_tables.proofs.rows.places64_of.Given as goal
+
+abbrev pub invariant-rows : goal.invariant-rows
+invariant-rows g l = record {
+  count : length l.found.items ≡ l.i;
+  value : Told (g.M.ByteStore.bytes l.initial.store) (λ file. l.found.items ++ rows (number_in w64 file) (l.from + 8 * l.i) 8 (l.count - l.i) ≡ rows (number_in w64 file) l.from 8 l.count);
+  end : l.window.end ≡ l.from + 8 * l.count;
+  shows : Shows (g.M.ByteStore.bytes l.initial.store) l.window;
+  bytes : g.M.ByteStore.bytes l.store ≡ g.M.ByteStore.bytes l.initial.store;
+  cause : g.M.ByteStore.faults l.store ≡ g.M.ByteStore.faults l.initial.store
+}

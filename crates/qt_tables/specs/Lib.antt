@@ -1,0 +1,5 @@
+pub mod Faults
+pub mod Samples
+pub mod Tables
+pub mod Sums
+pub mod Window

@@ -1,0 +1,9 @@
+-- What a window over a table shows.
+use Rattle.std.specs.Prelude.{◌≡◌, ℕ, ◌≤◌, List, Option, take, drop}
+use Rattle.pw_outside.specs.Reading.{Told}
+use Rattle.qt_tables.specs.declared.window.Window.{Window}
+
+-- The bytes that it holds are those of the file from its place on, where they are told.
+pub record Shows (told : Option (List ℕ)) (w : Window) : Type 0 where
+  pub held : w.held ≤ 4096
+  pub same : Told told (λ file. take w.held w.piece ≡ take w.held (drop w.from file))
