@@ -15,6 +15,7 @@ use Rattle.qt_tables.specs.Samples.{Tables}
 use Rattle.qt_tables.specs.Tables.{body_length, tables_in}
 use Rattle.qt_tables.specs.declared.runs.Sample.{Sample}
 use Rattle.qt_movie.specs.declared.parts.Parts.{Parts}
+use Rattle.qt_movie.specs.declared.reader.Track.{Track}
 use Rattle.qt_movie.specs.declared.description.Description.{Description}
 use Rattle.qt_movie.specs.declared.external.Reference.{Reference}
 
@@ -216,6 +217,10 @@ movie_in file = do
     height = number_in w16 file (track.first.at + 34);
     tables = tables;
   })
+
+-- what is told of the track
+abbrev pub track_of : Movie → Track
+track_of m = record { number = m.number; timescale = m.tables.timescale; kind = m.kind; width = m.width; height = m.height; samples = length m.tables.sizes }
 
 -- where a sample lies, if the file has it: from its first byte to behind its last
 unfoldable pub span_in : List ℕ → Sample → Found (ℕ × ℕ)

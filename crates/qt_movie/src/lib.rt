@@ -12,3 +12,5 @@ mod track;
 
 pub use description::Description;
 pub use parts::Parts;
+pub use qt_tables::{MovieFault, MovieKind, Sample};
+pub use reader::{MovieReader, Track};
