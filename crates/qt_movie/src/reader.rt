@@ -74,7 +74,6 @@ impl MovieReader {
     ghost use Rattle.std.specs.Prelude.{◌≡◌, ◌≤◌, ◌<◌, ◌^◌, length, slice_get, Some, IfOk, IfSome};
     ghost use Rattle.pw_outside.specs.Ports.{CountsFault};
     ghost use Rattle.pw_outside.specs.Reading.{Answers, Told};
-    ghost use Rattle.std.specs.Borrow.{sem, RestsIfErr};
     ghost use Rattle.qt_tables.specs.Faults.{told_fault, is_failed};
     ghost use Rattle.qt_tables.specs.Samples.{samples};
     ghost use Rattle.qt_tables.specs.Tables.{AreTables};
@@ -132,9 +131,10 @@ impl MovieReader {
         self.tables.sample(i)
     }
 
-    /// Where the sample of this number lies: from its first byte to behind its last.
+    /// Where the sample of this number, from 0, lies in the file: its first byte, and behind its last. `MovieFault::Bad` is
+    /// `SampleOutside`, at the sample's place, exactly where the sample passes the end of the file.
     #[tactic(auto, unfolding(crate::specs::Movie::span_in, pw_outside::specs::Reading::bind))]
-    fn place_of<M: ByteStore>(&self, store: &mut M, i: u32) -> Result<(u64, u64), MovieFault>
+    pub fn place<M: ByteStore>(&self, store: &mut M, i: u32) -> Result<(u64, u64), MovieFault>
         requires { i < length self.now.tables.sizes }
         ensures value { Told (M.bytes store.old) (λ file. IfSome (slice_get (samples self.now.tables) i) (λ s. Answers told_fault (λ x. x) result (span_in file s))) }
         ensures order { IfOk result (λ x. x.0 ≤ x.1) }
@@ -150,22 +150,20 @@ impl MovieReader {
         Ok((sample.at, end))
     }
 
-    /// The bytes of the sample of this number, from 0, as a source. `MovieFault::Bad` is `SampleOutside`, at the sample's place, exactly
-    /// where the sample passes the end of the file.
+    /// The bytes of the sample of this number, from 0, as a source. The errors are those of `place`, which tells besides what an error
+    /// leaves of the store.
     pub fn span<'a, M: ByteStore>(
         &self,
         store: &'a mut M,
         i: u32,
     ) -> Result<Span<'a, M>, MovieFault>
         requires { i < length self.now.tables.sizes }
-        // What a refused call leaves of the store; else the store is behind the span.
-        ensures* refused { sem 𝓛 (RestsIfErr M.row store.entry (λ span. span.store.ghost_name) result (λ after. (M.bytes after ≡ M.bytes store.old) × CountsFault (M.faults store.old) (M.faults after) (is_failed result))) }
         ensures value { Told (M.bytes store.old) (λ file. IfSome (slice_get (samples self.now.tables) i) (λ s. Answers told_fault (λ span. (span.at, span.end)) result (span_in file s))) }
         ensures same_store { IfOk result (λ span. span.store.ghost_name ≡ store.entry.ghost_name) }
         ensures bytes { IfOk result (λ span. M.bytes span.store.now ≡ M.bytes store.old) }
         ensures faults { IfOk result (λ span. M.faults span.store.now ≡ M.faults store.old) }
     {
-        let (at, end) = self.place_of(store, i)?;
+        let (at, end) = self.place(store, i)?;
         Ok(Span::new(store, at, end))
     }
 }
