@@ -4,3 +4,4 @@ pub mod Near
 pub mod Chunks
 pub mod RunningSums
 pub mod Places
+pub mod Wrapping

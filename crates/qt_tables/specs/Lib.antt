@@ -3,3 +3,4 @@ pub mod Samples
 pub mod Tables
 pub mod Sums
 pub mod Window
+pub mod Writing

@@ -9,7 +9,9 @@ mod runs;
 mod sums;
 mod tables;
 mod window;
+mod writer;
 
 pub use fault::{MovieFault, MovieKind};
 pub use runs::{ChunkRun, Sample, TimeRun};
 pub use tables::SampleTables;
+pub use writer::{Extent, TableWriter};
