@@ -1,5 +1,5 @@
 -- A walk from atom to atom.
-use Rattle.std.proofs.Common.{◌≡◌, ℕ, zero, suc, ◌+◌, ◌-◌, ◌≤◌, ◌<◌, Bool, true, false, List, [], ◌∷◌, length, Option, Some, None, Result, Ok, Err, refl, sym, ap, ◌∙◌, arith, cond}
+use Rattle.std.proofs.Common.{◌≡◌, ℕ, zero, suc, ◌-◌, ◌≤◌, ◌<◌, Bool, true, false, List, [], ◌∷◌, Option, Some, None, Ok, refl, sym, ap, ◌∙◌, arith}
 use Rattle.std.specs.List.{find}
 use Rattle.qt_atoms.specs.declared.atom.Atom.{Atom}
 use Rattle.qt_atoms.specs.declared.atom.Step.{Step}
@@ -7,7 +7,7 @@ use Rattle.qt_atoms.specs.declared.atom.Step.TheVariants as steps
 use Rattle.qt_atoms.specs.declared.atom.AtomFault.{AtomFault}
 use Rattle.qt_atoms.specs.declared.atom.AtomFault.TheVariants as faults
 use Rattle.pw_outside.specs.Reading.{Fails}
-use Rattle.qt_atoms.specs.Atoms.{Walk, Sized, bad_size, told_fault, and_then, atom_at, walk_over, walk, first_in, found_or, none_or_bad, StartsAt, LiesIn}
+use Rattle.qt_atoms.specs.Atoms.{Walk, Sized, bad_size, told_fault, and_then, atom_at, walk_over, walk, first_in, found_or, none_or_bad, StartsAt}
 
 -- the bytes of an atom are passed over
 pub passed : (file : List ℕ) (end : ℕ) (top : Bool) (left inside : ℕ) → inside ≤ left → walk_over file end top left inside ≡ walk_over file end top (left - inside) 0

@@ -1,2 +1,3 @@
 pub mod Movie
 pub mod Ranges
+pub mod MovieBytes

@@ -15,6 +15,7 @@ use Rattle.qt_tables.specs.Samples.{Tables}
 use Rattle.qt_tables.specs.Tables.{body_length, tables_in}
 use Rattle.qt_tables.specs.declared.runs.Sample.{Sample}
 use Rattle.qt_movie.specs.declared.parts.Parts.{Parts}
+use Rattle.qt_movie.specs.declared.reader.Track.{Track}
 use Rattle.qt_movie.specs.declared.description.Description.{Description}
 use Rattle.qt_movie.specs.declared.external.Reference.{Reference}
 
@@ -64,12 +65,12 @@ with_child file parent kind rest = sized (child file parent kind) >>= λ found. 
 -- the atoms of a track that tell its pictures, where none is wanting
 unfoldable pub parts_in : List ℕ → Atom → Found (Option Parts)
 parts_in file trak =
-  with_child file trak (codes "mdia") (λ mdia.
-  with_child file mdia (codes "hdlr") (λ hdlr.
-  with_child file mdia (codes "minf") (λ minf.
-  with_child file minf (codes "stbl") (λ stbl.
-  with_child file stbl (codes "stsd") (λ stsd.
-  Ok (Some (record { mdia = mdia; hdlr = hdlr; minf = minf; stbl = stbl; stsd = stsd })))))))
+    with_child file trak (codes "mdia") (λ mdia.
+    with_child file mdia (codes "hdlr") (λ hdlr.
+    with_child file mdia (codes "minf") (λ minf.
+    with_child file minf (codes "stbl") (λ stbl.
+    with_child file stbl (codes "stsd") (λ stsd.
+    Ok (Some (record { mdia = mdia; hdlr = hdlr; minf = minf; stbl = stbl; stsd = stsd })))))))
 
 -- whether the handler is that of pictures: its subtype, 8 bytes into the body
 abbrev pub is_video : List ℕ → Atom → Bool
@@ -116,15 +117,15 @@ pub record VideoTrack : Type 0 where
 -- a track that has descriptions, each of them one of ProRes
 abbrev pub prores_track : (number : ℕ) → Parts → List Description → Option VideoTrack
 prores_track number parts ds =
-  if list_all (λ d. is_prores d.kind) ds
-  then option_map (λ first. record { number = number; parts = parts; first = first; descriptions = ds }) (slice_get ds 0)
-  else None
+    if list_all (λ d. is_prores d.kind) ds
+    then option_map (λ first. record { number = number; parts = parts; first = first; descriptions = ds }) (slice_get ds 0)
+    else None
 
 -- a track, where it isn't passed over
 unfoldable pub track_in : List ℕ → (number : ℕ) → Atom → Found (Option VideoTrack)
 track_in file number trak = parts_in file trak >>= λ found. or_none found (λ parts.
-  if not (is_video file parts.hdlr) then Ok None
-  else descriptions_in file parts.stsd >>= λ ds. Ok (prores_track number parts ds))
+    if not (is_video file parts.hdlr) then Ok None
+    else descriptions_in file parts.stsd >>= λ ds. Ok (prores_track number parts ds))
 
 abbrev pub or_else : {A : Type 0} → Option A → Found (Option A) → Found (Option A)
 or_else (Some x) other = Ok (Some x)
@@ -137,13 +138,12 @@ first_track file (trak ∷ traks) number = track_in file number trak >>= λ here
 
 -- ---- where the data lies
 
-
 -- the entry at a place in front of the end, where one is there
 unfoldable pub reference_at : List ℕ → (place end : ℕ) → Option Reference
 reference_at file place end =
-  let size = number_in w32 file place in
-  if nat_lt (end - place) 12 || nat_lt size 12 || nat_lt (end - place) size then None
-  else Some (record { size = size; here = number_in w32 file (place + 8) % 2 == 1 })
+    let size = number_in w32 file place in
+    if nat_lt (end - place) 12 || nat_lt size 12 || nat_lt (end - place) size then None
+    else Some (record { size = size; here = number_in w32 file (place + 8) % 2 == 1 })
 
 abbrev pub and_others : Option Reference → (Reference → List Bool) → List Bool
 and_others None others = []
@@ -157,8 +157,8 @@ references file end (suc count) place = and_others (reference_at file place end)
 -- The entries of a `dref`. A description names one by 16 bits, so those behind 65,535 have no name.
 unfoldable pub references_of : List ℕ → (dref : Atom) → List Bool
 references_of file dref =
-  if nat_lt (body_length dref) 8 then []
-  else references file dref.end (min (number_in w32 file (dref.body + 4)) 65535) (dref.body + 8)
+    if nat_lt (body_length dref) 8 then []
+    else references file dref.end (min (number_in w32 file (dref.body + 4)) 65535) (dref.body + 8)
 
 -- the `dref` of a track, where there is one
 unfoldable pub dref_in : List ℕ → (minf : Atom) → Found (Option Atom)
@@ -215,8 +215,12 @@ movie_in file = do
     kind = track.first.kind;
     width = number_in w16 file (track.first.at + 32);
     height = number_in w16 file (track.first.at + 34);
-    tables = tables
+    tables = tables;
   })
+
+-- what is told of the track
+abbrev pub track_of : Movie → Track
+track_of m = record { number = m.number; timescale = m.tables.timescale; kind = m.kind; width = m.width; height = m.height; samples = length m.tables.sizes }
 
 -- where a sample lies, if the file has it: from its first byte to behind its last
 unfoldable pub span_in : List ℕ → Sample → Found (ℕ × ℕ)

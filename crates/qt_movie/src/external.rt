@@ -134,9 +134,7 @@ fn lies_here(references: &[bool], reference: u16) -> bool
 fn is_external(references: &[bool], descriptions: &[Description]) -> bool
     ensures { result ≡ is_external references.now descriptions.now }
 {
-    descriptions
-        .iter()
-        .any(|description| !lies_here(references, description.reference))
+    descriptions.iter().any(|description| !lies_here(references, description.reference))
 }
 
 /// Judges where the data of a track lies: all of it in the same file.

@@ -38,11 +38,7 @@ pub(crate) fn bytes_of<M: ByteStore, const N: usize>(
 }
 
 /// The number of 16 bits at a place, as `bytes_of`.
-pub(crate) fn u16_of<M: ByteStore>(
-    store: &mut M,
-    place: u64,
-    table: u64,
-) -> Result<u16, MovieFault>
+pub(crate) fn u16_of<M: ByteStore>(store: &mut M, place: u64, table: u64) -> Result<u16, MovieFault>
     requires inside { Told (M.bytes store.old) (λ file. place + 2 ≤ length file) }
     requires room { place + 2 < 2 ^ 64 }
     ensures value { Told (M.bytes store.old) (λ file. Answers told_fault (λ x. x) result (Ok (number_in w16 file place))) }
@@ -54,11 +50,7 @@ pub(crate) fn u16_of<M: ByteStore>(
 }
 
 /// The number of 32 bits at a place, as `bytes_of`.
-pub(crate) fn u32_of<M: ByteStore>(
-    store: &mut M,
-    place: u64,
-    table: u64,
-) -> Result<u32, MovieFault>
+pub(crate) fn u32_of<M: ByteStore>(store: &mut M, place: u64, table: u64) -> Result<u32, MovieFault>
     requires inside { Told (M.bytes store.old) (λ file. place + 4 ≤ length file) }
     requires room { place + 4 < 2 ^ 64 }
     ensures value { Told (M.bytes store.old) (λ file. Answers told_fault (λ x. x) result (Ok (number_in w32 file place))) }

@@ -4,6 +4,7 @@
 mod description;
 mod external;
 mod fields;
+mod leaves;
 mod moov;
 mod parts;
 mod reader;
@@ -11,3 +12,5 @@ mod track;
 
 pub use description::Description;
 pub use parts::Parts;
+pub use qt_tables::{MovieFault, MovieKind, Sample};
+pub use reader::{MovieReader, Track};

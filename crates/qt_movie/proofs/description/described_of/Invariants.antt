@@ -12,5 +12,5 @@ invariant-loop g l = record {
   value : Told (g.M.ByteStore.bytes l.initial.store) (λ file. after_front l.descriptions.items (described file l.stsd (l.count - l.counter) l.place) ≡ described file l.stsd l.count l.initial.place);
   sizes : All (HasSize l.stsd.end) l.descriptions.items;
   bytes : g.M.ByteStore.bytes l.store ≡ g.M.ByteStore.bytes l.initial.store;
-  cause : g.M.ByteStore.faults l.store ≡ g.M.ByteStore.faults l.initial.store
+  cause : g.M.ByteStore.faults l.store ≡ g.M.ByteStore.faults l.initial.store;
 }

@@ -8,5 +8,5 @@ invariant-loop g l = record {
   within : l.place ≤ l.dref.end;
   value : Told (g.M.ByteStore.bytes l.initial.store) (λ file. l.references.items ++ references file l.dref.end (l.count - l.counter) l.place ≡ references file l.dref.end l.count l.initial.place);
   bytes : g.M.ByteStore.bytes l.store ≡ g.M.ByteStore.bytes l.initial.store;
-  cause : g.M.ByteStore.faults l.store ≡ g.M.ByteStore.faults l.initial.store
+  cause : g.M.ByteStore.faults l.store ≡ g.M.ByteStore.faults l.initial.store;
 }

@@ -13,7 +13,7 @@ invariant-walk g l = record {
   whole : Told (g.M.ByteStore.bytes l.initial.store) (λ file. (walk file l.place l.moov.end false).bad ≡ None);
   value : Told (g.M.ByteStore.bytes l.initial.store) (λ file. track_from file l.place l.moov.end (l.number + 1) ≡ first_track file (traks_of file l.moov) 1);
   bytes : g.M.ByteStore.bytes l.store ≡ g.M.ByteStore.bytes l.initial.store;
-  cause : g.M.ByteStore.faults l.store ≡ g.M.ByteStore.faults l.initial.store
+  cause : g.M.ByteStore.faults l.store ≡ g.M.ByteStore.faults l.initial.store;
 }
 
 abbrev pub decreases-walk : goal.decreases-walk
