@@ -62,7 +62,7 @@ impl<S: ByteSource> ByteSource for Window<'_, S> {
 
     ghost becomes = { λ a b. Moves S.becomes (S.most a.source.now) (S.most b.source.now) (S.left a.source.now) (S.left b.source.now) a.source.now b.source.now a.source.ghost_name b.source.ghost_name a.left b.left };
 
-    ghost becomes_same = { λ a. Moves-same S.becomes (S.most a.source.now) (S.left a.source.now) a.source.now a.source.ghost_name a.left (S.becomes_same a.source.now) };
+    ghost becomes_same = { λ a. Moves-same S.becomes (S.most a.source.now) (S.left a.source.now) a.source.now a.source.ghost_name a.left };
 
     ghost bound = { λ w. window-bound w.left (S.left w.source.now) };
 

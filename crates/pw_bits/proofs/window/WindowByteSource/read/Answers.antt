@@ -29,7 +29,7 @@ returns-clause-becomes g c = λ first m.
     let piece = c.args.piece.now in
     record {
       same = m.same;
-      port = r.becomes first.source.now m.port;
+      port = λ earlier h. r.becomes earlier (m.port earlier h);
       bound = Lowers-trans (g.S.ByteSource.most first.source.now) (g.S.ByteSource.most c.args.self.now.source.now) (g.S.ByteSource.most c.read.new.self) 0 k m.bound r.most;
       told = λ t. told-read old new (take k c.read.new.piece) r.bytes.0 (m.told t);
       behind = λ t. moved-behind w k old new (take k c.read.new.piece) r.count.1 (omega (arith, r.count.0, c.read.auto.piece, length-take room piece, c.min-room.ensures)) r.bytes.0 (m.told t) ∙ m.behind t;
