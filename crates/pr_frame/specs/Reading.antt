@@ -1,7 +1,7 @@
 -- Reading a frame from left to right: the coded frame, or the first fault and its place, in the order of reading (our own).
 -- A slice's header is judged before its components are read, these in their order, and the slices of a picture before the
 -- next picture.
-use Rattle.std.specs.Prelude.{ℕ, zero, suc, ◌+◌, not, List, [], ◌∷◌, length, take, drop, Option, Result, Ok, Err}
+use Rattle.std.specs.Prelude.{◌≡◌, ℕ, zero, suc, ◌+◌, not, List, [], ◌∷◌, length, take, drop, Option, Result, Ok, Err}
 use Rattle.std.specs.Result.{result_err}
 use Rattle.pw_outside.specs.Reading.{Fault, Rest, Read, ◌>>=◌, bad, refuse}
 use Rattle.pw_bits.specs.Bits.{bits}
@@ -10,8 +10,12 @@ use Rattle.pr_geom.specs.declared.places.Part.TheVariants.{Y, Cb, Cr}
 use Rattle.pr_geom.specs.Slices.{pictures_of}
 use Rattle.pr_coeff.specs.Component.{Block}
 use Rattle.pr_coeff.specs.Reading as coefficients
+use Rattle.pr_coeff.specs.declared.read.CoeffFault.{CoeffFault}
+use Rattle.pr_coeff.specs.declared.read.CoeffFault.TheVariants as errors
 use Rattle.pr_head.specs.declared.fault.FrameKind.{FrameKind}
 use Rattle.pr_head.specs.declared.fault.FrameKind.TheVariants as kinds
+use Rattle.pr_head.specs.declared.fault.FrameFault.{FrameFault}
+use Rattle.pr_head.specs.declared.fault.FrameFault.TheVariants as faults
 use Rattle.pr_head.specs.declared.frame.FrameHeader.{FrameHeader}
 use Rattle.pr_head.specs.Header.{header_at}
 use Rattle.pr_head.specs.Picture.{picture_at, slices_in, table_at}
@@ -35,6 +39,13 @@ kind_of coefficients.level_range = kinds.LevelRange
 abbrev pub placed : {A : Type 0} → ℕ → Result A coefficients.Fault → Result A (Fault FrameKind)
 placed place (Ok blocks) = Ok blocks
 placed place (Err fault) = bad (kind_of fault) place
+
+-- the error of a frame that an error of its component at this place is
+abbrev pub IsFaultOf : CoeffFault → ℕ → FrameFault → Type 0
+IsFaultOf errors.Codeword place fault = fault ≡ faults.Bad kinds.Codeword place
+IsFaultOf errors.RunPast place fault = fault ≡ faults.Bad kinds.RunPast place
+IsFaultOf errors.LevelRange place fault = fault ≡ faults.Bad kinds.LevelRange place
+IsFaultOf errors.Failed place fault = fault ≡ faults.Failed
 
 -- a component of so many blocks in the next `size` bytes
 unfoldable pub blocks_at : List ℕ → ℕ → ℕ → Rest → Read FrameKind (List Block)

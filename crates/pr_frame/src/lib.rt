@@ -2,6 +2,7 @@
 #![tactic(auto)]
 
 mod coded;
+mod parts;
 
 pub use coded::{
     AlphaValues, Blocks, CodedFrame, CodedPicture, CodedPictures, CodedSlice, CodedSlices,
