@@ -1,9 +1,8 @@
 -- What is written of pictures (yuv4mpeg(5)): one spelling for each head and each picture.
 use Rattle.std.specs.Prelude.{◌≡◌, ℕ, ◌<◌, ◌≤◌, ◌/◌, ◌%◌, ◌+◌, Bool, true, false, List, [], ◌∷◌, ◌++◌, length, take, Option, None, Some, Result, Ok, Err, codes}
 use Rattle.std.specs.Fmt.{decimal}
-use Rattle.std.specs.Io.KnownBytes.{Appends}
 use Rattle.std.specs.List.{flat_map}
-use Rattle.pw_outside.specs.Ports.{taken_more}
+use Rattle.pw_outside.specs.Writing.{SinkState, Puts, PutsPart}
 use Rattle.pw_planes.specs.declared.kinds.Chroma.{Chroma}
 use Rattle.pw_planes.specs.declared.kinds.Chroma.TheVariants.{C422, C444}
 use Rattle.pw_planes.specs.declared.kinds.Depth.{Depth}
@@ -55,18 +54,11 @@ plane_bytes depth samples = flat_map (sample_text depth) samples
 unfoldable pub frame_bytes : Depth → Picture → List ℕ
 frame_bytes depth p = codes "FRAME\n" ++ plane_bytes depth p.y.samples ++ plane_bytes depth p.cb.samples ++ plane_bytes depth p.cr.samples
 
--- What was appended of a text: all of it, or a part from its front after a failure, or nothing where memory ran out.
-abbrev pub IsWritten : {X : Type 0} → Result X WriteEnd → List ℕ → List ℕ → Type 0
-IsWritten (Ok _) text out = out ≡ text
-IsWritten (Err ends.Failed) text out = (length out < length text) × (out ≡ take (length out) text)
-IsWritten (Err ends.NoMemory) text out = out ≡ []
-
--- A call wrote a text, or a part of it: the sink holds it where it tells what it holds, and counts its bytes.
-pub record Writes {X : Type 0} (old new : Option (List ℕ)) (before after : ℕ) (result : Result X WriteEnd) (text : List ℕ) : Type 0 where
-  pub out : List ℕ
-  pub written : IsWritten result text out
-  pub held : Appends old new out
-  pub taken : after ≡ taken_more before (length out)
+-- The sink took a text, or a front of it and not all after a failure, or nothing where memory ran out.
+abbrev pub Writes : {X : Type 0} → Result X WriteEnd → SinkState → SinkState → List ℕ → Type 0
+Writes (Ok _) before after text = Puts before after text
+Writes (Err ends.Failed) before after text = PutsPart before after text
+Writes (Err ends.NoMemory) before after text = Puts before after []
 
 -- whether the sink failed
 abbrev pub write_failed : {X : Type 0} → Result X WriteEnd → Bool

@@ -4,6 +4,7 @@ ghost use Rattle.std.specs.Prelude.{◌≡◌, ◌≤◌, ◌++◌, IfOk, OnOk};
 ghost use Rattle.pw_outside.specs.Ports.{CountsFault};
 ghost use Rattle.pw_planes.specs.declared.kinds.Depth.TheVariants.{D8, D10};
 ghost use Rattle.pic_y4m.specs.Frames.{HasForm, AreBelow};
+ghost use Rattle.pw_outside.specs.Writing.{sink_state};
 ghost use Rattle.pic_y4m.specs.Writing.{Writes, write_failed, mode_text, sampling_text, depth_text, head_bytes, plane_bytes, frame_bytes};
 
 use crate::head::Head;
@@ -132,7 +133,7 @@ fn frame_text(alloc: Global, depth: Depth, picture: &Picture) -> Result<Vec<u8>,
 
 /// Writes a whole text.
 fn write_text<K: ByteSink>(sink: &mut K, text: &[u8]) -> Result<(), WriteEnd>
-    ensures bytes { Writes (K.held sink.old) (K.held sink.new) (K.taken sink.old) (K.taken sink.new) result text.now }
+    ensures bytes { Writes result (sink_state (K.held sink.old) (K.taken sink.old)) (sink_state (K.held sink.new) (K.taken sink.new)) text.now }
     ensures settled { K.settled sink.old ≤ K.settled sink.new }
     ensures cause { CountsFault (K.faults sink.old) (K.faults sink.new) (write_failed result) }
 {
@@ -166,7 +167,7 @@ impl Y4mWriter {
         head: &Head,
     ) -> Result<Y4mWriter, WriteEnd>
         // The head line is appended: all of it, or after `Failed` a part from its front, or after `NoMemory` nothing.
-        ensures bytes { Writes (K.held sink.old) (K.held sink.new) (K.taken sink.old) (K.taken sink.new) result (head_bytes head.now) }
+        ensures bytes { Writes result (sink_state (K.held sink.old) (K.taken sink.old)) (sink_state (K.held sink.new) (K.taken sink.new)) (head_bytes head.now) }
         ensures writer { IfOk result (λ w. w ≡ head.now) }
         ensures settled { K.settled sink.old ≤ K.settled sink.new }
         // The error is `Failed` only where a call of the sink failed, and each such call is answered by it.
@@ -193,7 +194,7 @@ impl Y4mWriter {
     ) -> Result<(), WriteEnd>
         requires { HasForm self.old picture.now }
         // The frame is appended: all of it, or after `Failed` a part from its front, or after `NoMemory` nothing.
-        ensures bytes { Writes (K.held sink.old) (K.held sink.new) (K.taken sink.old) (K.taken sink.new) result (frame_bytes self.old.depth picture.now) }
+        ensures bytes { Writes result (sink_state (K.held sink.old) (K.taken sink.old)) (sink_state (K.held sink.new) (K.taken sink.new)) (frame_bytes self.old.depth picture.now) }
         ensures same { self.new ≡ self.old }
         ensures settled { K.settled sink.old ≤ K.settled sink.new }
         // The error is `Failed` only where a call of the sink failed, and each such call is answered by it.

@@ -1,5 +1,7 @@
 -- One word after another.
-use Rattle.std.proofs.Common.{◌≡◌, ℕ, suc, zero, ◌+◌, ◌-◌, ◌%◌, ◌^◌, ◌<◌, ◌≤◌, length, take, drop, get_or, append_assoc, append-nil, nat_abs, Bool, true, false, List, [], ◌∷◌, ◌++◌, ℤ, pos, negsuc, ◌-ℤ◌, Result, Ok, Err, OnErr, refl, ap, sym, ◌∙◌, subst, arith}
+use Rattle.std.specs.Io.KnownBytes.{Appends}
+use Rattle.pw_outside.specs.Ports.{taken_more}
+use Rattle.std.proofs.Common.{◌≡◌, ℕ, suc, zero, ◌+◌, ◌-◌, ◌%◌, ◌^◌, ◌<◌, ◌≤◌, length, take, drop, take_at, get_or, append_assoc, append-nil, nat_abs, Bool, true, false, List, [], ◌∷◌, ◌++◌, ℤ, pos, negsuc, ◌-ℤ◌, Result, Ok, Err, OnErr, refl, ap, sym, ◌∙◌, subst, arith}
 use mir.Val.{bool_byte, to_z, of_z}
 use mir.Syntax.{w16, w32}
 use Rattle.std.proofs.lemmas.Int.{ints, to_z-of_z}
@@ -17,7 +19,8 @@ use Rattle.pr_coeff.proofs.WovenLemmas.{length-column, column-at, AllSmall_at}
 use Rattle.std.proofs.lemmas.List.{take_more, drop_more, take-append-drop}
 use Rattle.pr_coeff.specs.declared.write.Coding.{Coding}
 use Rattle.pr_coeff.specs.declared.write.Differences.{Differences}
-use Rattle.pr_coeff.specs.Writing.{triple_words, Codes, CodesDc, TakesFront}
+use Rattle.pr_coeff.specs.Writing.{triple_words, Codes, CodesDc}
+use Rattle.pw_outside.specs.Writing.{sink_state, Puts, PutsFront}
 
 -- ---- a run, a level and a sign
 
@@ -191,14 +194,18 @@ pub padding_behind : {before after : Written} {l : List Bool} → Writes before 
 padding_behind {before} {after} {l} w e = ap padding (w.pending ∙ ap (λ p. left (p ++ l)) e) ∙ padding_left l
 
 pub front_of : {before after : Written} {k : List Bool} (l : List Bool) → Begins before after k → before.pending ≡ [] → k ≡ l ++ padding l →
-    TakesFront before.held before.taken after.held after.taken (bytes l)
-front_of {before} {after} {k} l b none e = record {
-  front = b.front;
-  rest = b.rest;
-  parts = b.parts ∙ ap (λ p. whole (p ++ k)) none ∙ ap whole e;
-  bytes = b.bytes;
-  taken = b.taken;
-}
+    PutsFront (sink_state before.held before.taken) (sink_state after.held after.taken) (bytes l)
+front_of {before} {after} {k} l b none e =
+    let all : b.front ++ b.rest ≡ bytes l = b.parts ∙ ap (λ p. whole (p ++ k)) none ∙ ap whole e in
+    let same : take (length b.front) (bytes l) ≡ b.front = ap (take (length b.front)) (sym all) ∙ take_at b.front b.rest (length b.front) refl in
+    record {
+      out = length b.front;
+      front = subst (Puts (sink_state before.held before.taken) (sink_state after.held after.taken)) (sym same) (record { bytes_held = b.bytes; count = b.taken });
+    }
+
+pub all_of : (before after : Written) (l : List Bool) → Appends before.held after.held (bytes l) → after.taken ≡ taken_more before.taken (length (bytes l)) →
+    Puts (sink_state before.held before.taken) (sink_state after.held after.taken) (bytes l)
+all_of before after l held taken = record { bytes_held = held; count = taken }
 
 pub three_parts : (a b c : List Bool) → a ++ (b ++ c) ≡ (a ++ b) ++ c
 three_parts a b c = sym (append_assoc a b c)

@@ -1,8 +1,5 @@
--- What a writer of coefficients has written so far, and what the next words depend on; and what a sink has
--- of a component (our own).
-use Rattle.std.specs.Prelude.{◌≡◌, ℕ, List, [], ◌∷◌, ◌++◌, length, Bool, ℤ, Option}
-use Rattle.std.specs.Io.KnownBytes.{Appends}
-use Rattle.pw_outside.specs.Ports.{taken_more}
+-- What a writer of coefficients has written so far, and what the next words depend on (our own).
+use Rattle.std.specs.Prelude.{◌≡◌, ℕ, List, [], ◌∷◌, ◌++◌, Bool, ℤ}
 use Rattle.pr_codes.specs.Words.{word}
 use Rattle.pr_coeff.specs.Component.{dc_words, ac_words, run_book, level_book}
 use Rattle.pr_coeff.specs.declared.write.Coding.{Coding}
@@ -19,11 +16,3 @@ triple_words run magnitude zeros level negative = word (run_book run) zeros ++ (
 -- The words of these DC coefficients, whatever DC coefficients follow.
 pub record CodesDc (old new : Differences) (ds : List ℤ) (words : List Bool) : Type 0 where
   pub any : (rest : List ℤ) → dc_words old.last old.negative old.code (ds ++ rest) ≡ words ++ dc_words new.last new.negative new.code rest
-
--- A sink took a front of these bytes, and no others.
-pub record TakesFront (held_old : Option (List ℕ)) (taken_old : ℕ) (held_new : Option (List ℕ)) (taken_new : ℕ) (all : List ℕ) : Type 0 where
-  pub front : List ℕ
-  pub rest : List ℕ
-  pub parts : front ++ rest ≡ all
-  pub bytes : Appends held_old held_new front
-  pub taken : taken_new ≡ taken_more taken_old (length front)

@@ -1,12 +1,12 @@
 //! Writing a component.
 
 ghost use Rattle.std.specs.Prelude.{◌≡◌, ℕ, ◌+◌, ◌-◌, ◌^◌, ◌<◌, ◌≤◌, List, [], ◌∷◌, ◌++◌, Bool, false, OnOk, OnErr, IsTrue, is_err, ℤ, pos, ◌-ℤ◌, nat_abs, length, get_or, drop};
-ghost use Rattle.std.specs.Io.KnownBytes.{Appends};
-ghost use Rattle.pw_outside.specs.Ports.{CountsFault, taken_more};
+ghost use Rattle.pw_outside.specs.Ports.{CountsFault};
+ghost use Rattle.pw_outside.specs.Writing.{sink_state, Puts, PutsFront};
 ghost use Rattle.pw_bits.specs.Writing.{written, Writes, Begins};
 ghost use Rattle.pr_codes.specs.Words.{word, book};
 ghost use Rattle.pr_coeff.specs.Component.{folded, turned, is_negative, dc_book, dc_words, all_dc_words, ac_words, column, listed, places, component, AllSmall, AreBlocks};
-ghost use Rattle.pr_coeff.specs.Writing.{triple_words, Codes, CodesDc, TakesFront};
+ghost use Rattle.pr_coeff.specs.Writing.{triple_words, Codes, CodesDc};
 
 use crate::books::{book_of_difference, book_of_level, book_of_run, first_book};
 use crate::scan::{Block, Scan};
@@ -293,9 +293,8 @@ pub fn write_component<K: ByteSink>(
 ) -> Result<(), Failed>
     requires count { (0 < length blocks.now) × (length blocks.now ≤ 32) }
     requires small { AreBlocks blocks.now }
-    ensures bytes { OnOk result (Appends (K.held sink.old) (K.held sink.new) (component (places scan) blocks.now)) }
-    ensures taken { OnOk result (K.taken sink.new ≡ taken_more (K.taken sink.old) (length (component (places scan) blocks.now))) }
-    ensures front { OnErr result (TakesFront (K.held sink.old) (K.taken sink.old) (K.held sink.new) (K.taken sink.new) (component (places scan) blocks.now)) }
+    ensures ok { OnOk result (Puts (sink_state (K.held sink.old) (K.taken sink.old)) (sink_state (K.held sink.new) (K.taken sink.new)) (component (places scan) blocks.now)) }
+    ensures err { OnErr result (PutsFront (sink_state (K.held sink.old) (K.taken sink.old)) (sink_state (K.held sink.new) (K.taken sink.new)) (component (places scan) blocks.now)) }
     ensures settled { K.settled sink.old ≤ K.settled sink.new }
     ensures cause { CountsFault (K.faults sink.old) (K.faults sink.new) (is_err result) }
 {

@@ -5,5 +5,4 @@ pub mod Picture
 pub mod Slice
 pub mod Own
 pub mod Steps
-pub mod Writing
 pub mod Laws

@@ -2,10 +2,10 @@
 
 ghost use Rattle.std.specs.Prelude.{◌≡◌, ◌+◌, ◌*◌, ◌<◌, ◌≤◌, ◌++◌, length, OnOk, OnErr, is_err};
 ghost use Rattle.pw_outside.specs.Ports.{CountsFault};
+ghost use Rattle.pw_outside.specs.Writing.{sink_state, Puts, PutsPart};
 ghost use Rattle.pr_head.specs.Header.{chroma_code, interlace_code, alpha_code, frame_header_bytes};
 ghost use Rattle.pr_head.specs.Picture.{picture_header_bytes};
 ghost use Rattle.pr_head.specs.Slice.{least_slice_header, slice_header_bytes};
-ghost use Rattle.pr_head.specs.Writing.{written, Writes, Begins};
 
 use crate::frame::FrameHeader;
 use crate::slice::SliceHeader;
@@ -19,8 +19,8 @@ const MOST: usize = 156;
 
 /// Writes the whole piece.
 fn write<K: ByteSink>(sink: &mut K, piece: &[u8]) -> Result<(), Failed>
-    ensures ok { OnOk result (Writes (written (K.held sink.old) (K.taken sink.old)) (written (K.held sink.new) (K.taken sink.new)) piece.now) }
-    ensures err { OnErr result (Begins (written (K.held sink.old) (K.taken sink.old)) (written (K.held sink.new) (K.taken sink.new)) piece.now) }
+    ensures ok { OnOk result (Puts (sink_state (K.held sink.old) (K.taken sink.old)) (sink_state (K.held sink.new) (K.taken sink.new)) piece.now) }
+    ensures err { OnErr result (PutsPart (sink_state (K.held sink.old) (K.taken sink.old)) (sink_state (K.held sink.new) (K.taken sink.new)) piece.now) }
     ensures settled { K.settled sink.old ≤ K.settled sink.new }
     ensures cause { CountsFault (K.faults sink.old) (K.faults sink.new) (is_err result) }
 {
@@ -116,8 +116,8 @@ pub fn write_frame_header<K: ByteSink>(
 ) -> Result<(), Failed>
     requires aspect { header.now.aspect < 16 }
     requires rate { header.now.rate < 16 }
-    ensures ok { OnOk result (Writes (written (K.held sink.old) (K.taken sink.old)) (written (K.held sink.new) (K.taken sink.new)) (frame_header_bytes header.now size)) }
-    ensures err { OnErr result (Begins (written (K.held sink.old) (K.taken sink.old)) (written (K.held sink.new) (K.taken sink.new)) (frame_header_bytes header.now size)) }
+    ensures ok { OnOk result (Puts (sink_state (K.held sink.old) (K.taken sink.old)) (sink_state (K.held sink.new) (K.taken sink.new)) (frame_header_bytes header.now size)) }
+    ensures err { OnErr result (PutsPart (sink_state (K.held sink.old) (K.taken sink.old)) (sink_state (K.held sink.new) (K.taken sink.new)) (frame_header_bytes header.now size)) }
     ensures settled { K.settled sink.old ≤ K.settled sink.new }
     ensures cause { CountsFault (K.faults sink.old) (K.faults sink.new) (is_err result) }
 {
@@ -152,8 +152,8 @@ pub fn write_picture_header<K: ByteSink>(
 ) -> Result<(), Failed>
     requires slices { slices ≤ 65535 }
     requires log2 { log2 ≤ 3 }
-    ensures ok { OnOk result (Writes (written (K.held sink.old) (K.taken sink.old)) (written (K.held sink.new) (K.taken sink.new)) (picture_header_bytes size slices log2)) }
-    ensures err { OnErr result (Begins (written (K.held sink.old) (K.taken sink.old)) (written (K.held sink.new) (K.taken sink.new)) (picture_header_bytes size slices log2)) }
+    ensures ok { OnOk result (Puts (sink_state (K.held sink.old) (K.taken sink.old)) (sink_state (K.held sink.new) (K.taken sink.new)) (picture_header_bytes size slices log2)) }
+    ensures err { OnErr result (PutsPart (sink_state (K.held sink.old) (K.taken sink.old)) (sink_state (K.held sink.new) (K.taken sink.new)) (picture_header_bytes size slices log2)) }
     ensures settled { K.settled sink.old ≤ K.settled sink.new }
     ensures cause { CountsFault (K.faults sink.old) (K.faults sink.new) (is_err result) }
 {
@@ -186,8 +186,8 @@ pub fn write_slice_header<K: ByteSink>(
     alpha: bool,
 ) -> Result<(), Failed>
     requires { slice.now.header ≡ least_slice_header alpha }
-    ensures ok { OnOk result (Writes (written (K.held sink.old) (K.taken sink.old)) (written (K.held sink.new) (K.taken sink.new)) (slice_header_bytes slice.now alpha)) }
-    ensures err { OnErr result (Begins (written (K.held sink.old) (K.taken sink.old)) (written (K.held sink.new) (K.taken sink.new)) (slice_header_bytes slice.now alpha)) }
+    ensures ok { OnOk result (Puts (sink_state (K.held sink.old) (K.taken sink.old)) (sink_state (K.held sink.new) (K.taken sink.new)) (slice_header_bytes slice.now alpha)) }
+    ensures err { OnErr result (PutsPart (sink_state (K.held sink.old) (K.taken sink.old)) (sink_state (K.held sink.new) (K.taken sink.new)) (slice_header_bytes slice.now alpha)) }
     ensures settled { K.settled sink.old ≤ K.settled sink.new }
     ensures cause { CountsFault (K.faults sink.old) (K.faults sink.new) (is_err result) }
 {

@@ -1,10 +1,9 @@
 -- What `plan` answers and writes. Our own definitions.
-use Rattle.std.specs.Prelude.{◌≡◌, ℕ, List, ◌++◌, length, take, nat_lt, ◌≤◌, ◌⊎◌, Option, Result, Ok, Err, codes, if◌then◌else◌}
+use Rattle.std.specs.Prelude.{◌≡◌, ℕ, List, ◌++◌, nat_lt, ◌≤◌, ◌⊎◌, Result, Ok, Err, codes, if◌then◌else◌}
 use Rattle.std.specs.List.{flat_map}
 use Rattle.std.specs.Fmt.{decimal}
-use Rattle.std.specs.Io.KnownBytes.{Appends}
-use Rattle.pw_outside.specs.Ports.{taken_more}
 use Rattle.pw_outside.specs.Reading.{Fault}
+use Rattle.pw_outside.specs.Writing.{SinkState, Puts, PutsFront}
 use Rattle.rate_table.specs.declared.entry.Entry.{Entry}
 use Rattle.rate_table.specs.declared.fault.ProofKind.{ProofKind}
 use Rattle.rate_table.specs.Table.{Table, IsBest, HasNoFit, indices, size_of, error_of, least_bytes}
@@ -46,24 +45,15 @@ abbrev pub plan_status : Result Table (Fault ProofKind) → Status
 plan_status (Err f) = s.BadProof f.kind f.place
 plan_status (Ok t) = if nat_lt 65536 (width t.slices) then s.TooWide else s.Done
 
--- a sink that held these bytes, and took so many, has taken the text, whole
-pub record AppendsText (old new : Option (List ℕ)) (before now : ℕ) (text : List ℕ) : Type 0 where
-  pub held : Appends old new text
-  pub taken : now ≡ taken_more before (length text)
-
--- The first bytes of the text were appended.
-abbrev pub AppendsPart : Option (List ℕ) → Option (List ℕ) → ℕ → ℕ → List ℕ → Type 0
-AppendsPart old new before now text = (n : ℕ) × AppendsText old new before now (take n text)
-
 -- The text of the table's best choice was appended.
-abbrev pub PrintsPlan : Result Table (Fault ProofKind) → Option (List ℕ) → Option (List ℕ) → ℕ → ℕ → Type 0
-PrintsPlan (Err f) old new before now = ⊥
-PrintsPlan (Ok t) old new before now = (text : List ℕ) × IsPlanText t text × AppendsText old new before now text
+abbrev pub PrintsPlan : Result Table (Fault ProofKind) → SinkState → SinkState → Type 0
+PrintsPlan (Err f) before after = ⊥
+PrintsPlan (Ok t) before after = (text : List ℕ) × IsPlanText t text × Puts before after text
 
 -- The first bytes of that text were appended.
-abbrev pub PrintsPart : Result Table (Fault ProofKind) → Option (List ℕ) → Option (List ℕ) → ℕ → ℕ → Type 0
-PrintsPart (Err f) old new before now = ⊥
-PrintsPart (Ok t) old new before now = (text : List ℕ) × IsPlanText t text × (width t.slices ≤ 65536) × AppendsPart old new before now text
+abbrev pub PrintsPart : Result Table (Fault ProofKind) → SinkState → SinkState → Type 0
+PrintsPart (Err f) before after = ⊥
+PrintsPart (Ok t) before after = (text : List ℕ) × IsPlanText t text × (width t.slices ≤ 65536) × PutsFront before after text
 
 -- A table of at most 65,536 choices ends in Done, or for want of memory.
 abbrev pub Completes : Status → Result Table (Fault ProofKind) → Type 0

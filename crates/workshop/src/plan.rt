@@ -7,7 +7,8 @@ ghost use Rattle.pw_outside.specs.Ports.{CountsFault};
 ghost use Rattle.pw_outside.specs.Reading.{Told};
 ghost use Rattle.rate_table.specs.Reading.{tabled};
 ghost use Rattle.workshop.specs.Status.{is_done, is_read_fault, is_write_fault, has_written, usage_of, AnswersUnlessOutside};
-ghost use Rattle.workshop.specs.Plan.{spaced, outcome_text, plan_status, AppendsText, AppendsPart, PrintsPlan, PrintsPart};
+ghost use Rattle.workshop.specs.Plan.{spaced, outcome_text, plan_status, PrintsPlan, PrintsPart};
+ghost use Rattle.pw_outside.specs.Writing.{sink_state, Puts, PutsFront};
 
 use crate::small::{SmallFault, SmallOutcome, best_small};
 use crate::status::Status;
@@ -58,8 +59,8 @@ fn text_of(alloc: Global, outcome: SmallOutcome) -> Result<Vec<u8>, NoMemory>
 /// Writes all of the lines, and settles them.
 fn print<K: ByteSink>(sink: &mut K, lines: &[u8]) -> Status
     ensures kinds { (result ≡ Status.Done) ⊎ (result ≡ Status.WriteFault) }
-    ensures text { OnTrue (is_done result) (AppendsText (K.held sink.old) (K.held sink.new) (K.taken sink.old) (K.taken sink.new) lines.now) }
-    ensures part { OnTrue (is_write_fault result) (AppendsPart (K.held sink.old) (K.held sink.new) (K.taken sink.old) (K.taken sink.new) lines.now) }
+    ensures text { OnTrue (is_done result) (Puts (sink_state (K.held sink.old) (K.taken sink.old)) (sink_state (K.held sink.new) (K.taken sink.new)) lines.now) }
+    ensures part { OnTrue (is_write_fault result) (PutsFront (sink_state (K.held sink.old) (K.taken sink.old)) (sink_state (K.held sink.new) (K.taken sink.new)) lines.now) }
     ensures settled { OnTrue (is_done result) (K.settled sink.new ≡ K.taken sink.new) }
     ensures cause { CountsFault (K.faults sink.old) (K.faults sink.new) (is_write_fault result) }
 {
@@ -77,9 +78,9 @@ pub(crate) fn plan<S: ByteSource, K: ByteSink>(alloc: Global, proof: &mut S, tex
     ensures answer { Told (S.left proof.old) (λ bytes. AnswersUnlessOutside result (plan_status (tabled bytes))) }
     ensures usage { usage_of result ≡ None }
     ensures text { Told (S.left proof.old) (λ bytes. OnTrue (is_done result)
-        (PrintsPlan (tabled bytes) (K.held text.old) (K.held text.new) (K.taken text.old) (K.taken text.new))) }
+        (PrintsPlan (tabled bytes) (sink_state (K.held text.old) (K.taken text.old)) (sink_state (K.held text.new) (K.taken text.new)))) }
     ensures part { Told (S.left proof.old) (λ bytes. OnTrue (is_write_fault result)
-        (PrintsPart (tabled bytes) (K.held text.old) (K.held text.new) (K.taken text.old) (K.taken text.new))) }
+        (PrintsPart (tabled bytes) (sink_state (K.held text.old) (K.taken text.old)) (sink_state (K.held text.new) (K.taken text.new)))) }
     ensures unwritten { OnFalse (has_written result) (text.new ≡ text.old) }
     ensures end { OnTrue (is_done result) (IsAtEnd (S.left proof.new)) }
     ensures settled { OnTrue (is_done result) (K.settled text.new ≡ K.taken text.new) }

@@ -8,6 +8,7 @@ ghost use Rattle.pw_outside.specs.Reading.{Told};
 ghost use Rattle.rate_table.specs.Reading.{tabled};
 ghost use Rattle.workshop.specs.Status.{is_done, is_read_fault, is_write_fault, has_written, usage_of, AnswersUnlessOutside};
 ghost use Rattle.workshop.specs.Words.{settings, usage_fault};
+ghost use Rattle.pw_outside.specs.Writing.{sink_state};
 ghost use Rattle.workshop.specs.Plan.{plan_status, PrintsPlan, PrintsPart, Completes};
 
 use crate::plan::plan;
@@ -43,13 +44,13 @@ pub fn workshop<S: ByteSource, M: ByteStore, K: ByteSink>(
 
     // After Done the text of the table's best choice was appended, whole, and the table was read to its end.
     ensures text { Told (S.left proof.old) (λ bytes. OnTrue (is_done result)
-        (PrintsPlan (tabled bytes) (K.held text.old) (K.held text.new) (K.taken text.old) (K.taken text.new))) }
+        (PrintsPlan (tabled bytes) (sink_state (K.held text.old) (K.taken text.old)) (sink_state (K.held text.new) (K.taken text.new)))) }
     ensures end { OnTrue (is_done result) (IsAtEnd (S.left proof.new)) }
     ensures settled { OnTrue (is_done result) (K.settled text.new ≡ K.taken text.new) }
 
     // After a fault of writing the first bytes of that text were appended, and after every other refusal none.
     ensures part { Told (S.left proof.old) (λ bytes. OnTrue (is_write_fault result)
-        (PrintsPart (tabled bytes) (K.held text.old) (K.held text.new) (K.taken text.old) (K.taken text.new))) }
+        (PrintsPart (tabled bytes) (sink_state (K.held text.old) (K.taken text.old)) (sink_state (K.held text.new) (K.taken text.new)))) }
     ensures unwritten { OnFalse (has_written result) (text.new ≡ text.old) }
 
     // A fault of a port is answered only where that port's count rose, and every other answer leaves the

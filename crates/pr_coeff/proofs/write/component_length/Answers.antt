@@ -1,4 +1,5 @@
 use Rattle.std.proofs.Common.{◌≡◌, ℕ, ◌+◌, ◌*◌, ◌^◌, ◌<◌, ◌≤◌, min, length, Result, Ok, Err, OnOk, is_err, arith, rules, ◌∙◌}
+use Rattle.std.proofs.lemmas.Result.{on_ok_weaker}
 use Rattle.pw_outside.specs.Ports.{last, taken_more, CountsFault}
 use Rattle.pr_coeff.specs.Component.{places, component}
 use Rattle.pr_coeff.proofs.WholeLemmas.{scan_of}
@@ -17,7 +18,7 @@ pub overflow_cast-result : goal.overflow_cast-result
 overflow_cast-result c =
     let n = length (component (places c.args.scan) c.args.blocks.now) in
     let small : n < 2 ^ 32 = few n (length c.args.blocks.now) c.requires.count.1 (component_cost 15 (places c.args.scan) c.args.blocks.now (scan_of c.args.scan) (omega arith) c.requires.count.1 (under_blocks c.args.blocks.now c.requires.small)) in
-    let is : c.taken.result ≡ n = c.taken.ensures ∙ counted c.write_component.result c.new-sink.result c.write_component.new.sink n c.new-sink.ensures small c.write_component.ensures.taken c.write_component.ensures.cause in
+    let is : c.taken.result ≡ n = c.taken.ensures ∙ counted c.write_component.result c.new-sink.result c.write_component.new.sink n c.new-sink.ensures small (on_ok_weaker c.write_component.result (λ p. p.count) c.write_component.ensures.ok) c.write_component.ensures.cause in
     let lt : c.taken.result < 2 ^ 32 = omega (arith, is) in
     search rules
 
@@ -25,4 +26,4 @@ pub returns : goal.returns
 returns c =
     let n = length (component (places c.args.scan) c.args.blocks.now) in
     let small : n < 2 ^ 32 = few n (length c.args.blocks.now) c.requires.count.1 (component_cost 15 (places c.args.scan) c.args.blocks.now (scan_of c.args.scan) (omega arith) c.requires.count.1 (under_blocks c.args.blocks.now c.requires.small)) in
-    c.taken.ensures ∙ counted c.write_component.result c.new-sink.result c.write_component.new.sink n c.new-sink.ensures small c.write_component.ensures.taken c.write_component.ensures.cause
+    c.taken.ensures ∙ counted c.write_component.result c.new-sink.result c.write_component.new.sink n c.new-sink.ensures small (on_ok_weaker c.write_component.result (λ p. p.count) c.write_component.ensures.ok) c.write_component.ensures.cause

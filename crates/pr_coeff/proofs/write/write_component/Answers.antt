@@ -9,15 +9,15 @@ use Rattle.pw_outside.specs.Ports.{taken_more}
 use Rattle.pr_coeff.specs.Component.{places, column, listed, all_dc_words, ac_words, spelling, component}
 use Rattle.pr_coeff.proofs.WovenLemmas.{column_small}
 use Rattle.pr_coeff.proofs.WholeLemmas.{scan_of, places_inside}
-use Rattle.pr_coeff.proofs.CodingLemmas.{any_err, padding_behind, front_of, three_parts}
+use Rattle.pr_coeff.proofs.CodingLemmas.{any_err, padding_behind, front_of, all_of, three_parts}
 use Rattle.pr_coeff.proofs.write.write_component.Goals as goal
 
 pub put_all_first-requires-clause-small : goal.put_all_first-requires-clause-small
 put_all_first-requires-clause-small g c = column_small c.args.blocks.now 0 c.requires.small
 
-pub returns-in_err-put_all_first-clause-front : goal.returns-in_err-put_all_first-clause-front
+pub returns-in_err-put_all_first-clause-err : goal.returns-in_err-put_all_first-clause-err
 unfolding component spelling
-returns-in_err-put_all_first-clause-front g c =
+returns-in_err-put_all_first-clause-err g c =
     let scan = places c.args.scan in
     let blocks = c.args.blocks.now in
     let dc = all_dc_words (column blocks 0) in
@@ -35,9 +35,9 @@ put_places-requires-clause-inside g c =
 pub put_places-requires-clause-kept : goal.put_places-requires-clause-kept
 put_places-requires-clause-kept g c = Writes-short c.in_ok-put_all_first.ensures.ok
 
-pub returns-in_err-put_places-clause-front : goal.returns-in_err-put_places-clause-front
+pub returns-in_err-put_places-clause-err : goal.returns-in_err-put_places-clause-err
 unfolding component spelling
-returns-in_err-put_places-clause-front g c =
+returns-in_err-put_places-clause-err g c =
     let scan = places c.args.scan in
     let blocks = c.args.blocks.now in
     let dc = all_dc_words (column blocks 0) in
@@ -50,9 +50,9 @@ returns-in_err-put_places-clause-front g c =
     any_err c.from_residual-in_err-put_places.result (front_of {before = before} {after = w2} (dc ++ ac)
     (Begins-second c.in_ok-put_all_first.ensures.ok (Begins-first (padding (dc ++ ac)) cut)) none (three_parts dc ac (padding (dc ++ ac))))
 
-pub returns-clause-bytes : goal.returns-clause-bytes
+pub returns-clause-ok : goal.returns-clause-ok
 unfolding component spelling
-returns-clause-bytes g c =
+returns-clause-ok g c =
     let scan = places c.args.scan in
     let blocks = c.args.blocks.now in
     let dc = all_dc_words (column blocks 0) in
@@ -63,26 +63,14 @@ returns-clause-bytes g c =
     let w2 = written (g.K.ByteSink.held c.put_places.new.sink) (g.K.ByteSink.taken c.put_places.new.sink) c.put_places.new.writer.pending in
     let second : Writes w1 w2 ac = subst (λ l. Writes w1 w2 (ac_words 4 2 0 (listed l blocks))) c.other_places.ensures.value c.in_ok-put_places.ensures.ok in
     let both : Writes before w2 (dc ++ ac) = Writes-Writes c.in_ok-put_all_first.ensures.ok second in
-    on_ok_weaker c.pad.result (λ w. subst (λ p. Appends (g.K.ByteSink.held c.args.sink.now) (g.K.ByteSink.held c.pad.new.sink) (bytes (p ++ (dc ++ ac)))) none (Writes-padded both w).0) c.pad.ensures.ok
+    let w3 = written (g.K.ByteSink.held c.pad.new.sink) (g.K.ByteSink.taken c.pad.new.sink) c.pad.new.self.pending in
+    on_ok_weaker c.pad.result (λ w. all_of before w3 (dc ++ ac)
+    (subst (λ p. Appends (g.K.ByteSink.held c.args.sink.now) (g.K.ByteSink.held c.pad.new.sink) (bytes (p ++ (dc ++ ac)))) none (Writes-padded both w).0)
+    (subst (λ p. g.K.ByteSink.taken c.pad.new.sink ≡ taken_more (g.K.ByteSink.taken c.args.sink.now) (length (bytes (p ++ (dc ++ ac))))) none (Writes-padded both w).1)) c.pad.ensures.ok
 
-pub returns-clause-taken : goal.returns-clause-taken
+pub returns-clause-err : goal.returns-clause-err
 unfolding component spelling
-returns-clause-taken g c =
-    let scan = places c.args.scan in
-    let blocks = c.args.blocks.now in
-    let dc = all_dc_words (column blocks 0) in
-    let ac = ac_words 4 2 0 (listed (drop 1 scan) blocks) in
-    let before = written (g.K.ByteSink.held c.args.sink.now) (g.K.ByteSink.taken c.args.sink.now) c.new-writer.result.pending in
-    let none : before.pending ≡ [] = ap (λ (w : Writer). w.pending) c.new-writer.ensures in
-    let w1 = written (g.K.ByteSink.held c.put_all_first.new.sink) (g.K.ByteSink.taken c.put_all_first.new.sink) c.put_all_first.new.writer.pending in
-    let w2 = written (g.K.ByteSink.held c.put_places.new.sink) (g.K.ByteSink.taken c.put_places.new.sink) c.put_places.new.writer.pending in
-    let second : Writes w1 w2 ac = subst (λ l. Writes w1 w2 (ac_words 4 2 0 (listed l blocks))) c.other_places.ensures.value c.in_ok-put_places.ensures.ok in
-    let both : Writes before w2 (dc ++ ac) = Writes-Writes c.in_ok-put_all_first.ensures.ok second in
-    on_ok_weaker c.pad.result (λ w. subst (λ p. g.K.ByteSink.taken c.pad.new.sink ≡ taken_more (g.K.ByteSink.taken c.args.sink.now) (length (bytes (p ++ (dc ++ ac))))) none (Writes-padded both w).1) c.pad.ensures.ok
-
-pub returns-clause-front : goal.returns-clause-front
-unfolding component spelling
-returns-clause-front g c =
+returns-clause-err g c =
     let scan = places c.args.scan in
     let blocks = c.args.blocks.now in
     let dc = all_dc_words (column blocks 0) in
