@@ -4,13 +4,14 @@ use Rattle.std.specs.Prelude.{IsSome}
 use Rattle.pw_bits.specs.Window.{first_bytes}
 use Rattle.pr_coeff.specs.declared.scan.Scan.{Scan}
 use Rattle.pr_coeff.proofs.WholeLemmas.{scan_of, component_again}
-use Rattle.pw_outside.specs.Reading.{Fault, Rest, bind, Fails, bytes_of, rest_of}
+use Rattle.pw_outside.specs.Reading.{Fault, Rest, Read, bind, Fails, bytes_of, rest_of}
 use Rattle.pw_bits.specs.Bits.{bits}
 use Rattle.pr_coeff.specs.Component.{Block, Stands, places}
 use Rattle.pr_coeff.specs.Reading as coefficients
 use Rattle.pr_coeff.specs.Calls.{IsFault}
 use Rattle.pr_coeff.specs.declared.read.CoeffFault.{CoeffFault}
 use Rattle.pr_coeff.specs.declared.read.CoeffFault.TheVariants as errors
+use Rattle.pr_head.specs.declared.fault.FrameKind.{FrameKind}
 use Rattle.pr_head.specs.declared.fault.FrameFault.{FrameFault}
 use Rattle.pr_head.specs.Faults.{told_fault}
 use Rattle.pr_frame.specs.Reading.{ahead, blocks_at, IsFaultOf}
@@ -61,3 +62,8 @@ blocks-window-fault scan count size at o n e f told number found is =
     blocks-fault (places scan) count size (rest_of at o) e f
         (subst (λ l. IsFault e (coefficients.component_at count (places scan) (bits l))) (window-bytes size o told)
         (subst (λ m. IsFault e (coefficients.component_at m (places scan) (bits (bytes_of (first_bytes size o))))) number found)) is
+
+-- the place behind what was read
+pub value-at : {X : Type 0} (read : Read FrameKind X) (x : X) (after n m : ℕ) (new : Option (List ℕ)) (s : Rest) → read ≡ Ok (x, rest_of after new) → rest_of after new ≡ ahead n s → s.place + n ≡ m
+    → read ≡ Ok (x, rest_of m new)
+value-at read x after n m new s e r p = e ∙ ap (λ k. Ok (x, rest_of k new)) (ap (λ (t : Rest). t.place) r ∙ p)

@@ -17,6 +17,7 @@ use Rattle.pr_head.specs.declared.fault.FrameKind.TheVariants as kinds
 use Rattle.pr_head.specs.declared.fault.FrameFault.{FrameFault}
 use Rattle.pr_head.specs.declared.fault.FrameFault.TheVariants as faults
 use Rattle.pr_head.specs.declared.frame.FrameHeader.{FrameHeader}
+use Rattle.pr_head.specs.declared.slice.SliceHeader.{SliceHeader}
 use Rattle.pr_head.specs.Header.{header_at}
 use Rattle.pr_head.specs.Picture.{picture_at, slices_in, table_at}
 use Rattle.pr_head.specs.Slice.{slice_at}
@@ -53,14 +54,17 @@ blocks_at scan count size s = do
   blocks ← placed s.place (coefficients.component_at count scan (bits (take size s.bytes)))
   Ok (blocks, ahead size s)
 
--- The slice at this place in the next `size` bytes. Alpha values aren't built: there are none.
-unfoldable pub coded_slice_at : FrameHeader → SlicePlace → ℕ → Rest → Read FrameKind CodedSlice
-coded_slice_at h place size s = do
-  head ← slice_at size (has_alpha h.alpha) s
+-- The components of a slice, behind its header. Alpha values, which come last, aren't built: there are none.
+unfoldable pub components_at : FrameHeader → SlicePlace → SliceHeader × Rest → Read FrameKind CodedSlice
+components_at h place head = do
   y ← blocks_at (scan_of h.interlace) (block_count h place Y) head.0.y head.1
   cb ← blocks_at (scan_of h.interlace) (block_count h place Cb) head.0.cb y.1
   cr ← blocks_at (scan_of h.interlace) (block_count h place Cr) head.0.cr cb.1
   Ok (record { index = head.0.index; y = y.0; cb = cb.0; cr = cr.0; alpha = [] }, cr.1)
+
+-- the slice at this place in the next `size` bytes
+unfoldable pub coded_slice_at : FrameHeader → SlicePlace → ℕ → Rest → Read FrameKind CodedSlice
+coded_slice_at h place size s = slice_at size (has_alpha h.alpha) s >>= components_at h place
 
 -- the slices at these places, of these sizes
 unfoldable pub coded_slices_at : FrameHeader → List SlicePlace → List ℕ → Rest → Read FrameKind (List CodedSlice)

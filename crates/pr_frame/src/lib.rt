@@ -3,6 +3,8 @@
 
 mod coded;
 mod parts;
+mod read;
+mod slices;
 
 pub use coded::{
     AlphaValues, Blocks, CodedFrame, CodedPicture, CodedPictures, CodedSlice, CodedSlices,

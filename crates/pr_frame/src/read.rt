@@ -1,0 +1,117 @@
+//! Frames, read.
+
+ghost use Rattle.std.specs.Prelude.{◌≡◌, ◌+◌, ◌*◌, ◌<◌, ◌≤◌, ◌^◌, ◌==◌, List, ℕ, length, sum, take, drop, IfOk, IfErr, OnOk, IfSome, IsSome, None, ◌-◌};
+ghost use Rattle.std.specs.List.{All};
+ghost use Rattle.pw_outside.specs.Ports.{CountsFault, GoesOn};
+ghost use Rattle.pw_outside.specs.Reading.{Gives, Told, bytes_of};
+ghost use Rattle.pw_planes.specs.declared.kinds.AlphaKind.TheVariants.{Absent};
+ghost use Rattle.pr_geom.specs.Slices.{pictures_of};
+ghost use Rattle.pr_geom.specs.Layout.{IsLayoutOf};
+ghost use Rattle.pr_head.specs.Faults.{told_fault, is_failed};
+ghost use Rattle.pr_head.specs.Header.{HasLayoutSize, IsHeader, header_at};
+ghost use Rattle.pr_head.specs.Picture.{IsPicture, picture_at, table_at, picture_size};
+ghost use Rattle.pr_frame.specs.Forms.{IsBuilt, is_built};
+ghost use Rattle.pr_frame.specs.Coded.{IsCodedPicture, IsCodedFrame};
+ghost use Rattle.pr_frame.specs.Reading.{coded_picture_at, coded_pictures_at, frame_at, frame_fault};
+ghost use Rattle.pr_frame.specs.Laws.{StandsBuilt};
+
+use crate::coded::{CodedFrame, CodedPicture, CodedPictures};
+use crate::parts::pass;
+use crate::slices::read_slices;
+use pr_geom::Layout;
+use pr_head::{
+    FrameFault, FrameHeader, FrameKind, PictureHeader, read_frame_header, read_picture_header,
+    read_slice_sizes,
+};
+use pw_outside::ByteSource;
+use pw_planes::{AlphaKind, Chroma, Interlace};
+use std::alloc::Global;
+
+/// Reads the header of the picture that begins here, in a frame of `frame` bytes.
+fn picture_header<S: ByteSource>(
+    source: &mut S,
+    place: &mut u64,
+    frame: u32,
+    header: &FrameHeader,
+) -> Result<(PictureHeader, Layout), FrameFault>
+    requires room { place.old ≤ frame }
+    requires header { HasLayoutSize header.now }
+    ensures bytes { Told (S.left source.old) (λ bytes. frame ≤ place.old + length bytes) → Gives told_fault (λ t. t.0) (S.left source.old) (S.left source.new) place.old place.new result (picture_at frame header.now) }
+    ensures layout { IfOk result (λ t. IsLayoutOf t.1 header.now.width header.now.height t.0.log2 header.now.interlace header.now.chroma) }
+    ensures picture { IfOk result (λ t. IsPicture t.0) }
+    ensures within { IfOk result (λ t. place.old + t.0.size ≤ frame) }
+    ensures place { IfOk result (λ t. place.new ≡ place.old + t.0.header) }
+    ensures becomes { GoesOn S.becomes source.old source.new }
+    ensures cause { CountsFault (S.faults source.old) (S.faults source.new) (is_failed result) }
+{
+    let (picture, layout) = read_picture_header(source, *place as u32, frame, header)?;
+    *place += u64::from(picture.header);
+    Ok((picture, layout))
+}
+
+/// Reads the sizes of so many slices, behind the picture's header.
+fn slice_sizes<S: ByteSource>(
+    alloc: Global,
+    source: &mut S,
+    place: &mut u64,
+    picture: &PictureHeader,
+    slices: u32,
+) -> Result<Vec<u16>, FrameFault>
+    requires header { picture.now.header ≤ place.old }
+    requires room { place.old < 2 ^ 33 }
+    requires at { place.old < 2 ^ 32 + picture.now.header }
+    ensures bytes { Told (S.left source.old) (λ bytes. picture.now.size ≤ picture.now.header + length bytes) → Gives told_fault (λ v. v.items) (S.left source.old) (S.left source.new) place.old place.new result (table_at picture.now slices) }
+    ensures count { IfOk result (λ v. length v.items ≡ slices) }
+    ensures within { IfOk result (λ v. picture_size picture.now v.items ≤ picture.now.size) }
+    ensures place { OnOk result (place.new ≡ place.old + 2 * slices) }
+    ensures becomes { GoesOn S.becomes source.old source.new }
+    ensures cause { CountsFault (S.faults source.old) (S.faults source.new) (is_failed result) }
+{
+    let at = (*place - u64::from(picture.header)) as u32;
+    let sizes = read_slice_sizes(alloc, source, at, picture, slices)?;
+    *place += 2 * u64::from(slices);
+    Ok(sizes)
+}
+
+/// Passes over the bytes up to this place.
+fn pass_to<S: ByteSource>(source: &mut S, place: &mut u64, end: u64) -> Result<(), FrameFault>
+    requires { place.old ≤ end }
+    ensures told { IsSome (S.left source.old) → IsSome (S.left source.new) }
+    ensures bytes { OnOk result (IsSome (S.left source.old) → bytes_of (S.left source.new) ≡ drop (end - place.old) (bytes_of (S.left source.old))) }
+    ensures failed { IfErr result (λ e. told_fault e ≡ None) }
+    ensures place { OnOk result (place.new ≡ end) }
+    ensures becomes { GoesOn S.becomes source.old source.new }
+    ensures cause { CountsFault (S.faults source.old) (S.faults source.new) (is_failed result) }
+{
+    pass(source, end - *place)?;
+    *place = end;
+    Ok(())
+}
+
+/// Reads the picture that begins here, in a frame of `frame` bytes with this header, and passes over what is left of it.
+fn read_picture<S: ByteSource>(
+    alloc: Global,
+    source: &mut S,
+    place: &mut u64,
+    frame: u32,
+    header: &FrameHeader,
+) -> Result<CodedPicture, FrameFault>
+    requires alpha { header.now.alpha ≡ Absent }
+    requires header { HasLayoutSize header.now }
+    requires room { place.old ≤ frame }
+    ensures bytes { Told (S.left source.old) (λ bytes. frame ≤ place.old + length bytes) → Gives told_fault (λ x. x) (S.left source.old) (S.left source.new) place.old place.new result (coded_picture_at frame header.now) }
+    ensures picture { IfOk result (IsCodedPicture header.now) }
+    ensures place { OnOk result (place.new ≤ frame) }
+    ensures becomes { GoesOn S.becomes source.old source.new }
+    ensures cause { CountsFault (S.faults source.old) (S.faults source.new) (is_failed result) }
+{
+    let at = *place;
+    let (picture, layout) = picture_header(source, place, frame, header)?;
+    let sizes = slice_sizes(alloc, source, place, &picture, layout.slices())?;
+    let slices = read_slices(alloc, source, place, &sizes, header, &layout)?;
+    pass_to(source, place, at + u64::from(picture.size))?;
+    Ok(CodedPicture {
+        log2: picture.log2,
+        slices,
+    })
+}
