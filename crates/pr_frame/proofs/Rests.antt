@@ -80,7 +80,7 @@ head-of size s q least within no_cr no_alpha from to e = record {
   rest = refl;
 }
 
-stated-none : (b : List ℕ) → ((stated_of false b).cr ≡ 0) × ((stated_of false b).alpha ≡ 0)
+pub stated-none : (b : List ℕ) → ((stated_of false b).cr ≡ 0) × ((stated_of false b).alpha ≡ 0)
 unfolding stated_of
 stated-none b = (refl, refl)
 
@@ -134,3 +134,16 @@ unfolding coded_slice_at bind
 coded-head-fails h place size s fault absent told = fails-whole told_fault fault (slice_at size false s) (coded_slice_at h place size s) (λ f e.
     let one : slice_at size (has_alpha h.alpha) s ≡ Err f = ap (λ kind. slice_at size (has_alpha kind) s) absent ∙ e in
     rw one refl) told
+
+-- a slice without alpha that was read has a header that was read
+pub head-of-coded : (h : FrameHeader) (place : SlicePlace) (size : ℕ) (s : Rest) (x : CodedSlice) (t : Rest) → h.alpha ≡ Absent → coded_slice_at h place size s ≡ Ok (x, t)
+    → (r : SliceHeader) × (t0 : Rest) × (slice_at size false s ≡ Ok (r, t0)) × (components_at h place (r, t0) ≡ Ok (x, t))
+unfolding coded_slice_at
+head-of-coded h place size s x t absent e =
+    let e1 = bind-ok _ _ e in
+    (e1.0.0, e1.0.1, subst (λ kind. slice_at size (has_alpha kind) s ≡ Ok e1.0) absent e1.1, e1.2)
+
+-- without alpha the components fill the slice
+pub whole-size : (size : ℕ) (s : Rest) → slice_size (with_last size false (stated_of false s.bytes)) ≡ size
+    → (stated_of false s.bytes).header + (stated_of false s.bytes).y + (stated_of false s.bytes).cb + (with_last size false (stated_of false s.bytes)).cr ≡ size
+whole-size size s e = let none = stated-none s.bytes in omega arith

@@ -20,7 +20,7 @@ use Rattle.pr_frame.specs.declared.coded.CodedSlice.{CodedSlice}
 use Rattle.pr_frame.specs.Forms.{scan_of, has_alpha, block_count}
 use Rattle.pr_frame.specs.Stands.{ComponentStands, slice_header_in, HasSlice, SliceStands, SlicesStand}
 use Rattle.pr_frame.specs.Reading.{ahead, placed, blocks_at, components_at, coded_slice_at, coded_slices_at}
-use Rattle.pr_frame.proofs.Rests.{ok-both, blocks-rest, IsHead, head-found}
+use Rattle.pr_frame.proofs.Rests.{ok-both, blocks-rest, IsHead, head-found, head-of-coded, coded-is, whole-size, stated-none}
 use Rattle.pr_frame.proofs.Steps.{blocks-value}
 use Rattle.pw_planes.specs.declared.kinds.Interlace.{Interlace}
 use Rattle.pw_planes.specs.declared.kinds.Interlace.TheVariants.{Progressive, TopFirst, BottomFirst}
@@ -65,6 +65,77 @@ blocks-again scan count size s blocks is few c =
 
 -- ---- a slice without alpha
 
+stated-size : (size : ℕ) (q : SliceHeader) → q.cr ≡ 0 → slice_size (with_last size false q) ≡ size → slice_size q ≤ size
+stated-size size q none e = omega arith
+
+-- what the header of a slice without alpha has, from its bytes
+stated-found : (size : ℕ) (s : Rest) → least_slice_header false ≤ (slice_header_in false size s.bytes).header → slice_size (slice_header_in false size s.bytes) ≡ size → 1 ≤ (slice_header_in false size s.bytes).index → (slice_header_in false size s.bytes).index ≤ 224
+    → slice_at size false s ≡ Ok (slice_header_in false size s.bytes, ahead (slice_header_in false size s.bytes).header s)
+unfolding slice_at slice_fault
+stated-found size s least whole from to =
+    let q = stated_of false s.bytes in
+    refuse-step _ _ _ _ (le-ltb size 6 (omega arith))
+    ∙ bind-step _ _ (refuse-step _ _ _ _ (le-ltb q.header 6 least)
+    ∙ refuse-step _ _ _ _ (le-ltb size q.header (omega arith))
+    ∙ refuse-step _ _ _ _ (or-false (q.index == 0) (nat_lt 224 q.index) (ne_eqb q.index 0 (λ e. omega arith)) (le-ltb 224 q.index to))
+    ∙ refuse-step _ _ _ _ (le-ltb size (slice_size q) (stated-size size q (stated-none s.bytes).0 whole)))
+
 pub slice-found : (h : FrameHeader) (place : SlicePlace) (size : ℕ) (s t : Rest) (x : CodedSlice) → h.alpha ≡ Absent → HasBlocksOf h place → coded_slice_at h place size s ≡ Ok (x, t) → SliceStands h place size s.bytes x
-unfolding coded_slice_at components_at
-slice-found h place size s t x absent blocks e = ?
+unfolding components_at
+slice-found h place size s t x absent blocks e =
+    let e1 = head-of-coded h place size s x t absent e in
+    let r = e1.0 in
+    let t0 = e1.1 in
+    let head = head-found size s t0 r e1.2 in
+    let parts : components_at h place (r, t0) ≡ Ok (x, t) = e1.3 in
+    let e2 = bind-ok _ _ parts in
+    let e3 = bind-ok _ _ e2.2 in
+    let e4 = bind-ok _ _ e3.2 in
+    let x-is = (ok-both e4.2).0 in
+    let is = scan-is h.interlace in
+    let scan = scan_of h.interlace in
+    let t0-is = head.rest in
+    let t1-is = blocks-rest _ _ _ _ _ _ e2.1 ∙ ap (ahead r.y) t0-is ∙ ahead-ahead r.y r.header s in
+    let t2-is = blocks-rest _ _ _ _ _ _ e3.1 ∙ ap (ahead r.cb) t1-is ∙ ahead-ahead r.cb (r.header + r.y) s in
+    let y : ComponentStands scan (block_count h place Y) (take r.y (drop r.header s.bytes)) e2.0.0 =
+        subst (λ (v : Rest). ComponentStands scan (block_count h place Y) (take r.y v.bytes) e2.0.0) t0-is (blocks-found scan _ _ _ _ _ is (blocks.some Y) e2.1) in
+    let cb : ComponentStands scan (block_count h place Cb) (take r.cb (drop (r.header + r.y) s.bytes)) e3.0.0 =
+        subst (λ (v : Rest). ComponentStands scan (block_count h place Cb) (take r.cb v.bytes) e3.0.0) t1-is (blocks-found scan _ _ _ _ _ is (blocks.some Cb) e3.1) in
+    let cr : ComponentStands scan (block_count h place Cr) (take r.cr (drop (r.header + r.y + r.cb) s.bytes)) e4.0.0 =
+        subst (λ (v : Rest). ComponentStands scan (block_count h place Cr) (take r.cr v.bytes) e4.0.0) t2-is (blocks-found scan _ _ _ _ _ is (blocks.some Cr) e4.1) in
+    let all : HasSlice false h place size r s.bytes (record { index = r.index; y = e2.0.0; cb = e3.0.0; cr = e4.0.0; alpha = [] }) = record {
+      least = head.least;
+      whole = head.size_is;
+      index_from = head.index_from;
+      index_to = head.index_to;
+      index = refl;
+      y = y;
+      cb = cb;
+      cr = cr;
+      no_values = refl;
+    } in
+    let at_header : HasSlice false h place size (slice_header_in false size s.bytes) s.bytes x =
+        subst (λ (q : SliceHeader). HasSlice false h place size q s.bytes x) head.is (subst (λ (v : CodedSlice). HasSlice false h place size r s.bytes v) (sym x-is) all) in
+    subst (λ a. HasSlice a h place size (slice_header_in a size s.bytes) s.bytes x) (sym (ap has_alpha absent)) at_header
+
+pub slice-again : (h : FrameHeader) (place : SlicePlace) (size : ℕ) (s : Rest) (x : CodedSlice) → h.alpha ≡ Absent → HasBlocksOf h place → SliceStands h place size s.bytes x → coded_slice_at h place size s ≡ Ok (x, ahead size s)
+unfolding components_at
+slice-again h place size s x absent blocks stands =
+    let w : HasSlice false h place size (slice_header_in false size s.bytes) s.bytes x = subst (λ a. HasSlice a h place size (slice_header_in a size s.bytes) s.bytes x) (ap has_alpha absent) stands in
+    let r = slice_header_in false size s.bytes in
+    let is = scan-is h.interlace in
+    let scan = scan_of h.interlace in
+    let t0 = ahead r.header s in
+    let head = stated-found size s w.least w.whole w.index_from w.index_to in
+    let a1 = ahead-ahead r.y r.header s in
+    let a2 = ahead-ahead r.cb (r.header + r.y) s in
+    let a3 = ahead-ahead r.cr (r.header + r.y + r.cb) s in
+    let y = blocks-again scan (block_count h place Y) r.y t0 x.y is (blocks.few Y) w.y in
+    let cb = blocks-again scan (block_count h place Cb) r.cb (ahead r.y t0) x.cb is (blocks.few Cb) (subst (λ (v : Rest). ComponentStands scan (block_count h place Cb) (take r.cb v.bytes) x.cb) (sym a1) w.cb) in
+    let cr = blocks-again scan (block_count h place Cr) r.cr (ahead r.cb (ahead r.y t0)) x.cr is (blocks.few Cr) (subst (λ (v : Rest). ComponentStands scan (block_count h place Cr) (take r.cr v.bytes) x.cr) (sym (ap (ahead r.cb) a1 ∙ a2)) w.cr) in
+    let size-is : r.header + r.y + r.cb + r.cr ≡ size = whole-size size s w.whole in
+    let x-is : record { index = r.index; y = x.y; cb = x.cb; cr = x.cr; alpha = [] } ≡ x = λ j. record { index = w.index j; y = x.y; cb = x.cb; cr = x.cr; alpha = sym w.no_values j } in
+    let end : ahead r.cr (ahead r.cb (ahead r.y t0)) ≡ ahead size s = ap (ahead r.cr) (ap (ahead r.cb) a1 ∙ a2) ∙ a3 ∙ ap (λ n. ahead n s) size-is in
+    coded-is h place size s r t0 absent head
+    ∙ bind-step _ _ y ∙ bind-step _ _ cb ∙ bind-step _ _ cr
+    ∙ (λ j. Ok (x-is j, end j))

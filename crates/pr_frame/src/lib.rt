@@ -9,3 +9,4 @@ mod slices;
 pub use coded::{
     AlphaValues, Blocks, CodedFrame, CodedPicture, CodedPictures, CodedSlice, CodedSlices,
 };
+pub use read::read_frame;
