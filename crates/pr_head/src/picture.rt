@@ -119,12 +119,11 @@ pub fn read_picture_header<S: ByteSource>(
     frame: u32,
     header: &FrameHeader,
 ) -> Result<(PictureHeader, Layout), FrameFault>
-    // Where the source tells its bytes, it has those up to the end of the frame.
-    requires bytes { Told (S.left source.old) (λ bytes. frame ≤ at + length bytes) }
     // The frame's size has none of the faults.
     requires header { HasLayoutSize header.now }
-    // Where the source tells its bytes, the answer is what they stand for, or their first fault.
-    ensures bytes { GivesValue told_fault (λ t. t.0) (S.left source.old) (S.left source.new) at result (picture_at frame header.now) }
+    // Where the source tells its bytes and has those up to the end of the frame, the answer is what they stand for, or their
+    // first fault.
+    ensures bytes { Told (S.left source.old) (λ bytes. frame ≤ at + length bytes) → GivesValue told_fault (λ t. t.0) (S.left source.old) (S.left source.new) at result (picture_at frame header.now) }
     ensures layout { IfOk result (λ t. IsLayoutOf t.1 header.now.width header.now.height t.0.log2 header.now.interlace header.now.chroma) }
     // What is answered has none of the faults.
     ensures picture { IfOk result (λ t. IsPicture t.0) }
@@ -225,10 +224,8 @@ pub fn read_slice_sizes<S: ByteSource>(
     picture: &PictureHeader,
     slices: u32,
 ) -> Result<Vec<u16>, FrameFault>
-    // Where the source tells its bytes, it has the picture's behind the header.
-    requires { Told (S.left source.old) (λ bytes. picture.now.size ≤ picture.now.header + length bytes) }
-    // Where the source tells its bytes, the answer is the table, or its fault.
-    ensures bytes { GivesValue told_fault (λ v. v.items) (S.left source.old) (S.left source.new) (at + picture.now.header) result (table_at picture.now slices) }
+    // Where the source tells its bytes and has the picture's behind the header, the answer is the table, or its fault.
+    ensures bytes { Told (S.left source.old) (λ bytes. picture.now.size ≤ picture.now.header + length bytes) → GivesValue told_fault (λ v. v.items) (S.left source.old) (S.left source.new) (at + picture.now.header) result (table_at picture.now slices) }
     // What is answered has none of the faults.
     ensures count { IfOk result (λ v. length v.items ≡ slices) }
     ensures within { IfOk result (λ v. picture_size picture.now v.items ≤ picture.now.size) }

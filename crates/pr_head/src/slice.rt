@@ -169,10 +169,8 @@ pub fn read_slice_header<S: ByteSource>(
     size: u16,
     alpha: bool,
 ) -> Result<SliceHeader, FrameFault>
-    // Where the source tells its bytes, it has the whole slice.
-    requires { Told (S.left source.old) (λ bytes. size ≤ length bytes) }
-    // Where the source tells its bytes, the answer is what they stand for, or their first fault.
-    ensures bytes { GivesValue told_fault (λ x. x) (S.left source.old) (S.left source.new) at result (slice_at size alpha) }
+    // Where the source tells its bytes and has the whole slice, the answer is what they stand for, or their first fault.
+    ensures bytes { Told (S.left source.old) (λ bytes. size ≤ length bytes) → GivesValue told_fault (λ x. x) (S.left source.old) (S.left source.new) at result (slice_at size alpha) }
     // What is answered has none of the faults.
     ensures slice { IfOk result (IsSliceHeader size alpha) }
     ensures becomes { GoesOn S.becomes source.old source.new }

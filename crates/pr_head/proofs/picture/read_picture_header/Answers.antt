@@ -7,7 +7,7 @@ use Rattle.pr_head.proofs.Whole.{picture-same}
 use Rattle.pr_head.proofs.picture.read_picture_header.Goals as goal
 
 pub returns-clause-bytes : goal.returns-clause-bytes
-returns-clause-bytes g c = record {
+returns-clause-bytes g c = λ enough. record {
   told = c.picture_from.ensures.bytes.told;
-  answer = λ h. (c.picture_from.new.place, agrees-same told_fault _ _ _ (ap (λ at. picture_in c.args.frame c.args.header.now (rest_of at (g.S.ByteSource.left c.args.source.now))) c.from-place.ensures ∙ picture-same c.args.frame c.args.header.now (rest_of c.args.at (g.S.ByteSource.left c.args.source.now)) (c.requires.bytes h)) (c.picture_from.ensures.bytes.answer h));
+  answer = λ h. (c.picture_from.new.place, agrees-same told_fault _ _ _ (ap (λ at. picture_in c.args.frame c.args.header.now (rest_of at (g.S.ByteSource.left c.args.source.now))) c.from-place.ensures ∙ picture-same c.args.frame c.args.header.now (rest_of c.args.at (g.S.ByteSource.left c.args.source.now)) (enough h)) (c.picture_from.ensures.bytes.answer h));
 }

@@ -1,0 +1,21 @@
+use Rattle.std.proofs.Common.{Ok, ap, ◌∙◌}
+use Rattle.pw_outside.specs.Reading.{Rest}
+use Rattle.pw_bits.specs.Window.{Moves-same}
+use Rattle.pr_frame.proofs.Steps.{rest-ahead, window-told, blocks-stand, blocks-window-fault}
+use Rattle.pr_frame.proofs.parts.read_window.Goals as goal
+
+pub returns-in_ok-skip-in-Ok-clause-value : goal.returns-in_ok-skip-in-Ok-clause-value
+returns-in_ok-skip-in-Ok-clause-value g c = λ h.
+    let w = c.args.window.now in
+    let left = g.S.ByteSource.left w.source.now in
+    let r = c.in-Ok.ensures in
+    let blocks = c.read_component.new.blocks in
+    let m = c.read_component.ensures.becomes w (Moves-same g.S.ByteSource.becomes (g.S.ByteSource.most w.source.now) left w.source.now w.source.ghost_name w.left) in
+    blocks-stand c.args.scan _ w.left c.args.at left blocks h c.read_component.auto.blocks c.requires.count.1 (r.stands (window-told w.left left h))
+    ∙ ap (λ (s : Rest). Ok (blocks, s)) (rest-ahead c.args.at w.left left (g.S.ByteSource.left c.skip.new.self.source.now) (c.in_ok-skip-in-Ok.ensures.source (m.told h) ∙ m.behind h))
+
+pub returns-in-Err-clause-fault : goal.returns-in-Err-clause-fault
+returns-in-Err-clause-fault g c = λ h.
+    let w = c.args.window.now in
+    let left = g.S.ByteSource.left w.source.now in
+    blocks-window-fault c.args.scan _ w.left c.args.at left _ c.in-Err.fault c.fault_of.result h c.read_component.auto.blocks (c.in-Err.ensures.fault (window-told w.left left h)) c.fault_of.ensures.bad

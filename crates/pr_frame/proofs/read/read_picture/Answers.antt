@@ -1,0 +1,110 @@
+use Rattle.std.proofs.Common.{◌≡◌, ◌+◌, ◌*◌, ◌-◌, ◌≤◌, sym, ap, subst, arith, Ok, length, sum, drop, refl, ◌∙◌}
+use Rattle.std.specs.Prelude.{IsSome}
+use Rattle.std.proofs.lemmas.Result.{err_from_is_err_and}
+use Rattle.pw_outside.specs.Reading.{Rest, rest_of, bytes_of, Fails}
+use Rattle.pr_geom.specs.Layout.{slices_of}
+use Rattle.pr_head.specs.Faults.{told_fault}
+use Rattle.pr_head.specs.Picture.{table_at, slices_in}
+use Rattle.pr_frame.specs.Forms.{places_in}
+use Rattle.pr_frame.specs.Reading.{ahead, coded_slices_at, coded_picture_at}
+use Rattle.pr_frame.proofs.Rests.{picture-rest, table-rest}
+use Rattle.pr_head.proofs.Passing.{ahead-ahead}
+use Rattle.pr_frame.proofs.PictureSteps.{slices-rest, layout-places, layout-count, picture-fails, table-fails, slices-fails, picture-value, behind-table, picture-end, enough-table, enough-slices}
+use Rattle.pr_frame.proofs.read.read_picture.Goals as goal
+
+pub returns-in_err-picture-clause-bytes : goal.returns-in_err-picture-clause-bytes
+returns-in_err-picture-clause-bytes g c = λ enough.
+    let p = err_from_is_err_and c.from_residual.result c.from_residual.ensures.1 in
+    rw (p.1, p.2) (record {
+      told = λ h. tt;
+      answer = λ h. picture-fails c.args.frame c.args.header.now (rest_of c.args.place.now (g.S.ByteSource.left c.args.source.now)) c.in_err-picture.field-0.0 ((c.in_err-picture.ensures.bytes enough).answer h);
+    })
+
+pub returns-in_err-sizes-clause-bytes : goal.returns-in_err-sizes-clause-bytes
+returns-in_err-sizes-clause-bytes g c = λ enough.
+    let p = err_from_is_err_and c.from_residual-in_err-sizes.result c.from_residual-in_err-sizes.ensures.1 in
+    let F = c.args.frame in
+    let hd = c.args.header.now in
+    let r = c.in_ok-picture.picture in
+    let s = rest_of c.args.place.now (g.S.ByteSource.left c.args.source.now) in
+    let t1 = rest_of c.picture_header.new.place (g.S.ByteSource.left c.picture_header.new.source) in
+    let first = c.in_ok-picture.ensures.bytes enough in
+    let count : c.slices.result ≡ slices_in hd r = c.slices.ensures.value ∙ layout-count c.in_ok-picture.layout hd r c.in_ok-picture.ensures.layout in
+    let fault = c.in_err-sizes.field-0.0 in
+    rw (p.1, p.2) (record {
+      told = λ h. tt;
+      answer = λ h.
+        let head = first.answer h in
+        let e1 = enough-table F s t1 r (enough h) c.in_ok-picture.ensures.within (picture-rest F hd s r t1 head).1 in
+        table-fails F hd s r t1 head fault (subst (λ n. Fails told_fault fault (table_at r n t1)) count ((c.in_err-sizes.ensures.bytes (λ k. e1)).answer (first.told h)));
+    })
+
+pub returns-in_err-slices-clause-bytes : goal.returns-in_err-slices-clause-bytes
+returns-in_err-slices-clause-bytes g c = λ enough.
+    let p = err_from_is_err_and c.from_residual-in_err-slices.result c.from_residual-in_err-slices.ensures.1 in
+    let F = c.args.frame in
+    let hd = c.args.header.now in
+    let r = c.in_ok-picture.picture in
+    let sizes = c.in_ok-sizes.sizes.items in
+    let s = rest_of c.args.place.now (g.S.ByteSource.left c.args.source.now) in
+    let t1 = rest_of c.picture_header.new.place (g.S.ByteSource.left c.picture_header.new.source) in
+    let t2 = rest_of c.slice_sizes.new.place (g.S.ByteSource.left c.slice_sizes.new.source) in
+    let first = c.in_ok-picture.ensures.bytes enough in
+    let l = c.in_ok-picture.layout in
+    let is = c.in_ok-picture.ensures.layout in
+    let count : c.slices.result ≡ slices_in hd r = c.slices.ensures.value ∙ layout-count l hd r is in
+    let fault = c.in_err-slices.field-0.0 in
+    let same : c.deref.result.now ≡ sizes = c.deref.ensures.value in
+    rw (p.1, p.2) (record {
+      told = λ h. tt;
+      answer = λ h.
+        let head = first.answer h in
+        let e1 = enough-table F s t1 r (enough h) c.in_ok-picture.ensures.within (picture-rest F hd s r t1 head).1 in
+        let second = c.in_ok-sizes.ensures.bytes (λ k. e1) in
+        let table0 = second.answer (first.told h) in
+        let table = subst (λ n. table_at r n t1 ≡ Ok (sizes, t2)) count table0 in
+        let e2 : sum sizes ≤ length t2.bytes = enough-slices r t1 t2 sizes c.slices.result e1 (table-rest r c.slices.result t1 sizes t2 table0).1 c.in_ok-sizes.ensures.count c.in_ok-sizes.ensures.within in
+        let third = c.in_err-slices.ensures.bytes (λ k. subst (λ zs. sum zs ≤ length t2.bytes) (sym same) e2) in
+        let failed = third.answer (second.told (first.told h)) in
+        slices-fails F hd s r t1 head sizes t2 table fault
+          (subst (λ zs. Fails told_fault fault (coded_slices_at hd (places_in hd r.log2) zs t2)) same (subst (λ ps. Fails told_fault fault (coded_slices_at hd ps c.deref.result.now t2)) (layout-places l hd r.log2 is) failed));
+    })
+
+pub returns-clause-bytes : goal.returns-clause-bytes
+returns-clause-bytes g c = λ enough.
+    let F = c.args.frame in
+    let hd = c.args.header.now in
+    let r = c.in_ok-picture.picture in
+    let sizes = c.in_ok-sizes.sizes.items in
+    let xs = c.in_ok-slices.slices in
+    let s = rest_of c.args.place.now (g.S.ByteSource.left c.args.source.now) in
+    let t1 = rest_of c.picture_header.new.place (g.S.ByteSource.left c.picture_header.new.source) in
+    let t2 = rest_of c.slice_sizes.new.place (g.S.ByteSource.left c.slice_sizes.new.source) in
+    let t3 = rest_of c.read_slices.new.place (g.S.ByteSource.left c.read_slices.new.source) in
+    let new = g.S.ByteSource.left c.pass_to.new.source in
+    let first = c.in_ok-picture.ensures.bytes enough in
+    let l = c.in_ok-picture.layout in
+    let is = c.in_ok-picture.ensures.layout in
+    let count : c.slices.result ≡ slices_in hd r = c.slices.ensures.value ∙ layout-count l hd r is in
+    let same : c.deref.result.now ≡ sizes = c.deref.ensures.value in
+    let e1 : (h : IsSome (g.S.ByteSource.left c.args.source.now)) → r.size ≤ r.header + length t1.bytes = λ h. enough-table F s t1 r (enough h) c.in_ok-picture.ensures.within (picture-rest F hd s r t1 (first.answer h)).1 in
+    let table0 : (h : IsSome (g.S.ByteSource.left c.args.source.now)) → table_at r c.slices.result t1 ≡ Ok (sizes, t2) = λ h. (c.in_ok-sizes.ensures.bytes (λ k. e1 h)).answer (first.told h) in
+    let told2 : (h : IsSome (g.S.ByteSource.left c.args.source.now)) → IsSome (g.S.ByteSource.left c.slice_sizes.new.source) = λ h. (c.in_ok-sizes.ensures.bytes (λ k. e1 h)).told (first.told h) in
+    let e2 : (h : IsSome (g.S.ByteSource.left c.args.source.now)) → sum sizes ≤ length t2.bytes = λ h. enough-slices r t1 t2 sizes c.slices.result (e1 h) (table-rest r c.slices.result t1 sizes t2 (table0 h)).1 c.in_ok-sizes.ensures.count c.in_ok-sizes.ensures.within in
+    let e3 : (h : IsSome (g.S.ByteSource.left c.args.source.now)) → sum c.deref.result.now ≤ length t2.bytes = λ h. subst (λ zs. sum zs ≤ length t2.bytes) (sym same) (e2 h) in
+    record {
+      told = λ h. c.in_ok-pass_to.ensures.told ((c.in_ok-slices.ensures.bytes (λ k. e3 h)).told (told2 h));
+      answer = λ h.
+        let head = first.answer h in
+        let third = c.in_ok-slices.ensures.bytes (λ k. e3 h) in
+        let table = subst (λ n. table_at r n t1 ≡ Ok (sizes, t2)) count (table0 h) in
+        let read : coded_slices_at hd (places_in hd r.log2) sizes t2 ≡ Ok (xs, t3) =
+          subst (λ zs. coded_slices_at hd (places_in hd r.log2) zs t2 ≡ Ok (xs, t3)) same (subst (λ ps. coded_slices_at hd ps c.deref.result.now t2 ≡ Ok (xs, t3)) (layout-places l hd r.log2 is) (third.answer (told2 h))) in
+        let size : length sizes ≡ length (places_in hd r.log2) = c.in_ok-sizes.ensures.count ∙ c.slices.ensures.value ∙ ap length (layout-places l hd r.log2 is) in
+        let rest = slices-rest hd (places_in hd r.log2) sizes t2 xs t3 c.requires.alpha size read
+          ∙ ap (ahead (sum sizes)) (behind-table F hd s r t1 head sizes t2 table) ∙ ahead-ahead (sum sizes) (r.header + 2 * slices_in hd r) s in
+        let end = picture-end s t3 (r.header + 2 * slices_in hd r + sum sizes) r.size c.read_slices.new.place (g.S.ByteSource.left c.read_slices.new.source) new rest refl
+          (omega (arith, c.in_ok-sizes.ensures.within, c.in_ok-sizes.ensures.count, count)) (subst (λ z. bytes_of new ≡ drop (c.args.place.now + z - c.read_slices.new.place) (bytes_of (g.S.ByteSource.left c.read_slices.new.source))) c.from.ensures (c.in_ok-pass_to.ensures.bytes (third.told (told2 h)))) in
+        let place : c.pass_to.new.place ≡ c.args.place.now + r.size = c.in_ok-pass_to.ensures.place ∙ ap (λ n. c.args.place.now + n) c.from.ensures in
+        picture-value F hd s r t1 head sizes t2 table xs t3 read ∙ ap (λ (t : Rest). Ok (record { log2 = r.log2; slices = xs }, t)) (sym end ∙ ap (λ n. rest_of n new) (sym place));
+    }

@@ -1,0 +1,121 @@
+//! The parts of a slice, read.
+
+ghost use Rattle.std.specs.Prelude.{◌≡◌, ◌+◌, ◌<◌, ◌≤◌, ◌^◌, length, IfOk, IfErr, OnOk, IsSome, Ok, drop, is_err};
+ghost use Rattle.pw_outside.specs.Ports.{CountsFault, GoesOn};
+ghost use Rattle.pw_outside.specs.Reading.{Gives, Fails, bytes_of, rest_of};
+ghost use Rattle.pr_geom.specs.Layout.{IsSlice};
+ghost use Rattle.pr_geom.specs.Blocks.{blocks_of};
+ghost use Rattle.pr_coeff.specs.Component.{places};
+ghost use Rattle.pr_head.specs.Faults.{told_fault, is_failed};
+ghost use Rattle.pr_frame.specs.Forms.{scan_of};
+ghost use Rattle.pr_frame.specs.Reading.{blocks_at, IsFaultOf};
+
+use crate::coded::Blocks;
+use pr_coeff::{Block, CoeffFault, Scan, read_component};
+use pr_geom::{Layout, Part, SlicePlace};
+use pr_head::{FrameFault, FrameHeader, FrameKind};
+use pw_bits::Window;
+use pw_outside::{ByteSource, Failed};
+use pw_planes::Interlace;
+use std::alloc::Global;
+
+/// The order of the values of a block.
+pub(crate) fn scan_of(interlace: Interlace) -> Scan
+    ensures { places result ≡ scan_of interlace }
+{
+    match interlace {
+        Interlace::Progressive => Scan::Progressive,
+        Interlace::TopFirst | Interlace::BottomFirst => Scan::Interlaced,
+    }
+}
+
+/// Why a component at this place was not read.
+fn fault_of(fault: CoeffFault, place: u64) -> FrameFault
+    ensures bad { IsFaultOf fault place result }
+{
+    let kind = match fault {
+        CoeffFault::Codeword => FrameKind::Codeword,
+        CoeffFault::RunPast => FrameKind::RunPast,
+        CoeffFault::LevelRange => FrameKind::LevelRange,
+        CoeffFault::Failed => return FrameFault::Failed,
+    };
+    FrameFault::Bad { kind, place }
+}
+
+/// Passes over the next bytes, so many or fewer where the source ends.
+pub(crate) fn pass<S: ByteSource>(source: &mut S, count: u64) -> Result<(), Failed>
+    ensures told { IsSome (S.left source.old) → IsSome (S.left source.new) }
+    ensures bytes { OnOk result (IsSome (S.left source.old) → bytes_of (S.left source.new) ≡ drop count (bytes_of (S.left source.old))) }
+    ensures becomes { GoesOn S.becomes source.old source.new }
+    ensures cause { CountsFault (S.faults source.old) (S.faults source.new) (is_err result) }
+{
+    let mut window = Window::new(source, count);
+    window.skip()
+}
+
+/// Reads the component that the window has, from the place `at` on, and passes over what is left of it.
+fn read_window<S: ByteSource>(
+    window: &mut Window<'_, S>,
+    at: u64,
+    scan: Scan,
+    blocks: &mut [Block],
+) -> Result<(), FrameFault>
+    requires count { (0 < length blocks.old) × (length blocks.old ≤ 32) }
+    ensures value { IsSome (S.left window.old.source.now) → OnOk result (blocks_at (places scan) (length blocks.old) window.old.left (rest_of at (S.left window.old.source.now)) ≡ Ok (blocks.new, rest_of (at + window.old.left) (S.left window.new.source.now))) }
+    ensures fault { IsSome (S.left window.old.source.now) → IfErr result (λ e. Fails told_fault e (blocks_at (places scan) (length blocks.old) window.old.left (rest_of at (S.left window.old.source.now)))) }
+    ensures told { IsSome (S.left window.old.source.now) → IsSome (S.left window.new.source.now) }
+    // The port behind it is the same.
+    ensures same_source { window.new.source.ghost_name ≡ window.old.source.ghost_name }
+    ensures becomes { GoesOn S.becomes window.old.source.now window.new.source.now }
+    ensures cause { CountsFault (S.faults window.old.source.now) (S.faults window.new.source.now) (is_failed result) }
+{
+    match read_component(window, scan, blocks) {
+        Ok(()) => Ok(window.skip()?),
+        Err(fault) => Err(fault_of(fault, at)),
+    }
+}
+
+/// Reads the component that has the next `size` bytes, from the place `at` on.
+fn component<S: ByteSource>(
+    source: &mut S,
+    at: u64,
+    size: u16,
+    scan: Scan,
+    blocks: &mut [Block],
+) -> Result<(), FrameFault>
+    requires count { (0 < length blocks.old) × (length blocks.old ≤ 32) }
+    ensures told { IsSome (S.left source.old) → OnOk result (IsSome (S.left source.new)) }
+    ensures value { IsSome (S.left source.old) → OnOk result (blocks_at (places scan) (length blocks.old) size (rest_of at (S.left source.old)) ≡ Ok (blocks.new, rest_of (at + size) (S.left source.new))) }
+    ensures fault { IsSome (S.left source.old) → IfErr result (λ e. Fails told_fault e (blocks_at (places scan) (length blocks.old) size (rest_of at (S.left source.old)))) }
+    ensures becomes { GoesOn S.becomes source.old source.new }
+    ensures cause { CountsFault (S.faults source.old) (S.faults source.new) (is_failed result) }
+{
+    let mut window = Window::new(source, u64::from(size));
+    read_window(&mut window, at, scan, blocks)
+}
+
+/// Reads the blocks of a part of a slice in the next `size` bytes. The slice lies at this place of the layout, which is that
+/// of a frame with this header.
+pub(crate) fn read_part<S: ByteSource>(
+    alloc: Global,
+    source: &mut S,
+    place: &mut u64,
+    size: u16,
+    layout: &Layout,
+    slice: &SlicePlace,
+    part: Part,
+) -> Result<Blocks, FrameFault>
+    requires slice { IsSlice layout.now slice.now }
+    requires room { place.old + size < 2 ^ 64 }
+    ensures bytes { Gives told_fault (λ b. b) (S.left source.old) (S.left source.new) place.old place.new result (blocks_at (scan_of layout.now.interlace) (length (blocks_of layout.now.chroma part slice.now)) size) }
+    ensures count { IfOk result (λ b. length b ≡ length (blocks_of layout.now.chroma part slice.now)) }
+    ensures place { OnOk result (place.new ≡ place.old + size) }
+    ensures becomes { GoesOn S.becomes source.old source.new }
+    ensures cause { CountsFault (S.faults source.old) (S.faults source.new) (is_failed result) }
+{
+    let count = layout.blocks(slice, part);
+    let mut blocks = Vec::from_elem(alloc, [0; 64], usize::from(count))?;
+    component(source, *place, size, scan_of(layout.interlace), &mut blocks)?;
+    *place += u64::from(size);
+    Ok(Blocks::from_vec(blocks))
+}

@@ -1,0 +1,221 @@
+//! Frames, read.
+
+ghost use Rattle.std.specs.Prelude.{◌≡◌, ◌+◌, ◌*◌, ◌<◌, ◌≤◌, ◌^◌, ◌==◌, List, ℕ, length, sum, take, drop, IfOk, IfErr, OnOk, IfSome, IsSome, None, Some, ◌-◌};
+ghost use Rattle.std.specs.List.{All};
+ghost use Rattle.std.specs.Bool.{OnTrue};
+ghost use Rattle.pw_outside.specs.Ports.{CountsFault, GoesOn};
+ghost use Rattle.pw_outside.specs.Reading.{Gives, Told, bytes_of};
+ghost use Rattle.pw_planes.specs.declared.kinds.AlphaKind.TheVariants.{Absent};
+ghost use Rattle.pr_geom.specs.Slices.{pictures_of};
+ghost use Rattle.pr_geom.specs.Layout.{IsLayoutOf};
+ghost use Rattle.pr_head.specs.Faults.{told_fault, is_failed};
+ghost use Rattle.pr_head.specs.Header.{HasLayoutSize, IsHeader, header_at};
+ghost use Rattle.pr_head.specs.Picture.{IsPicture, picture_at, table_at, picture_size};
+ghost use Rattle.pr_frame.specs.Forms.{IsBuilt, is_built};
+ghost use Rattle.pr_frame.specs.Coded.{IsCodedPicture, IsCodedFrame};
+ghost use Rattle.pr_frame.specs.Reading.{coded_picture_at, coded_pictures_at, frame_at, frame_fault};
+ghost use Rattle.pr_frame.specs.Laws.{StandsBuilt};
+
+use crate::coded::{CodedFrame, CodedPicture, CodedPictures};
+use crate::parts::pass;
+use crate::slices::read_slices;
+use pr_geom::Layout;
+use pr_head::{
+    FrameFault, FrameHeader, FrameKind, PictureHeader, read_frame_header, read_picture_header,
+    read_slice_sizes,
+};
+use pw_outside::ByteSource;
+use pw_planes::{AlphaKind, Chroma, Interlace};
+use std::alloc::Global;
+
+/// Reads the header of the picture that begins here, in a frame of `frame` bytes.
+fn picture_header<S: ByteSource>(
+    source: &mut S,
+    place: &mut u64,
+    frame: u32,
+    header: &FrameHeader,
+) -> Result<(PictureHeader, Layout), FrameFault>
+    requires room { place.old ≤ frame }
+    requires header { HasLayoutSize header.now }
+    ensures bytes { Told (S.left source.old) (λ bytes. frame ≤ place.old + length bytes) → Gives told_fault (λ t. t.0) (S.left source.old) (S.left source.new) place.old place.new result (picture_at frame header.now) }
+    ensures layout { IfOk result (λ t. IsLayoutOf t.1 header.now.width header.now.height t.0.log2 header.now.interlace header.now.chroma) }
+    ensures picture { IfOk result (λ t. IsPicture t.0) }
+    ensures within { IfOk result (λ t. place.old + t.0.size ≤ frame) }
+    ensures place { IfOk result (λ t. place.new ≡ place.old + t.0.header) }
+    ensures becomes { GoesOn S.becomes source.old source.new }
+    ensures cause { CountsFault (S.faults source.old) (S.faults source.new) (is_failed result) }
+{
+    let (picture, layout) = read_picture_header(source, *place as u32, frame, header)?;
+    *place += u64::from(picture.header);
+    Ok((picture, layout))
+}
+
+/// Reads the sizes of so many slices, behind the picture's header.
+fn slice_sizes<S: ByteSource>(
+    alloc: Global,
+    source: &mut S,
+    place: &mut u64,
+    picture: &PictureHeader,
+    slices: u32,
+) -> Result<Vec<u16>, FrameFault>
+    requires header { picture.now.header ≤ place.old }
+    requires room { place.old < 2 ^ 33 }
+    requires at { place.old < 2 ^ 32 + picture.now.header }
+    ensures bytes { Told (S.left source.old) (λ bytes. picture.now.size ≤ picture.now.header + length bytes) → Gives told_fault (λ v. v.items) (S.left source.old) (S.left source.new) place.old place.new result (table_at picture.now slices) }
+    ensures count { IfOk result (λ v. length v.items ≡ slices) }
+    ensures within { IfOk result (λ v. picture_size picture.now v.items ≤ picture.now.size) }
+    ensures place { OnOk result (place.new ≡ place.old + 2 * slices) }
+    ensures becomes { GoesOn S.becomes source.old source.new }
+    ensures cause { CountsFault (S.faults source.old) (S.faults source.new) (is_failed result) }
+{
+    let at = (*place - u64::from(picture.header)) as u32;
+    let sizes = read_slice_sizes(alloc, source, at, picture, slices)?;
+    *place += 2 * u64::from(slices);
+    Ok(sizes)
+}
+
+/// Passes over the bytes up to this place.
+fn pass_to<S: ByteSource>(source: &mut S, place: &mut u64, end: u64) -> Result<(), FrameFault>
+    requires { place.old ≤ end }
+    ensures told { IsSome (S.left source.old) → IsSome (S.left source.new) }
+    ensures bytes { OnOk result (IsSome (S.left source.old) → bytes_of (S.left source.new) ≡ drop (end - place.old) (bytes_of (S.left source.old))) }
+    ensures failed { IfErr result (λ e. told_fault e ≡ None) }
+    ensures place { OnOk result (place.new ≡ end) }
+    ensures becomes { GoesOn S.becomes source.old source.new }
+    ensures cause { CountsFault (S.faults source.old) (S.faults source.new) (is_failed result) }
+{
+    pass(source, end - *place)?;
+    *place = end;
+    Ok(())
+}
+
+/// Reads the picture that begins here, in a frame of `frame` bytes with this header, and passes over what is left of it.
+fn read_picture<S: ByteSource>(
+    alloc: Global,
+    source: &mut S,
+    place: &mut u64,
+    frame: u32,
+    header: &FrameHeader,
+) -> Result<CodedPicture, FrameFault>
+    requires alpha { header.now.alpha ≡ Absent }
+    requires header { HasLayoutSize header.now }
+    requires room { place.old ≤ frame }
+    ensures bytes { Told (S.left source.old) (λ bytes. frame ≤ place.old + length bytes) → Gives told_fault (λ x. x) (S.left source.old) (S.left source.new) place.old place.new result (coded_picture_at frame header.now) }
+    ensures picture { IfOk result (IsCodedPicture header.now) }
+    ensures place { OnOk result (place.new ≤ frame) }
+    ensures becomes { GoesOn S.becomes source.old source.new }
+    ensures cause { CountsFault (S.faults source.old) (S.faults source.new) (is_failed result) }
+{
+    let at = *place;
+    let (picture, layout) = picture_header(source, place, frame, header)?;
+    let sizes = slice_sizes(alloc, source, place, &picture, layout.slices())?;
+    let slices = read_slices(alloc, source, place, &sizes, header, &layout)?;
+    pass_to(source, place, at + u64::from(picture.size))?;
+    Ok(CodedPicture {
+        log2: picture.log2,
+        slices,
+    })
+}
+
+/// Reads so many pictures, one behind the other, in a frame of `frame` bytes with this header.
+fn read_pictures<S: ByteSource>(
+    alloc: Global,
+    source: &mut S,
+    place: &mut u64,
+    count: u8,
+    frame: u32,
+    header: &FrameHeader,
+) -> Result<CodedPictures, FrameFault>
+    requires alpha { header.now.alpha ≡ Absent }
+    requires header { HasLayoutSize header.now }
+    requires room { place.old ≤ frame }
+    ensures bytes { Told (S.left source.old) (λ bytes. frame ≤ place.old + length bytes) → Gives told_fault (λ x. x) (S.left source.old) (S.left source.new) place.old place.new result (coded_pictures_at count frame header.now) }
+    ensures pictures { IfOk result (All (IsCodedPicture header.now)) }
+    ensures count { IfOk result (λ x. length x ≡ count) }
+    ensures becomes { GoesOn S.becomes source.old source.new }
+    ensures cause { CountsFault (S.faults source.old) (S.faults source.new) (is_failed result) }
+{
+    let mut pictures = Vec::new(alloc);
+    for _ in 0..count {
+        let picture = read_picture(alloc, source, place, frame, header)?;
+        pictures.push(picture)?;
+    }
+    Ok(CodedPictures::from_vec(pictures))
+}
+
+/// How many pictures a frame has.
+fn pictures_in(interlace: Interlace) -> u8
+    ensures { result ≡ pictures_of interlace }
+{
+    match interlace {
+        Interlace::Progressive => 1,
+        Interlace::TopFirst | Interlace::BottomFirst => 2,
+    }
+}
+
+/// Whether frames of this form are read.
+fn is_built(header: &FrameHeader) -> bool
+    ensures value { result ≡ is_built header.now }
+    ensures built { OnTrue result (IsBuilt header.now) }
+{
+    match (header.chroma, header.interlace, header.alpha) {
+        (Chroma::C422, Interlace::Progressive, AlphaKind::Absent) => true,
+        _ => false,
+    }
+}
+
+/// Reads the frame at the front of a sample of `size` bytes.
+fn frame_from<S: ByteSource>(
+    alloc: Global,
+    source: &mut S,
+    place: &mut u64,
+    size: u32,
+) -> Result<CodedFrame, FrameFault>
+    requires place { place.old ≡ 0 }
+    requires bytes { Told (S.left source.old) (λ bytes. size ≤ length bytes) }
+    ensures bytes { Gives told_fault (λ x. x) (S.left source.old) (S.left source.new) place.old place.new result (frame_at size) }
+    ensures coded { IfOk result IsCodedFrame }
+    ensures built { IfOk result (λ f. IsBuilt f.header) }
+    ensures becomes { GoesOn S.becomes source.old source.new }
+    ensures cause { CountsFault (S.faults source.old) (S.faults source.new) (is_failed result) }
+{
+    let (header, taken, frame) = read_frame_header(source, size)?;
+    *place = u64::from(taken);
+    if !is_built(&header) {
+        return Err(FrameFault::Bad {
+            kind: FrameKind::NotBuilt,
+            place: 20,
+        });
+    }
+    let count = pictures_in(header.interlace);
+    let pictures = read_pictures(alloc, source, place, count, frame, &header)?;
+    Ok(CodedFrame { header, pictures })
+}
+
+/// Reads the coded frame for which a sample of `size` bytes stands. The source holds the sample.
+///
+/// The errors are `Bad` with the first fault of the sample and its place, counted from the sample's first byte; `Failed`
+/// where a call of the source failed; and `NoMemory`. Frames that are interlaced, 4:4:4 or with alpha are `Bad` with
+/// `NotBuilt`, place 20. Of a source that doesn't tell its bytes, what is answered has the counts of its header's layout.
+pub fn read_frame<S: ByteSource>(
+    alloc: Global,
+    source: &mut S,
+    size: u32,
+) -> Result<CodedFrame, FrameFault>
+    // Where the source tells its bytes, they are the sample.
+    requires { Told (S.left source.old) (λ bytes. length bytes ≡ size) }
+    // Where the source tells its bytes, the sample stands for the frame that is answered.
+    ensures stands { IfOk result (λ f. Told (S.left source.old) (λ sample. StandsBuilt sample f)) }
+    // Where it tells them, a fault that is answered is the sample's first.
+    ensures fault { IfErr result (λ e. Told (S.left source.old) (λ sample. IfSome (told_fault e) (λ fault. frame_fault sample ≡ Some fault))) }
+    // What is answered is a coded frame, of a form that is built.
+    ensures coded { IfOk result IsCodedFrame }
+    ensures built { IfOk result (λ f. IsBuilt f.header) }
+    ensures told { IsSome (S.left source.old) → OnOk result (IsSome (S.left source.new)) }
+    ensures becomes { GoesOn S.becomes source.old source.new }
+    // The error is `Failed` only where a call of the source failed, and each such call is answered by it.
+    ensures cause { CountsFault (S.faults source.old) (S.faults source.new) (is_failed result) }
+{
+    let mut place = 0;
+    frame_from(alloc, source, &mut place, size)
+}
