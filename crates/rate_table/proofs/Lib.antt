@@ -4,3 +4,5 @@ pub mod Lists
 pub mod Entries
 pub mod Enumerated
 pub mod Best
+pub mod Behind
+pub mod ReadAgain

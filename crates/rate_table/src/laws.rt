@@ -1,6 +1,7 @@
 //! Laws over the definitions alone.
 
 ghost use Rattle.rate_table.specs.Laws.{BestExists, BestIsOne, NoneFitsBelowLeast, AllChoicesAreChoices, AllChoicesCount, IndicesTellChoice};
+ghost use Rattle.rate_table.specs.Body.{BodyIsReadAgain};
 
 /// Where a choice fits there is a best one.
 pub fn best_exists()
@@ -30,4 +31,9 @@ pub fn all_choices_count()
 /// Of a table's choices one alone has these indices.
 pub fn indices_tell_choice()
     ensures { IndicesTellChoice }
+{}
+
+/// The body of a table that was written is read again, whatever stands behind it.
+pub fn body_is_read_again()
+    ensures { BodyIsReadAgain }
 {}

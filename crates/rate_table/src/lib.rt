@@ -14,8 +14,8 @@ mod tests;
 pub use entry::{Entry, Pair};
 pub use fault::{ProofKind, TableFault};
 pub use laws::{
-    all_choices_are_choices, all_choices_count, best_exists, best_is_one, indices_tell_choice,
-    none_fits_below_least,
+    all_choices_are_choices, all_choices_count, best_exists, best_is_one, body_is_read_again,
+    indices_tell_choice, none_fits_below_least,
 };
 pub use reading::{read_body, read_file, read_table};
 pub use sums::{least, total};
