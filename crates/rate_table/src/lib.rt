@@ -8,6 +8,7 @@ mod laws;
 mod reading;
 mod sums;
 mod table;
+mod writing;
 #[cfg(test)]
 mod tests;
 
