@@ -6,3 +6,4 @@ pub mod Enumerated
 pub mod Best
 pub mod Behind
 pub mod ReadAgain
+pub mod Parts

@@ -1,5 +1,5 @@
 -- A table's body that was written is read again.
-use Rattle.std.proofs.Common.{◌≡◌, ℕ, suc, ◌+◌, ◌-◌, ◌*◌, ◌^◌, ◌<◌, ◌≤◌, Bool, true, false, not, ◌==◌, nat_lt, nat_le, if◌then◌else◌, List, [], ◌∷◌, ◌++◌, length, take, drop, Result, Ok, Err, refl, sym, ap, ◌∙◌, arith, length-append, append_assoc, take_at}
+use Rattle.std.proofs.Common.{◌≡◌, ℕ, ◌+◌, ◌^◌, ◌<◌, Bool, false, nat_lt, List, [], ◌∷◌, ◌++◌, length, Result, Ok, refl, ap, ◌∙◌, arith, length-append, append_assoc, take_at}
 use Rattle.std.specs.Int.{Width, byte_len, w8, w16, w32, w64, to_be_bytes, from_be_bytes}
 use Rattle.std.specs.List.{flat_map, All}
 use Rattle.std.proofs.lemmas.List.{drop_at}
@@ -11,7 +11,7 @@ use Rattle.pw_outside.specs.Reading.{Fault, Rest, Read, bind, refuse, number_at}
 use Rattle.rate_table.specs.declared.entry.Entry.{Entry}
 use Rattle.rate_table.specs.declared.fault.ProofKind.{ProofKind}
 use Rattle.rate_table.specs.declared.fault.ProofKind.TheVariants.{TableShort}
-use Rattle.rate_table.specs.Table.{Table, IsEntry, IndicesRise, IsSlice, IsTable}
+use Rattle.rate_table.specs.Table.{IsEntry, IndicesRise, IsSlice}
 use Rattle.rate_table.specs.Reading.{entry_at, entries_at, slice_at, slices_at, body_at}
 use Rattle.rate_table.specs.Body.{entry_bytes, slice_bytes, body_bytes, BodyIsReadAgain}
 use Rattle.rate_table.proofs.Behind.{few-entries}

@@ -21,3 +21,4 @@ pub use laws::{
 pub use reading::{read_body, read_file, read_table};
 pub use sums::{least, total};
 pub use table::{FrameTable, SliceTable, Slices};
+pub use writing::write_body;
