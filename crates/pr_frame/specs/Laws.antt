@@ -1,0 +1,35 @@
+-- Laws of frames, over the definitions alone.
+use Rattle.std.specs.Prelude.{◌≡◌, ◌⊎◌, List, ℕ, length, Some, None}
+use Rattle.pw_outside.specs.Reading.{Fault}
+use Rattle.pr_head.specs.declared.fault.FrameKind.{FrameKind}
+use Rattle.pr_frame.specs.declared.coded.CodedFrame.{CodedFrame}
+use Rattle.pr_frame.specs.Forms.{IsBuilt}
+use Rattle.pr_frame.specs.Coded.{CanBeWritten, HasArrays, HasShape}
+use Rattle.pr_frame.specs.Written.{written, frame_length_of}
+use Rattle.pr_frame.specs.Stands.{FrameStands}
+use Rattle.pr_frame.specs.Reading.{frame_fault}
+
+-- a sample stands for a coded frame of a form that is built
+pub record StandsBuilt (sample : List ℕ) (f : CodedFrame) : Type 0 where
+  pub stands : FrameStands sample f
+  pub built : IsBuilt f.header
+
+-- a sample stands for one coded frame at most
+abbrev pub OneFrame : Type 0
+OneFrame = (sample : List ℕ) (f g : CodedFrame) → StandsBuilt sample f → StandsBuilt sample g → f ≡ g
+
+-- a sample stands for a coded frame, or has a fault
+abbrev pub FrameOrFault : Type 0
+FrameOrFault = (sample : List ℕ) → ((f : CodedFrame) × StandsBuilt sample f) ⊎ ((fault : Fault FrameKind) × (frame_fault sample ≡ Some fault))
+
+-- and never both
+abbrev pub FrameHasNoFault : Type 0
+FrameHasNoFault = (sample : List ℕ) (f : CodedFrame) → StandsBuilt sample f → frame_fault sample ≡ None
+
+-- what was written stands for what was written
+abbrev pub WrittenStands : Type 0
+WrittenStands = (f : CodedFrame) → HasShape f → CanBeWritten f → FrameStands (written f) f
+
+-- how many bytes are written
+abbrev pub WrittenHasLength : Type 0
+WrittenHasLength = (f : CodedFrame) → HasArrays f.header → length (written f) ≡ frame_length_of f

@@ -1,0 +1,6 @@
+pub mod Forms
+pub mod Written
+pub mod Coded
+pub mod Stands
+pub mod Reading
+pub mod Laws
