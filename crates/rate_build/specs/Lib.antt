@@ -1,1 +1,4 @@
 pub mod Measures
+pub mod Coefficients
+pub mod Coding
+pub mod Tables

@@ -5,7 +5,7 @@ use Rattle.std.specs.List.{All, range_with_len, sum_by}
 use Rattle.pr_dct.specs.Transform.{AreWithin}
 use Rattle.pr_quant.specs.Quantised.{scale_of, quantised, error_of, greatest_coefficient}
 use Rattle.pr_coeff.specs.Component.{component}
-use Rattle.rate_build.specs.declared.measure.Measure.{Measure}
+use Rattle.rate_build.specs.declared.costs.Measure.{Measure}
 
 -- the multiplier at each place of a block: the weight times the factor of the index
 unfoldable pub multipliers : List ℕ → ℕ → List ℕ

@@ -1,6 +1,8 @@
 //! The tables of pictures: what each slice of a picture costs at each quantisation index.
 #![tactic(auto)]
 
-mod measure;
+mod costs;
+mod slices;
 
-pub use measure::Measure;
+pub use costs::Measure;
+pub use slices::{CoefficientSlices, Coefficients, SliceCoefficients};
