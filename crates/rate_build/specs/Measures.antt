@@ -3,13 +3,18 @@
 use Rattle.std.specs.Prelude.{◌≡◌, ℕ, ◌+◌, ◌-◌, ◌*◌, ◌<◌, ◌≤◌, List, length, map, sum, get_or, ℤ, pos}
 use Rattle.std.specs.List.{All, range_with_len, sum_by}
 use Rattle.pr_dct.specs.Transform.{AreWithin}
-use Rattle.pr_quant.specs.Quantised.{scale_of, quantised, error_of, greatest_coefficient}
+use Rattle.pr_quant.specs.Quantised.{scale_of, quantised, error_of, greatest_coefficient, greatest_multiplier}
 use Rattle.pr_coeff.specs.Component.{component}
 use Rattle.rate_build.specs.declared.costs.Measure.{Measure}
 
 -- the multiplier at each place of a block: the weight times the factor of the index
 unfoldable pub multipliers : List ℕ → ℕ → List ℕ
 multipliers weights index = map (λ w. w * scale_of index) weights
+
+-- a multiplier of written frames
+pub record IsMultiplier (m : ℕ) : Type 0 where
+  pub least : 2 ≤ m
+  pub most : m ≤ greatest_multiplier
 
 -- a block quantised, each coefficient by the multiplier at its place
 unfoldable pub quantised_block : List ℕ → List ℤ → List ℤ

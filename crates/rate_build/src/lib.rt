@@ -4,5 +4,5 @@
 mod costs;
 mod slices;
 
-pub use costs::Measure;
+pub use costs::{Measure, measure_all};
 pub use slices::{CoefficientSlices, Coefficients, SliceCoefficients};

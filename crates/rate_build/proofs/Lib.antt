@@ -1,0 +1,2 @@
+pub mod Quantising
+pub mod Small
