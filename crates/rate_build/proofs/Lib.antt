@@ -1,2 +1,4 @@
 pub mod Quantising
 pub mod Small
+pub mod Sliced
+pub mod InTurn

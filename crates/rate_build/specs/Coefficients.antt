@@ -11,7 +11,9 @@ use Rattle.pw_planes.specs.declared.kinds.Parity.{Parity}
 use Rattle.pw_planes.specs.declared.kinds.Parity.TheVariants.{Top, Bottom}
 use Rattle.pw_planes.specs.declared.picture.Picture.{Picture}
 use Rattle.pw_planes.specs.Plane.{Raster, sample_at, block_at, field_of}
+use Rattle.pw_planes.specs.Picture.{HasSize}
 use Rattle.pw_planes.specs.Rows.{raster}
+use Rattle.pw_planes.specs.Samples.{bits_of}
 use Rattle.pr_geom.specs.declared.layout.Layout.{Layout}
 use Rattle.pr_geom.specs.declared.places.Part.{Part}
 use Rattle.pr_geom.specs.declared.places.Part.TheVariants.{Y, Cb, Cr}
@@ -108,3 +110,17 @@ pub record FrameCoefficients : Type 0 where
 -- the slices are those of the layout
 abbrev pub AreOfLayout : FrameCoefficients → Type 0
 AreOfLayout c = AllZip (IsSliceAt c.layout.chroma c.alpha) (frame_places c.layout) c.slices
+
+-- ---- what pictures are of
+
+-- the samples of a plane are of this depth
+abbrev pub HasDepth : Raster → Depth → Type 0
+HasDepth plane depth = All (λ sample. sample < 2 ^ bits_of depth) plane.samples
+
+-- a picture of the layout's size and chroma format, with samples of its depth
+pub record IsPictureOf (l : Layout) (p : Picture) : Type 0 where
+  pub size : HasSize p l.width l.height
+  pub chroma : p.chroma ≡ l.chroma
+  pub y : HasDepth p.y p.depth
+  pub cb : HasDepth p.cb p.depth
+  pub cr : HasDepth p.cr p.depth

@@ -3,6 +3,8 @@
 
 mod costs;
 mod slices;
+mod transform;
 
 pub use costs::{Measure, measure_all};
 pub use slices::{CoefficientSlices, Coefficients, SliceCoefficients};
+pub use transform::coefficients_of;
