@@ -2,3 +2,4 @@ pub mod Quantising
 pub mod Small
 pub mod Sliced
 pub mod InTurn
+pub mod Joined

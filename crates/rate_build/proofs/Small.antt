@@ -1,11 +1,11 @@
 -- How large quantised values, errors and components are.
-use Rattle.std.proofs.Common.{◌≡◌, ℕ, ◌+◌, ◌*◌, ◌-◌, ◌^◌, ◌<◌, ◌≤◌, inl, inr, List, [], ◌∷◌, length, map, get_or, ℤ, pos, nat_abs, zero, suc, add-one, refl, sym, ap, ◌∙◌, subst, arith, true, false, nat_le, if◌then◌else◌, lit≤}
+use Rattle.std.proofs.Common.{◌≡◌, ℕ, ◌+◌, ◌*◌, ◌-◌, ◌^◌, ◌<◌, ◌≤◌, inl, inr, List, [], ◌∷◌, length, map, take, get_or, ℤ, pos, nat_abs, zero, suc, add-one, refl, sym, ap, ◌∙◌, subst, arith, true, false, nat_le, if◌then◌else◌, lit≤}
 use Rattle.std.specs.List.{All, sum, sum_by, range_with_len}
 use Rattle.std.proofs.Math.Nat.{mul-le-mul_right}
 use Rattle.std.proofs.lemmas.Nat.{mul-le}
 use Rattle.std.proofs.lemmas.List.Sums.{sum_by-le}
 use Rattle.std.proofs.lemmas.Bool.{cases_lt, lt-leb, le-leb}
-use Rattle.std.proofs.lemmas.List.{get_or-map, get_or_past, length-map}
+use Rattle.std.proofs.lemmas.List.{get_or-map, get_or-take, get_or_past, length-map}
 use Rattle.std.proofs.lemmas.List.Elements.{All-head, All-tail}
 use Rattle.std.proofs.lemmas.List.FromFn.{get_or-map-range_with_len, length-map-range_with_len}
 use Rattle.pr_dct.specs.Transform.{AreWithin}
@@ -13,10 +13,16 @@ use Rattle.pr_quant.specs.Quantised.{scale_of, quantised, error_of, greatest_coe
 use Rattle.pr_quant.specs.Matrices.{IsWeight}
 use Rattle.pr_quant.proofs.NearestLemmas.{quantised_small, error_small}
 use Rattle.pr_coeff.specs.Component.{AreBlocks, AllSmall, IsScan, component}
+use Rattle.pr_coeff.proofs.WholeLemmas.{scan_of as is_scan}
+use Rattle.pr_coeff.specs.declared.scan.Scan.TheVariants as scans
+use Rattle.pr_frame.specs.Forms.{scan_of}
+use Rattle.pw_planes.specs.declared.kinds.Interlace.{Interlace}
+use Rattle.pw_planes.specs.declared.kinds.Interlace.TheVariants.{Progressive, TopFirst, BottomFirst}
+use Rattle.rate_build.specs.declared.costs.Measure.{Measure}
 use Rattle.pr_coeff.proofs.CostLemmas.{component_cost}
 use Rattle.pr_coeff.proofs.WovenLemmas.{AllSmall_from}
 use Rattle.rate_build.proofs.Quantising.{errors_below, errors_none, errors_more, errors_all}
-use Rattle.rate_build.specs.Measures.{multipliers, quantised_block, block_error, quantised_part, part_error, IsMultiplier, IsBlock, ArePart}
+use Rattle.rate_build.specs.Measures.{multipliers, quantised_block, block_error, quantised_part, part_error, measured, all_measured, no_measure, IsSmall, AreSmall, IsMultiplier, IsBlock, ArePart}
 
 -- ---- multipliers
 
@@ -108,3 +114,22 @@ module _ (weights : List ℕ) (index : ℕ) (whole : length weights ≡ 64) (ran
       let small = values_small (multipliers weights index) (are_multipliers weights index whole range from to) blocks are.each in
       let cost = component_cost 13 scan (map q blocks) is (omega arith) (omega (arith, n, are.few)) (λ i p. omega (arith, small i p)) in
       omega (arith, cost, n, are.few)
+
+-- ---- measures
+
+pub mode_scan : (mode : Interlace) → IsScan (scan_of mode)
+mode_scan Progressive = is_scan scans.Progressive
+mode_scan TopFirst = is_scan scans.Interlaced
+mode_scan BottomFirst = is_scan scans.Interlaced
+
+pub measures_small : (scan weights : List ℕ) (blocks : List (List ℤ)) (lo hi : ℕ) (measures : List Measure) → IsScan scan → length weights ≡ 64 → All IsWeight weights → ArePart blocks → 1 ≤ lo → hi ≤ 224
+    → take (hi + 1 - lo) measures ≡ all_measured scan weights blocks lo hi → AreSmall measures (hi + 1 - lo)
+measures_small scan weights blocks lo hi measures is whole range are from to e k h =
+    let n = hi + 1 - lo in
+    let at : get_or measures k no_measure ≡ measured scan weights blocks (lo + k) =
+        sym (get_or-take n measures k no_measure h) ∙ ap (λ ms. get_or ms k no_measure) e
+        ∙ get_or-map-range_with_len (measured scan weights blocks) lo n k (lo + k) no_measure h refl in
+    subst IsSmall (sym at) (record {
+      bytes = part_short weights (lo + k) whole range (omega arith) (omega arith) scan is blocks are;
+      error = part_error_small weights (lo + k) whole range (omega arith) (omega arith) blocks are;
+    })

@@ -1,6 +1,6 @@
 -- What a part of a slice costs at a quantisation index: the bytes of its component, and its squared error (the component is
 -- that of SMPTE RDD 36, scanned coefficients; the error, in coefficients, is our own).
-use Rattle.std.specs.Prelude.{◌≡◌, ℕ, ◌+◌, ◌-◌, ◌*◌, ◌<◌, ◌≤◌, List, length, map, sum, get_or, ℤ, pos}
+use Rattle.std.specs.Prelude.{◌≡◌, ℕ, ◌+◌, ◌-◌, ◌*◌, ◌^◌, ◌<◌, ◌≤◌, List, length, map, sum, get_or, ℤ, pos}
 use Rattle.std.specs.List.{All, range_with_len, sum_by}
 use Rattle.pr_dct.specs.Transform.{AreWithin}
 use Rattle.pr_quant.specs.Quantised.{scale_of, quantised, error_of, greatest_coefficient, greatest_multiplier}
@@ -53,3 +53,15 @@ pub record ArePart (blocks : List (List ℤ)) : Type 0 where
   pub some : 1 ≤ length blocks
   pub few : length blocks ≤ 32
   pub each : All IsBlock blocks
+
+-- a measure within the bounds that parts have
+pub record IsSmall (m : Measure) : Type 0 where
+  pub bytes : m.bytes ≤ 14080
+  pub error : m.error ≤ 2 ^ 39
+
+abbrev pub no_measure : Measure
+no_measure = record { bytes = 0; error = 0 }
+
+-- the measures of a part at the first n indices are within these bounds
+abbrev pub AreSmall : List Measure → ℕ → Type 0
+AreSmall measures n = (k : ℕ) → k < n → IsSmall (get_or measures k no_measure)

@@ -1,17 +1,19 @@
 -- The table of a frame: what each slice costs at each quantisation index (our own).
-use Rattle.std.specs.Prelude.{◌≡◌, ℕ, ◌+◌, ◌-◌, ◌*◌, List, length, map}
-use Rattle.std.specs.List.{range_with_len}
+use Rattle.std.specs.Prelude.{◌≡◌, ℕ, ◌+◌, ◌-◌, ◌*◌, List, length, map, get_or}
+use Rattle.std.specs.List.{All, range_with_len}
 use Rattle.pw_planes.specs.declared.kinds.AlphaKind.{AlphaKind}
 use Rattle.pw_planes.specs.declared.kinds.Interlace.{Interlace}
 use Rattle.pr_geom.specs.declared.layout.Layout.{Layout}
 use Rattle.pr_geom.specs.Layout.{slices_of}
 use Rattle.pr_geom.specs.Slices.{pictures_of}
 use Rattle.pr_quant.specs.declared.weights.Weights.{Weights}
+use Rattle.pr_quant.specs.Matrices.{IsWeight}
 use Rattle.pr_frame.specs.Written.{slice_length}
 use Rattle.rate_table.specs.declared.entry.Entry.{Entry}
 use Rattle.rate_table.specs.Table.{Table}
 use Rattle.rate_build.specs.declared.slices.SliceCoefficients.{SliceCoefficients}
-use Rattle.rate_build.specs.Measures.{part_error}
+use Rattle.rate_build.specs.declared.costs.Measure.{Measure}
+use Rattle.rate_build.specs.Measures.{part_error, ArePart, no_measure}
 use Rattle.rate_build.specs.Coefficients.{FrameCoefficients}
 use Rattle.rate_build.specs.Coding.{coded_slice}
 
@@ -31,6 +33,14 @@ entry_of mode alpha w s index = record { index = index; size = slice_size mode a
 unfoldable pub entries_of : Interlace → AlphaKind → Weights → ℕ → ℕ → SliceCoefficients → List Entry
 entries_of mode alpha w lo hi s = map (entry_of mode alpha w s) (range_with_len lo (hi + 1 - lo))
 
+-- the entry at an index, joined of what its three parts cost there
+abbrev pub joined_entry : List Measure → List Measure → List Measure → ℕ → ℕ → Entry
+joined_entry y cb cr lo k = record {
+  index = lo + k;
+  size = 6 + (get_or y k no_measure).bytes + (get_or cb k no_measure).bytes + (get_or cr k no_measure).bytes;
+  error = (get_or y k no_measure).error + (get_or cb k no_measure).error + (get_or cr k no_measure).error;
+}
+
 -- the bytes that a frame has whatever its indices are: the frame's header of 156 bytes, and for each picture a header of 8
 -- bytes and two bytes a slice
 abbrev pub fixed_bytes : Layout → ℕ
@@ -43,3 +53,14 @@ table_of c w lo hi budget = record {
   fixed = fixed_bytes c.layout;
   slices = map (entries_of c.layout.interlace c.alpha w lo hi) c.slices;
 }
+
+-- each part of a slice has blocks of coefficients
+pub record HasParts (s : SliceCoefficients) : Type 0 where
+  pub y : ArePart s.y
+  pub cb : ArePart s.cb
+  pub cr : ArePart s.cr
+
+-- weights of written frames
+pub record AreWeights (w : Weights) : Type 0 where
+  pub luma : All IsWeight w.luma
+  pub chroma : All IsWeight w.chroma

@@ -3,6 +3,7 @@
 
 mod costs;
 mod slices;
+mod tables;
 mod transform;
 
 pub use costs::{Measure, measure_all};
