@@ -3,3 +3,4 @@ pub mod Small
 pub mod Sliced
 pub mod InTurn
 pub mod Joined
+pub mod Whole

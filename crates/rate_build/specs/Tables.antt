@@ -1,5 +1,5 @@
 -- The table of a frame: what each slice costs at each quantisation index (our own).
-use Rattle.std.specs.Prelude.{◌≡◌, ℕ, ◌+◌, ◌-◌, ◌*◌, List, length, map, get_or}
+use Rattle.std.specs.Prelude.{◌≡◌, ℕ, ◌+◌, ◌-◌, ◌*◌, ◌<◌, List, length, map, get_or}
 use Rattle.std.specs.List.{All, range_with_len}
 use Rattle.pw_planes.specs.declared.kinds.AlphaKind.{AlphaKind}
 use Rattle.pw_planes.specs.declared.kinds.Interlace.{Interlace}
@@ -64,3 +64,7 @@ pub record HasParts (s : SliceCoefficients) : Type 0 where
 pub record AreWeights (w : Weights) : Type 0 where
   pub luma : All IsWeight w.luma
   pub chroma : All IsWeight w.chroma
+
+-- an entry of a slice that can be written: its size has a place in a table of sizes
+abbrev pub IsShort : Entry → Type 0
+IsShort e = e.size < 65535

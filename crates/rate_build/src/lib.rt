@@ -8,4 +8,5 @@ mod transform;
 
 pub use costs::{Measure, measure_all};
 pub use slices::{CoefficientSlices, Coefficients, SliceCoefficients};
+pub use tables::build_table;
 pub use transform::coefficients_of;
