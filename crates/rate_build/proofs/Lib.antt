@@ -4,3 +4,4 @@ pub mod Sliced
 pub mod InTurn
 pub mod Joined
 pub mod Whole
+pub mod Lengths

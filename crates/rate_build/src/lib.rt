@@ -2,11 +2,13 @@
 #![tactic(auto)]
 
 mod costs;
+mod laws;
 mod slices;
 mod tables;
 mod transform;
 
 pub use costs::{Measure, measure_all};
+pub use laws::frame_has_table_size;
 pub use slices::{CoefficientSlices, Coefficients, SliceCoefficients};
 pub use tables::build_table;
 pub use transform::coefficients_of;
