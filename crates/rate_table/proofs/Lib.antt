@@ -7,3 +7,6 @@ pub mod Best
 pub mod Costs
 pub mod Sound
 pub mod Numbered
+pub mod Behind
+pub mod ReadAgain
+pub mod Parts

@@ -5,3 +5,4 @@ pub mod Records
 pub mod Laws
 pub mod Reading
 pub mod Small
+pub mod Body

@@ -1,6 +1,7 @@
 //! Laws over the definitions alone.
 
 ghost use Rattle.rate_table.specs.Laws.{BestExists, BestIsOne, NoneFitsBelowLeast, AllChoicesAreChoices, AllChoicesCount, IndicesTellChoice, GoodIsLeast, GoodNoneFits};
+ghost use Rattle.rate_table.specs.Body.{BodyIsReadAgain};
 
 /// Where a choice fits there is a best one.
 pub fn best_exists()
@@ -40,4 +41,9 @@ pub fn good_is_least()
 /// Where a good record says that no choice fits, none does.
 pub fn good_none_fits()
     ensures { GoodNoneFits }
+{}
+
+/// The body of a table that was written is read again, whatever stands behind it.
+pub fn body_is_read_again()
+    ensures { BodyIsReadAgain }
 {}

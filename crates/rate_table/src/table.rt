@@ -24,8 +24,29 @@ impl Model for SliceTable {
 }
 
 impl SliceTable {
-    ghost use Rattle.std.specs.Prelude.{◌≡◌, ◌≤◌, length};
-    ghost use Rattle.rate_table.specs.Table.{IsSlice};
+    ghost use Rattle.std.specs.Prelude.{◌≡◌, ◌<◌, ◌≤◌, [], ◌∷◌, ◌++◌, length};
+    ghost use Rattle.rate_table.specs.Table.{IsEntry, IsSlice};
+    ghost use Rattle.rate_table.specs.Body.{last_index};
+
+    /// The table of this one entry, which is within the limits: its index is from 1 to 224, and its error is
+    /// below 2^43.
+    pub fn one(entry: Entry) -> SliceTable
+        requires { IsEntry entry }
+        ensures { result ≡ entry ∷ [] }
+    {
+        let mut entries = ArrayVec::new();
+        entries.push(entry);
+        SliceTable { entries }
+    }
+
+    /// Puts another entry within the limits behind the others. Its index is greater than the last one's.
+    pub fn add(&mut self, entry: Entry)
+        requires entry { IsEntry entry }
+        requires above { last_index self.old < entry.index }
+        ensures { self.new ≡ self.old ++ entry ∷ [] }
+    {
+        self.entries.push(entry);
+    }
 
     pub(crate) fn of(entries: ArrayVec<Entry, 224>) -> SliceTable
         requires { IsSlice entries.items }

@@ -1,0 +1,5 @@
+pub mod Measures
+pub mod Coefficients
+pub mod Coding
+pub mod Tables
+pub mod Laws

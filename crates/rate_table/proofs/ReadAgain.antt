@@ -1,0 +1,144 @@
+-- A table's body that was written is read again.
+use Rattle.std.proofs.Common.{◌≡◌, ℕ, ◌+◌, ◌^◌, ◌<◌, Bool, false, nat_lt, List, [], ◌∷◌, ◌++◌, length, Result, Ok, refl, ap, ◌∙◌, arith, length-append, append_assoc, take_at}
+use Rattle.std.specs.Int.{Width, byte_len, w8, w16, w32, w64, to_be_bytes, from_be_bytes}
+use Rattle.std.specs.List.{flat_map, All}
+use Rattle.std.proofs.lemmas.List.{drop_at}
+use Rattle.std.proofs.lemmas.List.Concat.{flat_map-cons}
+use Rattle.std.proofs.lemmas.List.Elements.{All-head, All-tail}
+use Rattle.std.proofs.lemmas.Nat.{from_be_bytes-to_be_bytes_2, from_be_bytes-to_be_bytes_4, from_be_bytes-to_be_bytes_8}
+use Rattle.std.proofs.lemmas.Bool.{le-ltb, lt-leb, ne_eqb}
+use Rattle.pw_outside.specs.Reading.{Fault, Rest, Read, bind, refuse, number_at}
+use Rattle.rate_table.specs.declared.entry.Entry.{Entry}
+use Rattle.rate_table.specs.declared.fault.ProofKind.{ProofKind}
+use Rattle.rate_table.specs.declared.fault.ProofKind.TheVariants.{TableShort}
+use Rattle.rate_table.specs.Table.{IsEntry, IndicesRise, IsSlice}
+use Rattle.rate_table.specs.Reading.{entry_at, entries_at, slice_at, slices_at, body_at}
+use Rattle.rate_table.specs.Body.{entry_bytes, slice_bytes, body_bytes, BodyIsReadAgain}
+use Rattle.rate_table.proofs.Behind.{few-entries}
+use Rattle.rate_table.proofs.Entries.{rest_rises}
+
+-- ---- steps
+
+bind-step : {A B : Type 0} (r : Result A (Fault ProofKind)) (next : A → Result B (Fault ProofKind)) {x : A} → r ≡ Ok x → bind r next ≡ next x
+unfolding bind
+bind-step r next e = rw e refl
+
+refuse-step : {B : Type 0} (test : Bool) (kind : ProofKind) (place : ℕ) (next : Unit {0} → Result B (Fault ProofKind)) → test ≡ false → bind (refuse test kind place) next ≡ next tt
+unfolding bind
+refuse-step test kind place next e = rw e refl
+
+at : ℕ → List ℕ → Rest
+at place bytes = record { place = place; bytes = bytes }
+
+number-here : (w : Width) (n place : ℕ) (bytes behind : List ℕ) → length bytes ≡ byte_len w → from_be_bytes w bytes ≡ n
+    → number_at TableShort w (record { place = place; bytes = bytes ++ behind }) ≡ Ok (n, record { place = place + byte_len w; bytes = behind })
+number-here w n place bytes behind len is =
+    let long : nat_lt (length (bytes ++ behind)) (byte_len w) ≡ false = le-ltb _ _ (omega (arith, length-append bytes behind)) in
+    let front = take_at bytes behind (byte_len w) len in
+    let rest = drop_at bytes behind (byte_len w) len in
+    rw (long, front, rest, is) refl
+
+byte-here : (n place : ℕ) (behind : List ℕ) → number_at TableShort w8 (record { place = place; bytes = n ∷ behind }) ≡ Ok (n, record { place = place + 1; bytes = behind })
+byte-here n place behind = number-here w8 n place (n ∷ []) behind refl (omega arith)
+
+two-here : (n place : ℕ) (behind : List ℕ) → n < 2 ^ 16 → number_at TableShort w16 (record { place = place; bytes = to_be_bytes w16 n ++ behind }) ≡ Ok (n, record { place = place + 2; bytes = behind })
+two-here n place behind small = number-here w16 n place (to_be_bytes w16 n) behind refl (from_be_bytes-to_be_bytes_2 n small)
+
+four-here : (n place : ℕ) (behind : List ℕ) → n < 2 ^ 32 → number_at TableShort w32 (record { place = place; bytes = to_be_bytes w32 n ++ behind }) ≡ Ok (n, record { place = place + 4; bytes = behind })
+four-here n place behind small = number-here w32 n place (to_be_bytes w32 n) behind refl (from_be_bytes-to_be_bytes_4 n small)
+
+eight-here : (n place : ℕ) (behind : List ℕ) → n < 2 ^ 64 → number_at TableShort w64 (record { place = place; bytes = to_be_bytes w64 n ++ behind }) ≡ Ok (n, record { place = place + 8; bytes = behind })
+eight-here n place behind small = number-here w64 n place (to_be_bytes w64 n) behind refl (from_be_bytes-to_be_bytes_8 n small)
+
+abbrev found : {A : Type 0} → A → ℕ → List ℕ → Read ProofKind A
+found x place bytes = Ok (x, record { place = place; bytes = bytes })
+
+same_rest : {A : Type 0} (x : A) (p q : ℕ) (bytes : List ℕ) → p ≡ q → found x p bytes ≡ found x q bytes
+same_rest x p q bytes e = ap (λ (r : ℕ). found x r bytes) e
+
+-- ---- entries
+
+entry-again : (e : Entry) (low place : ℕ) (behind : List ℕ) → IsEntry e → low < e.index
+    → entry_at low (record { place = place; bytes = entry_bytes e ++ behind }) ≡ Ok (e, record { place = place + 11; bytes = behind })
+unfolding entry_at
+entry-again e low place behind is above =
+    bind-step _ _ (byte-here e.index place ((to_be_bytes w16 e.size ++ to_be_bytes w64 e.error) ++ behind))
+    ∙ refuse-step _ _ _ _ (ne_eqb e.index 0 (λ z. omega (arith, is.index_from)))
+    ∙ refuse-step _ _ _ _ (le-ltb 224 e.index is.index_to)
+    ∙ refuse-step _ _ _ _ (lt-leb e.index low above)
+    ∙ bind-step _ _ (two-here e.size (place + 1) (to_be_bytes w64 e.error ++ behind) is.size)
+    ∙ bind-step _ _ (eight-here e.error (place + 1 + 2) behind (omega (arith, is.error)))
+    ∙ refuse-step _ _ _ _ (lt-leb (2 ^ 43) e.error is.error)
+    ∙ same_rest e _ _ behind (omega arith)
+
+-- the first index is above this one
+abbrev StartsAbove : ℕ → List Entry → Type 0
+StartsAbove low [] = Unit {0}
+StartsAbove low (x ∷ xs) = low < x.index
+
+next-above : (x : Entry) (xs : List Entry) → IndicesRise (x ∷ xs) → StartsAbove x.index xs
+next-above x [] h = tt
+next-above x (y ∷ xs) h = h.0
+
+from-one : (xs : List Entry) → All IsEntry xs → StartsAbove 0 xs
+from-one [] h = tt
+from-one (x ∷ xs) h = (All-head IsEntry x xs h).index_from
+
+entries-again : (entries : List Entry) (low place : ℕ) (behind : List ℕ) → All IsEntry entries → IndicesRise entries → StartsAbove low entries
+    → entries_at (length entries) low (record { place = place; bytes = flat_map entry_bytes entries ++ behind })
+    ≡ Ok (entries, record { place = place + length (flat_map entry_bytes entries); bytes = behind })
+unfolding entries_at
+entries-again [] low place behind are rises above = same_rest [] _ _ behind (omega arith)
+entries-again (x ∷ xs) low place behind are rises above =
+    let split : flat_map entry_bytes (x ∷ xs) ++ behind ≡ entry_bytes x ++ (flat_map entry_bytes xs ++ behind) =
+        ap (λ l. l ++ behind) (flat_map-cons entry_bytes x xs) ∙ append_assoc (entry_bytes x) (flat_map entry_bytes xs) behind in
+    let long : place + 11 + length (flat_map entry_bytes xs) ≡ place + length (flat_map entry_bytes (x ∷ xs)) =
+        omega (arith, ap length (flat_map-cons entry_bytes x xs), length-append (entry_bytes x) (flat_map entry_bytes xs)) in
+    ap (λ l. entries_at (length (x ∷ xs)) low (record { place = place; bytes = l })) split
+    ∙ bind-step _ _ (entry-again x low place (flat_map entry_bytes xs ++ behind) (All-head IsEntry x xs are) above)
+    ∙ bind-step _ _ (entries-again xs x.index (place + 11) behind (All-tail IsEntry x xs are) (rest_rises x xs rises) (next-above x xs rises))
+    ∙ same_rest (x ∷ xs) _ _ behind long
+
+-- ---- slices
+
+slice-again : (slice : List Entry) (place : ℕ) (behind : List ℕ) → IsSlice slice
+    → slice_at (record { place = place; bytes = slice_bytes slice ++ behind }) ≡ Ok (slice, record { place = place + length (slice_bytes slice); bytes = behind })
+unfolding slice_at
+slice-again slice place behind is =
+    bind-step _ _ (byte-here (length slice) place (flat_map entry_bytes slice ++ behind))
+    ∙ refuse-step _ _ _ _ (ne_eqb (length slice) 0 (λ z. omega (arith, is.some)))
+    ∙ refuse-step _ _ _ _ (le-ltb 224 (length slice) (few-entries slice is))
+    ∙ entries-again slice 0 (place + 1) behind is.limits is.rises (from-one slice is.limits)
+    ∙ same_rest slice _ _ behind (omega arith)
+
+slices-again : (slices : List (List Entry)) (place : ℕ) (behind : List ℕ) → All IsSlice slices
+    → slices_at (length slices) (record { place = place; bytes = flat_map slice_bytes slices ++ behind })
+    ≡ Ok (slices, record { place = place + length (flat_map slice_bytes slices); bytes = behind })
+unfolding slices_at
+slices-again [] place behind are = same_rest [] _ _ behind (omega arith)
+slices-again (x ∷ xs) place behind are =
+    let split : flat_map slice_bytes (x ∷ xs) ++ behind ≡ slice_bytes x ++ (flat_map slice_bytes xs ++ behind) =
+        ap (λ l. l ++ behind) (flat_map-cons slice_bytes x xs) ∙ append_assoc (slice_bytes x) (flat_map slice_bytes xs) behind in
+    let long : place + length (slice_bytes x) + length (flat_map slice_bytes xs) ≡ place + length (flat_map slice_bytes (x ∷ xs)) =
+        omega (arith, ap length (flat_map-cons slice_bytes x xs), length-append (slice_bytes x) (flat_map slice_bytes xs)) in
+    ap (λ l. slices_at (length (x ∷ xs)) (record { place = place; bytes = l })) split
+    ∙ bind-step _ _ (slice-again x place (flat_map slice_bytes xs ++ behind) (All-head IsSlice x xs are))
+    ∙ bind-step _ _ (slices-again xs (place + length (slice_bytes x)) behind (All-tail IsSlice x xs are))
+    ∙ same_rest (x ∷ xs) _ _ behind long
+
+-- ---- the body
+
+pub body-again : BodyIsReadAgain
+unfolding body_at body_bytes
+body-again t place behind is =
+    let slices = flat_map slice_bytes t.slices in
+    bind-step _ _ (four-here t.budget place (to_be_bytes w32 t.fixed ++ (to_be_bytes w32 (length t.slices) ++ (slices ++ behind))) (omega (arith, is.budget_limit)))
+    ∙ refuse-step _ _ _ _ (ne_eqb t.budget 0 (λ z. omega (arith, is.some_budget)))
+    ∙ refuse-step _ _ _ _ (lt-leb (2 ^ 31) t.budget is.budget_limit)
+    ∙ bind-step _ _ (four-here t.fixed (place + 4) (to_be_bytes w32 (length t.slices) ++ (slices ++ behind)) (omega (arith, is.fixed_limit)))
+    ∙ refuse-step _ _ _ _ (lt-leb (2 ^ 31) t.fixed is.fixed_limit)
+    ∙ bind-step _ _ (four-here (length t.slices) (place + 4 + 4) (slices ++ behind) (omega (arith, is.few)))
+    ∙ refuse-step _ _ _ _ (ne_eqb (length t.slices) 0 (λ z. omega (arith, is.some)))
+    ∙ refuse-step _ _ _ _ (le-ltb 131070 (length t.slices) is.few)
+    ∙ bind-step _ _ (slices-again t.slices (place + 4 + 4 + 4) behind is.each)
+    ∙ same_rest t _ _ behind (omega arith)
