@@ -38,7 +38,8 @@ fn text_of(alloc: Global, outcome: Outcome) -> Result<Vec<u8>, NoMemory>
             choice,
             size,
             error,
-            ..
+            layers: _layers,
+            multiplier: _multiplier,
         } => {
             put_words(&mut text, "choice")?;
             put_indices(&mut text, &choice)?;

@@ -6,6 +6,7 @@ use super::*;
 use crate::status::UsageKind;
 use crate::words::{Names, names_of};
 use pw_outside::{MemSink, MemSource, MemStore};
+use qt_tables::MovieKind;
 use rate_table::ProofKind;
 use std::test::Fail;
 
@@ -97,11 +98,12 @@ const PLAIN: [(u8, u16, u64); 2] = [(1, 2, 1), (2, 1, 2)];
 #[test]
 fn plan_prints_the_best_choice_in_steps_of_any_length(rt: HostRuntime) -> Result<(), Fail> {
     let wide: [&[(u8, u16, u64)]; 16] = [&PLAIN; 16];
+    let wider: [&[(u8, u16, u64)]; 20] = [&PLAIN; 20];
     let two: [&[(u8, u16, u64)]; 2] = [&FIRST, &SECOND];
     let even: [&[(u8, u16, u64)]; 2] = [&EVEN, &EVEN];
     let tie: [&[(u8, u16, u64)]; 1] = [&TIE];
     let lone: [&[(u8, u16, u64)]; 1] = [&LONE];
-    let cases: [(u32, u32, &[&[(u8, u16, u64)]], &str); 8] = [
+    let cases: [(u32, u32, &[&[(u8, u16, u64)]], &str); 9] = [
         (13, 0, &two, "choice 2 1\nsize 13\nerror 10\n"),
         (15, 0, &two, "choice 1 2\nsize 15\nerror 6\n"),
         (8, 0, &two, "none least 9\n"),
@@ -114,6 +116,12 @@ fn plan_prints_the_best_choice_in_steps_of_any_length(rt: HostRuntime) -> Result
             0,
             &wide,
             "choice 1 1 1 1 1 1 1 1 2 2 2 2 2 2 2 2\nsize 24\nerror 24\n",
+        ),
+        (
+            30,
+            0,
+            &wider,
+            "choice 1 1 1 1 1 1 1 1 1 1 2 2 2 2 2 2 2 2 2 2\nsize 30\nerror 30\n",
         ),
     ];
     for (budget, fixed, slices, want) in cases {
@@ -137,14 +145,12 @@ fn plan_prints_the_best_choice_in_steps_of_any_length(rt: HostRuntime) -> Result
 #[test]
 fn plan_names_the_first_fault_of_a_file(rt: HostRuntime) -> Result<(), Fail> {
     let two: [&[(u8, u16, u64)]; 2] = [&FIRST, &SECOND];
-    let many: [&[(u8, u16, u64)]; 17] = [&PLAIN; 17];
     let whole = file_of(&rt, 13, 0, &two)?;
     let mut behind = file_of(&rt, 13, 0, &two)?;
     behind.push(0)?;
     let none = file_of(&rt, 13, 0, &[])?;
     let zero = file_of(&rt, 13, 0, &[&[(0, 10, 0)]])?;
-    let wide = file_of(&rt, 30, 0, &many)?;
-    let cases: [(&[u8], Status); 8] = [
+    let cases: [(&[u8], Status); 7] = [
         (&none, bad(ProofKind::TableEmpty, 13)),
         (&zero, bad(ProofKind::TableLimit, 18)),
         (&behind, bad(ProofKind::TableTrailing, 63)),
@@ -155,7 +161,6 @@ fn plan_names_the_first_fault_of_a_file(rt: HostRuntime) -> Result<(), Fail> {
         (whole.get(..4).unwrap_or(&[]), bad(ProofKind::TableShort, 4)),
         (whole.get(..3).unwrap_or(&[]), bad(ProofKind::TableShort, 0)),
         (whole.get(1..).unwrap_or(&[]), bad(ProofKind::TableMagic, 0)),
-        (&wide, Status::TooWide),
     ];
     for (file, want) in cases {
         for step in [1, 4096] {
@@ -223,7 +228,7 @@ fn each_fault_of_a_port_is_told_and_no_other_answer_comes(rt: HostRuntime) -> Re
 
 #[test]
 fn the_first_fault_of_the_words_is_told(rt: HostRuntime) -> Result<(), Fail> {
-    let cases: [(&[&str], UsageKind, usize); 8] = [
+    let cases: [(&[&str], UsageKind, usize); 11] = [
         (&[], UsageKind::NoCommand, 0),
         (
             &["encode", "a", "b", "c", "--budget=9"],
@@ -236,6 +241,9 @@ fn the_first_fault_of_the_words_is_told(rt: HostRuntime) -> Result<(), Fail> {
         (&["plan", "a", "--"], UsageKind::UnknownOption, 2),
         (&["plan", "a", "b"], UsageKind::ExtraOperand, 2),
         (&["plan", "a", "b", "--x"], UsageKind::ExtraOperand, 2),
+        (&["list"], UsageKind::MissingOperand, 1),
+        (&["list", "a", "b"], UsageKind::ExtraOperand, 2),
+        (&["list", "a", "--depth=8"], UsageKind::UnknownOption, 2),
     ];
     for (words, kind, word) in cases {
         let (status, text) = ran(&rt, words, b"", 1, Faults::None, Faults::None)?;
@@ -246,7 +254,7 @@ fn the_first_fault_of_the_words_is_told(rt: HostRuntime) -> Result<(), Fail> {
 }
 
 #[test]
-fn a_word_names_the_table(rt: HostRuntime) -> Result<(), Fail> {
+fn a_word_names_the_file(rt: HostRuntime) -> Result<(), Fail> {
     let none = Names {
         pictures: None,
         proof: None,
@@ -254,7 +262,7 @@ fn a_word_names_the_table(rt: HostRuntime) -> Result<(), Fail> {
         out: None,
         cert: None,
     };
-    let cases: [(&[&str], Names); 3] = [
+    let cases: [(&[&str], Names); 5] = [
         (
             &["plan", "table"],
             Names {
@@ -262,7 +270,15 @@ fn a_word_names_the_table(rt: HostRuntime) -> Result<(), Fail> {
                 ..none
             },
         ),
+        (
+            &["list", "movie"],
+            Names {
+                movie: Some(1),
+                ..none
+            },
+        ),
         (&["plan"], none),
+        (&["list"], none),
         (&["plan", "a", "b"], none),
     ];
     for (words, want) in cases {
@@ -281,7 +297,7 @@ fn each_status_has_its_line_and_its_number(rt: HostRuntime) -> Result<(), Fail> 
         kind: UsageKind::ExtraOperand,
         word: 2,
     };
-    let cases: [(Status, &str, u8); 7] = [
+    let cases: [(Status, &str, u8); 8] = [
         (Status::Done, "", 0),
         (usage, "usage: ExtraOperand at word 2", 1),
         (Status::NoMemory, "no memory", 2),
@@ -292,7 +308,19 @@ fn each_status_has_its_line_and_its_number(rt: HostRuntime) -> Result<(), Fail> 
             "proof: TableShort at 55",
             10,
         ),
-        (Status::TooWide, "too wide", 12),
+        (
+            Status::LayersFull { frame: 0 },
+            "frame 0: too many pairs",
+            7,
+        ),
+        (
+            Status::BadMovie {
+                kind: MovieKind::AtomSize,
+                place: 206,
+            },
+            "movie: AtomSize at 206",
+            8,
+        ),
     ];
     for (status, line, code) in cases {
         let told = format!(in rt.alloc(); "{status}")?;

@@ -1,5 +1,6 @@
-//! Runs `plan` over table files in memory, one a line of standard input in hexadecimal, and prints for each
-//! its text on one line, or its status: the cases of an independent reference are compared with it.
+//! Runs `plan` over table files and `list` over movies, in memory. Each line of standard input has the command and the
+//! file in hexadecimal; for each the text is printed on one line, or the status. The cases and the answers that are
+//! compared with it are those of an independent reference.
 #![tactic(auto)]
 
 ghost use Rattle.std.specs.Prelude.{◌<◌, IfSome};
@@ -34,15 +35,15 @@ fn bytes_of(rt: &HostRuntime, line: &str) -> io::Result<Option<Vec<u8>>> {
     Ok(Some(bytes))
 }
 
-/// The status of `plan` over these bytes, and its text.
-fn planned(rt: &HostRuntime, file: Vec<u8>) -> io::Result<Option<(Status, Vec<u8>)>> {
+/// The status of a command over this file, and its text.
+fn ran(rt: &HostRuntime, command: &str, file: Vec<u8>) -> io::Result<Option<(Status, Vec<u8>)>> {
     let alloc = rt.alloc();
     let mut words = Vec::new(alloc);
-    words.push("plan".to_string(alloc)?)?;
-    words.push("table".to_string(alloc)?)?;
+    words.push(command.to_string(alloc)?)?;
+    words.push("file".to_string(alloc)?)?;
     let mut pictures = MemSource::new(Vec::new(alloc), 1, Vec::new(alloc));
-    let mut proof = MemSource::new(file, 7, Vec::new(alloc));
-    let mut movie = MemStore::new(Vec::new(alloc), 1, Vec::new(alloc));
+    let mut proof = MemSource::new(file.as_slice().to_vec(alloc)?, 7, Vec::new(alloc));
+    let mut movie = MemStore::new(file, 7, Vec::new(alloc));
     let (Ok(mut out), Ok(mut cert), Ok(mut text)) = (
         MemSink::new(alloc, 0, 1, Vec::new(alloc)),
         MemSink::new(alloc, 0, 1, Vec::new(alloc)),
@@ -74,6 +75,7 @@ fn print(rt: &HostRuntime, status: Status, text: &[u8]) -> io::Result<()> {
             println!(rt; "")
         }
         Status::BadProof { kind, place } => println!(rt; "fault {kind:?} {place}"),
+        Status::BadMovie { kind, place } => println!(rt; "fault {kind:?} {place}"),
         _ => println!(rt; "{status}"),
     }
 }
@@ -81,8 +83,12 @@ fn print(rt: &HostRuntime, status: Status, text: &[u8]) -> io::Result<()> {
 fn main(rt: HostRuntime) -> io::Result<()> {
     for line in rt.lines(rt.alloc()) {
         let line = line?;
-        match bytes_of(&rt, line.as_str())? {
-            Some(file) => match planned(&rt, file)? {
+        let Some((command, digits)) = line.as_str().split_once(' ') else {
+            println!(&rt; "no command")?;
+            continue;
+        };
+        match bytes_of(&rt, digits)? {
+            Some(file) => match ran(&rt, command, file)? {
                 Some((status, text)) => print(&rt, status, &text)?,
                 None => println!(&rt; "no memory")?,
             },
