@@ -1,5 +1,5 @@
 -- From found layers to the first choice with the goal's pair.
-use Rattle.std.proofs.Common.{◌≡◌, ℕ, suc, ◌+◌, ◌-◌, ◌^◌, ◌<◌, ◌≤◌, List, [], ◌∷◌, ◌++◌, Vec, Global, length, map, get_or, drop, sym, ap, ◌∙◌, subst, arith, ⊎_elim}
+use Rattle.std.proofs.Common.{◌≡◌, ℕ, suc, ◌+◌, ◌-◌, ◌^◌, ◌<◌, ◌≤◌, List, [], ◌∷◌, ◌++◌, Vec, Global, length, map, get_or, drop, refl, sym, ap, ◌∙◌, subst, arith, ⊎_elim}
 use Rattle.std.specs.List.{Contains}
 use Rattle.std.proofs.lemmas.List.{get_or_append_left, get_or_push, get_or-map, get_or_default, length_push, drop_all, map_push, append_assoc, append-nil}
 use Rattle.std.proofs.lemmas.Bool.{cases_lt}
@@ -9,14 +9,15 @@ use Rattle.rate_table.specs.declared.entry.Pair.{Pair}
 use Rattle.rate_table.specs.Table.{Table, IsChoice, Fits, size_of, error_of, pair_of, indices, IndicesRise}
 use Rattle.rate_table.specs.Pairs.{joined}
 use Rattle.rate_layers.specs.First.{IsFirst, extended, IsFirstFrom, Leads}
-use Rattle.rate_layers.specs.Layers.{Reaches, Rises, IsFront, IsKept, AreKept, pairs_in}
+use Rattle.rate_layers.specs.Layers.{Reaches, Rises, IsFront, AreKept, pairs_in}
 use Rattle.rate_layers.specs.Live.{LeadsOn, IsFirstOn, LeadOn, LeadTo, AreFound, AreLives}
+use Rattle.rate_table.proofs.Lists.{contains_none}
 use Rattle.rate_layers.proofs.Fronts.{same_pair}
 use Rattle.rate_layers.proofs.Asked.{Stays, At, kept_test}
 use Rattle.rate_layers.proofs.Kept.{kept_front}
 use Rattle.rate_layers.proofs.Firsts.{IsOptimal, below_last, last_in, prefix_in, extended_cons, greedy_end}
 use Rattle.rate_layers.proofs.Leading.{AreLive, leads_next, live_step, walk_step, live_end, first_from_none}
-use Rattle.rate_layers.proofs.Produced.{whole, none_kept_law}
+use Rattle.rate_layers.proofs.Produced.{whole}
 
 -- the pairs of each vector
 abbrev pub items_of : List (Vec Pair Global) → List (List Pair)
@@ -253,5 +254,8 @@ module _ (t : Table) (m u : ℕ) (layers : List (List Pair)) (kept : AreKept t m
 
   pub none_ends : (at : ℕ) → at ≡ length t.slices → get_or layers at [] ≡ [] → (c : List Entry) → IsChoice t.slices c → Fits t c → u < error_of c
   none_ends at n e c i f =
-      let k = kept.1 (length t.slices) (omega arith) in
-      none_kept_law t m u c (subst (λ l. IsKept t m u (length t.slices) l) (subst (λ i. get_or layers i [] ≡ []) n e) k) i f
+      let e' = subst (λ j. get_or layers j [] ≡ []) n e in
+      let g = whole t (Stays t m u) (get_or layers (length t.slices) []) (kept_front t m u (length t.slices) (get_or layers (length t.slices) []) (kept.1 (length t.slices) (omega arith))) in
+      ⊎_elim (λ b. b)
+      (λ b. let q = g.covers (pair_of c) ((c, i, refl), (kept_test t m u).keeps [] (pair_of c) [] tt (omega arith) (omega arith)) in
+      absurd (contains_none q.0 (subst (λ l. Contains l q.0) e' q.1))) (cases_lt u (error_of c))

@@ -12,6 +12,9 @@ ghost use Rattle.rate_layers.specs.Multiplier.{IsMultiplier};
 ghost use Rattle.rate_layers.specs.Live.{AreFound};
 ghost use Rattle.rate_layers.specs.Best.{OnFits, OnNone, TellsBest, TellsLayers, PassesByPicks, PassesByBest};
 
+#[cfg(test)]
+mod tests;
+
 use crate::costs::least_costs;
 use crate::fault::BestFault;
 use crate::layers::kept_layers;
