@@ -35,7 +35,7 @@ module _ (t : Table) (m : ℕ) (goal : Pair) (layers : List (List Pair)) (found 
       let es = e' ∙ sym has_size in
       let ee = sym has_error in
       let same : record_of c m layers ≡ record { choice = chosen; size = size; error = goal.error; multiplier = m; layers = layers } =
-          λ i. record { choice = sym e i; size = sym es i; error = sym ee i; multiplier = m; layers = layers } in
+      λ i. record { choice = sym e i; size = sym es i; error = sym ee i; multiplier = m; layers = layers } in
       subst (λ r. IsGoodFit t r) same g
 
   pub not_passed : IsMultiplier t m → PassesByBest t → ⊥

@@ -2,12 +2,12 @@
 use Rattle.std.proofs.Common.{◌≡◌, ℕ, suc, ◌+◌, ◌*◌, ◌<◌, ◌≤◌, List, [], ◌∷◌, ◌++◌, length, get_or, take, drop, refl, sym, ap, ◌∙◌, subst, arith, ◌⊎◌, inl, inr, ⊎_elim}
 use Rattle.std.specs.List.{Contains, All}
 use Rattle.std.proofs.lemmas.List.{take_all, drop_all, get_or_default}
-use Rattle.std.proofs.lemmas.List.Elements.{All-head, All-tail, Contains-get_or}
+use Rattle.std.proofs.lemmas.List.Elements.{Contains-get_or}
 use Rattle.std.proofs.lemmas.Bool.{cases_lt}
 use Rattle.std.proofs.Math.Seq.{take-suc, drop-cons}
 use Rattle.rate_table.specs.declared.entry.Entry.{Entry}
 use Rattle.rate_table.specs.declared.entry.Pair.{Pair}
-use Rattle.rate_table.specs.Table.{Table, IsChoice, Fits, HasNoFit, size_of, error_of, pair_of, indices, IsBest, least_size, IsSlice, IsTable}
+use Rattle.rate_table.specs.Table.{Table, IsChoice, Fits, HasNoFit, size_of, error_of, pair_of, indices, IsBest, least_size, IsTable}
 use Rattle.rate_layers.specs.First.{IsFirst}
 use Rattle.rate_table.specs.Pairs.{joined, rest, CanFit, StaysWithin, RisesAndFalls}
 use Rattle.rate_layers.specs.Layers.{Reaches, IsFront, IsFull, IsKept, AreFull, AreKept}
@@ -150,9 +150,13 @@ best_kept_law t m u some layer front p c i fits le f e first =
     best_last t u (Stays t m u) (kept_test t m u) front p g' some i fits le c first
 
 -- Where each pair of the last kept layer has more error, a fitting choice has.
-pub none_kept_law : (t : Table) (m u : ℕ) (layer : List Pair) (c : List Entry) → IsKept t m u (length t.slices) layer → ((p : Pair) → Contains layer p → u < p.error) → IsChoice t.slices c → Fits t c → u < error_of c
-none_kept_law t m u layer c f above h fits =
+pub above_kept_law : (t : Table) (m u : ℕ) (layer : List Pair) (c : List Entry) → IsKept t m u (length t.slices) layer → ((p : Pair) → Contains layer p → u < p.error) → IsChoice t.slices c → Fits t c → u < error_of c
+above_kept_law t m u layer c f above h fits =
     ⊎_elim (λ l. l)
     (λ l. let g = whole t (Stays t m u) layer (kept_front t m u (length t.slices) layer f) in
     let q = g.covers (pair_of c) ((c, h, refl), (kept_test t m u).keeps [] (pair_of c) [] tt (omega arith) (omega arith)) in
     absurd (omega (arith, above q.0 q.1, q.2))) (cases_lt u (error_of c))
+
+-- So it has where that layer has no pair.
+pub none_kept_law : (t : Table) (m u : ℕ) (c : List Entry) → IsKept t m u (length t.slices) [] → IsChoice t.slices c → Fits t c → u < error_of c
+none_kept_law t m u c f h fits = above_kept_law t m u [] c f (λ p i. absurd (contains_none p i)) h fits

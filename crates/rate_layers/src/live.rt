@@ -20,7 +20,11 @@ fn first_from(pairs: &[Pair], size: u64) -> Option<Pair>
     ensures none { IfNone result ((q : Pair) → Contains pairs.now q → q.size < size) }
 {
     let at = pairs.partition_point(|q| u64::from(q.size) < size);
-    if at < pairs.len() { Some(pairs[at]) } else { None }
+    if at < pairs.len() {
+        Some(pairs[at])
+    } else {
+        None
+    }
 }
 
 /// Whether one pair is another joined with the entry.

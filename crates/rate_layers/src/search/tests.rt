@@ -32,10 +32,7 @@ fn put_head(
     Ok(bytes)
 }
 
-fn put_entry(
-    bytes: &mut Vec<u8>,
-    (index, size, error): (u8, u16, u64),
-) -> Result<(), AllocError> {
+fn put_entry(bytes: &mut Vec<u8>, (index, size, error): (u8, u16, u64)) -> Result<(), AllocError> {
     bytes.push(index)?;
     bytes.extend_from_slice(&size.to_be_bytes())?;
     bytes.extend_from_slice(&error.to_be_bytes())?;
@@ -58,18 +55,22 @@ fn bytes_of(
 }
 
 const LARGE: [(u8, u16, u64); 2] = [(1, 10, 0), (2, 4, 10)];
+
 const SMALL: [(u8, u16, u64); 2] = [(1, 9, 0), (2, 5, 6)];
+
 const EVEN: [(u8, u16, u64); 2] = [(1, 3, 2), (2, 2, 3)];
 
 /// The best choice of a table is this one, with this size and error.
 fn has_best(rt: &impl Abort, table: &FrameTable, alloc: Global, want: (&[u8], u64, u64)) {
     match best(alloc, table) {
-        Ok(Outcome::Fits {
-            choice,
-            size,
-            error,
-            ..
-        }) => {
+        Ok(
+            Outcome::Fits {
+                choice,
+                size,
+                error,
+                ..
+            },
+        ) => {
             assert_eq!(rt; (choice.as_slice(), size, error), want);
         }
         _ => assert!(rt; false, "a choice fits"),
@@ -85,20 +86,372 @@ fn has_none(rt: &impl Abort, table: &FrameTable, alloc: Global, want: u64) {
 fn gives_the_best_choice_with_its_layers(rt: HostRuntime) {
     let table = table_of(&rt, rt.alloc(), (13, 0), &[&LARGE, &SMALL]);
     match best(rt.alloc(), &table) {
-        Ok(Outcome::Fits {
-            choice,
-            size,
-            error,
-            layers,
-            multiplier,
-        }) => {
-            assert_eq!(rt; (choice.as_slice(), size, error), ([2, 1].as_slice(), 13, 10));
+        Ok(
+            Outcome::Fits {
+                choice,
+                size,
+                error,
+                layers,
+                multiplier,
+            },
+        ) => {
+            assert_eq!(rt;
+                (choice.as_slice(), size, error),
+                ([2, 1].as_slice(), 13, 10)
+            );
             assert_eq!(rt; (multiplier, layers.len()), (2, 3));
-            assert_eq!(rt; layers[0].as_slice(), [Pair { size: 0, error: 0 }].as_slice());
-            assert_eq!(rt; layers[1].as_slice(), [Pair { size: 4, error: 10 }].as_slice());
-            let last = [Pair { size: 9, error: 16 }, Pair { size: 13, error: 10 }];
+            assert_eq!(rt;
+                layers[0].as_slice(),
+                [Pair { size: 0, error: 0 }].as_slice()
+            );
+            assert_eq!(rt;
+                layers[1].as_slice(),
+                [Pair { size: 4, error: 10 }].as_slice()
+            );
+            let last = [
+                Pair { size: 9, error: 16 },
+                Pair {
+                    size: 13,
+                    error: 10,
+                },
+            ];
             assert_eq!(rt; layers[2].as_slice(), last.as_slice());
         }
         _ => assert!(rt; false, "a choice fits"),
     }
+}
+
+#[test]
+fn fills_the_budget_or_tells_the_least(rt: HostRuntime) {
+    let slices = [LARGE.as_slice(), SMALL.as_slice()];
+    let table = table_of(&rt, rt.alloc(), (15, 0), &slices);
+    has_best(&rt, &table, rt.alloc(), (&[1, 2], 15, 6));
+    let table = table_of(&rt, rt.alloc(), (8, 0), &slices);
+    has_none(&rt, &table, rt.alloc(), 9);
+    let table = table_of(&rt, rt.alloc(), (120, 20), &[&[(7, 100, 12)]]);
+    has_best(&rt, &table, rt.alloc(), (&[7], 100, 12));
+    let table = table_of(&rt, rt.alloc(), (119, 20), &[&[(7, 100, 12)]]);
+    has_none(&rt, &table, rt.alloc(), 120);
+}
+
+#[test]
+fn takes_the_first_of_equal_pairs_and_the_smaller_of_equal_errors(rt: HostRuntime) {
+    let table = table_of(&rt, rt.alloc(), (5, 0), &[&EVEN, &EVEN]);
+    has_best(&rt, &table, rt.alloc(), (&[1, 2], 5, 5));
+    let table = table_of(&rt, rt.alloc(), (10, 0), &[&[(1, 4, 5), (2, 3, 5)]]);
+    has_best(&rt, &table, rt.alloc(), (&[2], 3, 5));
+    let table = table_of(
+        &rt,
+        rt.alloc(),
+        (30, 0),
+        &[[(1, 2, 1), (2, 1, 2)].as_slice(); 20],
+    );
+    let want = [1, 1, 1, 1, 1, 1, 1, 1, 1, 1, 2, 2, 2, 2, 2, 2, 2, 2, 2, 2];
+    has_best(&rt, &table, rt.alloc(), (&want, 30, 30));
+}
+
+#[test]
+fn answers_tables_of_others(rt: HostRuntime) {
+    // a table file with its best choice, size and error; or, with no choice, its least bytes
+    let cases: [(&[u8], &[u8], u64, u64); 17] = [
+        (
+            b"\x50\x57\x54\x42\x01\x7f\xff\xff\xff\x7f\xff\xff\xff\x00\x00\x00\x02\x02\
+              \x01\x00\x00\x00\x00\x07\xff\xff\xff\xff\xff\xe0\x00\x00\x00\x00\x00\x00\
+              \x00\x00\x00\x00\x01\xe0\x00\x00\x00\x00\x07\xff\xff\xff\xff\xff",
+            &[224, 224],
+            0,
+            8796093022207,
+        ),
+        (
+            b"\x50\x57\x54\x42\x01\x00\x00\x00\x01\x7f\xff\xff\xff\x00\x00\x00\x02\x02\
+              \x01\x00\x00\x00\x00\x07\xff\xff\xff\xff\xff\xe0\x00\x00\x00\x00\x00\x00\
+              \x00\x00\x00\x00\x01\xe0\x00\x00\x00\x00\x07\xff\xff\xff\xff\xff",
+            &[],
+            2147483647,
+            0,
+        ),
+        (
+            b"\x50\x57\x54\x42\x01\x00\x01\xff\xfe\x00\x00\x00\x00\x00\x00\x00\x02\x02\
+              \x01\xff\xff\x00\x00\x00\x00\x00\x00\x00\x00\x02\xff\xfe\x00\x00\x00\x00\
+              \x00\x00\x00\x01\x02\x01\xff\xff\x00\x00\x07\xff\xff\xff\xff\xff\x02\xff\
+              \xfe\x00\x00\x07\xff\xff\xff\xff\xff",
+            &[1, 2],
+            131069,
+            8796093022207,
+        ),
+        (
+            b"\x50\x57\x54\x42\x01\x00\x01\xff\xfc\x00\x00\x00\x00\x00\x00\x00\x02\x02\
+              \x01\xff\xff\x00\x00\x00\x00\x00\x00\x00\x00\x02\xff\xfe\x00\x00\x00\x00\
+              \x00\x00\x00\x01\x02\x01\xff\xff\x00\x00\x07\xff\xff\xff\xff\xff\x02\xff\
+              \xfe\x00\x00\x07\xff\xff\xff\xff\xff",
+            &[2, 2],
+            131068,
+            8796093022208,
+        ),
+        (
+            b"\x50\x57\x54\x42\x01\x00\x00\x00\xa8\x00\x00\x00\xa6\x00\x00\x00\x02\x01\
+              \x03\x00\x01\x00\x00\x00\x00\x00\x00\x00\x01\x03\x02\x00\x01\x00\x00\x00\
+              \x00\x00\x00\x00\x00\x03\x00\x01\x00\x00\x00\x00\x00\x00\x00\x01\x04\x00\
+              \x00\x00\x00\x00\x00\x00\x00\x00\x00",
+            &[3, 4],
+            1,
+            1,
+        ),
+        (
+            b"\x50\x57\x54\x42\x01\x00\x00\x00\xa6\x00\x00\x00\xa6\x00\x00\x00\x02\x01\
+              \x03\x00\x01\x00\x00\x00\x00\x00\x00\x00\x01\x03\x02\x00\x01\x00\x00\x00\
+              \x00\x00\x00\x00\x00\x03\x00\x01\x00\x00\x00\x00\x00\x00\x00\x01\x04\x00\
+              \x00\x00\x00\x00\x00\x00\x00\x00\x00",
+            &[],
+            167,
+            0,
+        ),
+        (
+            b"\x50\x57\x54\x42\x01\x00\x00\x00\xb6\x00\x00\x00\xa6\x00\x00\x00\x04\x02\
+              \x01\x00\x02\x00\x00\x00\x00\x00\x00\x00\x05\x15\x00\x06\x00\x00\x00\x00\
+              \x00\x00\x00\x06\x02\x01\x00\x02\x00\x00\x00\x00\x00\x00\x00\x05\x15\x00\
+              \x06\x00\x00\x00\x00\x00\x00\x00\x06\x02\x01\x00\x02\x00\x00\x00\x00\x00\
+              \x00\x00\x05\x15\x00\x06\x00\x00\x00\x00\x00\x00\x00\x06\x03\x03\x00\x07\
+              \x00\x00\x00\x00\x00\x00\x00\x01\x04\x00\x05\x00\x00\x00\x00\x00\x00\x00\
+              \x04\x06\x00\x08\x00\x00\x00\x00\x00\x00\x00\x01",
+            &[1, 1, 1, 3],
+            13,
+            16,
+        ),
+        (
+            b"\x50\x57\x54\x42\x01\x00\x00\x00\xb1\x00\x00\x00\xa6\x00\x00\x00\x04\x02\
+              \x01\x00\x02\x00\x00\x00\x00\x00\x00\x00\x05\x15\x00\x06\x00\x00\x00\x00\
+              \x00\x00\x00\x06\x02\x01\x00\x02\x00\x00\x00\x00\x00\x00\x00\x05\x15\x00\
+              \x06\x00\x00\x00\x00\x00\x00\x00\x06\x02\x01\x00\x02\x00\x00\x00\x00\x00\
+              \x00\x00\x05\x15\x00\x06\x00\x00\x00\x00\x00\x00\x00\x06\x03\x03\x00\x07\
+              \x00\x00\x00\x00\x00\x00\x00\x01\x04\x00\x05\x00\x00\x00\x00\x00\x00\x00\
+              \x04\x06\x00\x08\x00\x00\x00\x00\x00\x00\x00\x01",
+            &[1, 1, 1, 4],
+            11,
+            19,
+        ),
+        (
+            b"\x50\x57\x54\x42\x01\x00\x00\x0a\x7a\x00\x00\x07\xd0\x00\x00\x00\x02\x03\
+              \x01\x01\x7a\x00\x00\x00\x90\x9e\x83\x88\x36\x02\x00\xbe\x00\x00\x01\x64\
+              \xb2\xdf\xd5\x04\x03\x00\x80\x00\x00\x05\x7c\x37\x12\xfa\x0a\x04\x03\x01\
+              \x66\x00\x00\x04\xea\xa5\xa3\x38\x00\x04\x00\x06\x00\x00\x05\x85\x08\xaf\
+              \x8c\x74\x05\x01\x30\x00\x00\x04\xf1\x66\xca\x76\x8e\x06\x01\x66\x00\x00\
+              \x05\x9c\x00\x62\x22\x5e",
+            &[1, 5],
+            682,
+            6055992884932,
+        ),
+        (
+            b"\x50\x57\x54\x42\x01\x00\x00\x08\x55\x00\x00\x07\xd0\x00\x00\x00\x02\x03\
+              \x01\x01\x7a\x00\x00\x00\x90\x9e\x83\x88\x36\x02\x00\xbe\x00\x00\x01\x64\
+              \xb2\xdf\xd5\x04\x03\x00\x80\x00\x00\x05\x7c\x37\x12\xfa\x0a\x04\x03\x01\
+              \x66\x00\x00\x04\xea\xa5\xa3\x38\x00\x04\x00\x06\x00\x00\x05\x85\x08\xaf\
+              \x8c\x74\x05\x01\x30\x00\x00\x04\xf1\x66\xca\x76\x8e\x06\x01\x66\x00\x00\
+              \x05\x9c\x00\x62\x22\x5e",
+            &[],
+            2134,
+            0,
+        ),
+        (
+            b"\x50\x57\x54\x42\x01\x00\x00\x00\x06\x00\x00\x00\x00\x00\x00\x00\x04\x02\
+              \x03\x00\x01\x00\x00\x00\x00\x00\x00\x00\x29\x04\x00\x00\x00\x00\x00\x00\
+              \x00\x00\x00\x24\x02\x03\x00\x01\x00\x00\x00\x00\x00\x00\x00\x29\x04\x00\
+              \x00\x00\x00\x00\x00\x00\x00\x00\x24\x02\x02\x00\x01\x00\x00\x00\x00\x00\
+              \x00\x00\x37\x03\x00\x02\x00\x00\x00\x00\x00\x00\x00\x0e\x01\x01\x00\x01\
+              \x00\x00\x00\x00\x00\x00\x00\x19",
+            &[4, 4, 3, 1],
+            3,
+            111,
+        ),
+        (
+            b"\x50\x57\x54\x42\x01\x00\x00\x00\x02\x00\x00\x00\x00\x00\x00\x00\x04\x02\
+              \x03\x00\x01\x00\x00\x00\x00\x00\x00\x00\x29\x04\x00\x00\x00\x00\x00\x00\
+              \x00\x00\x00\x24\x02\x03\x00\x01\x00\x00\x00\x00\x00\x00\x00\x29\x04\x00\
+              \x00\x00\x00\x00\x00\x00\x00\x00\x24\x02\x02\x00\x01\x00\x00\x00\x00\x00\
+              \x00\x00\x37\x03\x00\x02\x00\x00\x00\x00\x00\x00\x00\x0e\x01\x01\x00\x01\
+              \x00\x00\x00\x00\x00\x00\x00\x19",
+            &[4, 4, 2, 1],
+            2,
+            152,
+        ),
+        (
+            b"\x50\x57\x54\x42\x01\x00\x00\x00\xdf\x00\x00\x00\xa6\x00\x00\x00\x03\x01\
+              \x01\x00\x09\x00\x00\x00\x00\x00\x00\x00\x02\x02\x01\x00\x18\x00\x00\x00\
+              \x00\x00\x00\x00\x00\x15\x00\x19\x00\x00\x00\x00\x00\x00\x00\x02\x02\x01\
+              \x00\x18\x00\x00\x00\x00\x00\x00\x00\x00\x15\x00\x19\x00\x00\x00\x00\x00\
+              \x00\x00\x02",
+            &[1, 1, 1],
+            57,
+            2,
+        ),
+        (
+            b"\x50\x57\x54\x42\x01\x00\x00\x00\xde\x00\x00\x00\xa6\x00\x00\x00\x03\x01\
+              \x01\x00\x09\x00\x00\x00\x00\x00\x00\x00\x02\x02\x01\x00\x18\x00\x00\x00\
+              \x00\x00\x00\x00\x00\x15\x00\x19\x00\x00\x00\x00\x00\x00\x00\x02\x02\x01\
+              \x00\x18\x00\x00\x00\x00\x00\x00\x00\x00\x15\x00\x19\x00\x00\x00\x00\x00\
+              \x00\x00\x02",
+            &[],
+            223,
+            0,
+        ),
+        (
+            b"\x50\x57\x54\x42\x01\x00\x00\x00\xea\x00\x00\x00\xa6\x00\x00\x00\x03\x03\
+              \x03\x00\x16\x00\x00\x00\x00\x00\x00\x00\x01\x04\x00\x08\x00\x00\x00\x00\
+              \x00\x00\x00\x00\x05\x00\x0d\x00\x00\x00\x00\x00\x00\x00\x00\x03\x02\x00\
+              \x15\x00\x00\x00\x00\x00\x00\x00\x01\x03\x00\x02\x00\x00\x00\x00\x00\x00\
+              \x00\x01\x04\x00\x14\x00\x00\x00\x00\x00\x00\x00\x01\x02\x02\x00\x10\x00\
+              \x00\x00\x00\x00\x00\x00\x00\x03\x00\x23\x00\x00\x00\x00\x00\x00\x00\x01",
+            &[4, 3, 2],
+            26,
+            1,
+        ),
+        (
+            b"\x50\x57\x54\x42\x01\x00\x00\x03\x3c\x00\x00\x00\x00\x00\x00\x00\x04\x01\
+              \x01\x01\x3b\x00\x00\x00\x00\x00\x00\x00\x00\x02\x03\x01\x80\x00\x00\x00\
+              \x00\x00\x00\x00\x04\x04\x01\x3c\x00\x00\x00\x00\x00\x00\x00\x09\x02\x01\
+              \x00\x05\x00\x00\x00\x00\x00\x00\x00\x08\x02\x00\xbc\x00\x00\x00\x00\x00\
+              \x00\x00\x02\x03\x03\x00\xf6\x00\x00\x00\x00\x00\x00\x00\x05\x04\x00\x7c\
+              \x00\x00\x00\x00\x00\x00\x00\x01\x18\x00\x72\x00\x00\x00\x00\x00\x00\x00\
+              \x09",
+            &[1, 3, 1, 4],
+            828,
+            13,
+        ),
+        (
+            b"\x50\x57\x54\x42\x01\x00\x00\x03\x32\x00\x00\x00\x00\x00\x00\x00\x04\x01\
+              \x01\x01\x3b\x00\x00\x00\x00\x00\x00\x00\x00\x02\x03\x01\x80\x00\x00\x00\
+              \x00\x00\x00\x00\x04\x04\x01\x3c\x00\x00\x00\x00\x00\x00\x00\x09\x02\x01\
+              \x00\x05\x00\x00\x00\x00\x00\x00\x00\x08\x02\x00\xbc\x00\x00\x00\x00\x00\
+              \x00\x00\x02\x03\x03\x00\xf6\x00\x00\x00\x00\x00\x00\x00\x05\x04\x00\x7c\
+              \x00\x00\x00\x00\x00\x00\x00\x01\x18\x00\x72\x00\x00\x00\x00\x00\x00\x00\
+              \x09",
+            &[1, 4, 1, 4],
+            760,
+            18,
+        ),
+    ];
+    for (bytes, choice, size, error) in cases {
+        let bytes = Vec::from_slice(rt.alloc(), bytes).expect(&rt, "memory");
+        let table = read(&rt, rt.alloc(), bytes);
+        if choice.is_empty() {
+            has_none(&rt, &table, rt.alloc(), size);
+        } else {
+            has_best(&rt, &table, rt.alloc(), (choice, size, error));
+        }
+    }
+}
+
+/// All index lists of these slices, in their order.
+fn lists_of(alloc: Global, slices: &[SliceTable]) -> Result<Vec<Vec<u8>>, AllocError> {
+    let mut lists = Vec::new(alloc);
+    lists.push(Vec::new(alloc))?;
+    for slice in slices {
+        lists = longer(alloc, &lists, slice.entries())?;
+    }
+    Ok(lists)
+}
+
+/// Each list with each entry's index behind it.
+fn longer(alloc: Global, lists: &[Vec<u8>], entries: &[Entry]) -> Result<Vec<Vec<u8>>, AllocError> {
+    let mut all = Vec::new(alloc);
+    for list in lists {
+        for entry in entries {
+            let mut more = Vec::from_slice(alloc, list)?;
+            more.push(entry.index)?;
+            all.push(more)?;
+        }
+    }
+    Ok(all)
+}
+
+/// The number of the best of these choices, with its size and error, by trying all.
+fn best_of(table: &FrameTable, lists: &[Vec<u8>]) -> Option<(usize, u64, u64)> {
+    let mut held: Option<(usize, u64, u64)> = None;
+    for (number, list) in lists.iter().enumerate() {
+        if let Some((size, error)) = total(table, list) {
+            let fits = size.saturating_add(u64::from(table.fixed)) <= u64::from(table.budget);
+            let beats = match held {
+                None => true,
+                Some((_, s, e)) => error < e || error == e && size < s,
+            };
+            if fits && beats {
+                held = Some((number, size, error));
+            }
+        }
+    }
+    held
+}
+
+/// A number below `end`, from a state that it changes.
+fn below(state: &mut u64, end: u8) -> u8 {
+    *state = state
+        .wrapping_mul(6_364_136_223_846_793_005)
+        .wrapping_add(1_442_695_040_888_963_407);
+    ((*state >> 33) % u64::from(end.max(1))) as u8
+}
+
+/// A table of five slices with one to three entries, of sizes and errors below seven.
+fn small_table(alloc: Global, state: &mut u64) -> Result<Vec<u8>, AllocError> {
+    let budget = u32::from(below(state, 26)).saturating_add(1);
+    let mut bytes = put_head(alloc, (budget, u32::from(below(state, 5))), 5)?;
+    for _ in 0..5 {
+        let count = below(state, 3).saturating_add(1);
+        bytes.push(count)?;
+        for index in 0..count {
+            let size = u16::from(below(state, 7));
+            let error = u64::from(below(state, 7));
+            put_entry(&mut bytes, (index.saturating_add(1), size, error))?;
+        }
+    }
+    Ok(bytes)
+}
+
+#[test]
+fn finds_what_trying_all_choices_finds(rt: HostRuntime) {
+    let mut state = 7;
+    for _ in 0..120 {
+        let bytes = small_table(rt.alloc(), &mut state).expect(&rt, "memory");
+        let table = read(&rt, rt.alloc(), bytes);
+        let lists = lists_of(rt.alloc(), table.slices.as_slice()).expect(&rt, "memory");
+        match best_of(&table, &lists) {
+            Some((number, size, error)) => {
+                let choice = lists.get(number).expect(&rt, "a choice");
+                has_best(&rt, &table, rt.alloc(), (choice, size, error));
+            }
+            None => has_none(&rt, &table, rt.alloc(), least(&table)),
+        }
+    }
+}
+
+/// So many slices {1: 1/0, 2: 0/1}, and a budget of one byte less.
+fn table_at_the_limit(alloc: Global, slices: u16) -> Result<Vec<u8>, AllocError> {
+    let slices = u32::from(slices);
+    let mut bytes = put_head(alloc, (slices.saturating_sub(1), 0), slices)?;
+    for _ in 0..slices {
+        bytes.push(2)?;
+        put_entry(&mut bytes, (1, 1, 0))?;
+        put_entry(&mut bytes, (2, 0, 1))?;
+    }
+    Ok(bytes)
+}
+
+// 33,550,335 pairs, of which there may be 33,554,432
+#[test]
+fn finds_the_best_of_as_many_pairs_as_there_may_be(rt: HostRuntime) {
+    let bytes = table_at_the_limit(rt.alloc(), 8190).expect(&rt, "memory");
+    let table = read(&rt, rt.alloc(), bytes);
+    let mut want = Vec::new(rt.alloc());
+    for _ in 0..8189 {
+        want.push(1).expect(&rt, "memory");
+    }
+    want.push(2).expect(&rt, "memory");
+    has_best(&rt, &table, rt.alloc(), (&want, 8189, 1));
+}
+
+// 33,558,527 pairs
+#[test]
+fn refuses_more_pairs(rt: HostRuntime) {
+    let bytes = table_at_the_limit(rt.alloc(), 8191).expect(&rt, "memory");
+    let table = read(&rt, rt.alloc(), bytes);
+    assert!(rt; matches!(best(rt.alloc(), &table), Err(BestFault::LayersFull)));
 }

@@ -1,15 +1,14 @@
-use Rattle.std.proofs.Common.{◌≡◌, ℕ, suc, ◌+◌, ◌^◌, ◌<◌, ◌≤◌, List, [], ◌∷◌, ◌++◌, Vec, Global, length, get_or, drop, map, sym, ap, ◌∙◌, subst, arith}
+use Rattle.std.proofs.Common.{◌≡◌, ℕ, ◌+◌, ◌^◌, ◌<◌, List, [], ◌∷◌, ◌++◌, Vec, Global, length, get_or, map, sym, ap, ◌∙◌, subst, arith}
 use Rattle.std.specs.List.{All}
-use Rattle.std.proofs.lemmas.List.{get_or-map, get_or_default, length-map}
+use Rattle.std.proofs.lemmas.List.{get_or-map, length-map}
 use Rattle.std.proofs.lemmas.List.Sums.{sum_by-cons, sum_by_push}
 use Rattle.std.proofs.lemmas.Result.{err_from_is_err_and}
-use Rattle.rate_table.specs.declared.entry.Entry.{Entry}
 use Rattle.rate_table.specs.declared.entry.Pair.{Pair}
 use Rattle.rate_table.specs.Table.{Table, IsTable}
-use Rattle.rate_table.specs.Pairs.{RisesAndFalls, cost, rest}
-use Rattle.rate_layers.specs.Layers.{IsFront, AreKept, pairs_in}
-use Rattle.rate_layers.specs.Bound.{IsBoundOf, IsNext}
-use Rattle.rate_layers.proofs.Bounds.{front_first, sum_step}
+use Rattle.rate_table.specs.Pairs.{RisesAndFalls}
+use Rattle.rate_layers.specs.Layers.{pairs_in}
+use Rattle.rate_layers.specs.Bound.{IsBoundOf}
+use Rattle.rate_layers.proofs.Bounds.{front_first}
 use Rattle.rate_layers.proofs.Assembled.{Assembled, Further, further, assembled_first, assembled_end, assembled_below, errors_small}
 use Rattle.rate_layers.proofs.layers.kept_layers.Goals as goal
 

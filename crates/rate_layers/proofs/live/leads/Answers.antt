@@ -9,8 +9,7 @@ pub returns-in-Some : goal.returns-in-Some
 returns-in-Some c =
     let f = c.in-Some.ensures.some in
     let j = c.is_joined.ensures in
-    let e : c.from.result + c.from-2.result ≡ c.args.p.size + c.args.x.size = omega (arith, c.from.ensures, c.from-2.ensures) in
-    (
+    let e : c.from.result + c.from-2.result ≡ c.args.p.size + c.args.x.size = omega (arith, c.from.ensures, c.from-2.ensures) in (
       (λ h. subst (λ q. Contains c.args.next.now q) (sym (j.0 h)) f.has),
       (λ h. j.1 (found_is c.args.next.now (joined c.args.p c.args.x) c.in-Some.q c.requires (subst (λ n. IsFirstFromSize c.args.next.now n c.in-Some.q) e f) h)),
     )

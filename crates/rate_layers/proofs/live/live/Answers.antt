@@ -14,12 +14,12 @@ loop-p-preserved c =
     let k = c.loop-p.p-index in
     let none : Pair = record { size = 0; error = 0 } in
     elim c.if-leads_on.branch [
-      then-leads_on+in_ok-push w ↦
-        let e : c.if-leads_on.live.items ≡ c.loop-p.live.items ++ get_or layer k none ∷ [] = ap (λ v. v.items) w.live-is ∙ w.in_ok-push.ensures.items in
-        subst (λ l. LeadOn s n (take (k + 1) layer) l) (sym e)
-        (live_more s n layer c.loop-p.live.items k none c.loop-p-test.true c.requires.layer c.loop-p.invariant (w.if-leads_on.ensures.0 refl))
+      | then-leads_on+in_ok-push w ↦
+          let e : c.if-leads_on.live.items ≡ c.loop-p.live.items ++ get_or layer k none ∷ [] = ap (λ v. v.items) w.live-is ∙ w.in_ok-push.ensures.items in
+          subst (λ l. LeadOn s n (take (k + 1) layer) l) (sym e)
+          (live_more s n layer c.loop-p.live.items k none c.loop-p-test.true c.requires.layer c.loop-p.invariant (w.if-leads_on.ensures.0 refl))
       | else-leads_on w ↦
-        let e : c.if-leads_on.live.items ≡ c.loop-p.live.items = ap (λ v. v.items) w.live-is in
-        subst (λ l. LeadOn s n (take (k + 1) layer) l) (sym e)
-        (live_same s n layer c.loop-p.live.items k none c.loop-p-test.true c.loop-p.invariant (λ h. false≢true (w.if-leads_on.ensures.1 h)))
+          let e : c.if-leads_on.live.items ≡ c.loop-p.live.items = ap (λ v. v.items) w.live-is in
+          subst (λ l. LeadOn s n (take (k + 1) layer) l) (sym e)
+          (live_same s n layer c.loop-p.live.items k none c.loop-p-test.true c.loop-p.invariant (λ h. false≢true (w.if-leads_on.ensures.1 h)))
     ]

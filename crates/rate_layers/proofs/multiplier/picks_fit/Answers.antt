@@ -1,4 +1,4 @@
-use Rattle.std.proofs.Common.{arith, sym, ◌∙◌}
+use Rattle.std.proofs.Common.{arith}
 use Rattle.std.proofs.lemmas.Bool.{leb-true, le-leb}
 use Rattle.rate_layers.proofs.Picks.{picks_down}
 use Rattle.rate_layers.proofs.multiplier.picks_fit.Goals as goal

@@ -45,7 +45,7 @@ loop-k-preserved c =
     let cheapest : c.least_cost-costs.result ≡ least (cost m) s = c.least_cost-costs.ensures.value ∙ ap (λ l. least (cost m) l) c.entries.ensures.entries in
     let k1 : suc k ≡ k + 1 = omega arith in
     let left : c.loop-k.costs - c.least_cost-costs.result ≡ rest m (drop (k + 1) t.slices) =
-        subst (λ j. c.loop-k.costs - c.least_cost-costs.result ≡ rest m (drop j t.slices)) k1 (omega (arith, i.costs, step, cheapest)) in
+    subst (λ j. c.loop-k.costs - c.least_cost-costs.result ≡ rest m (drop j t.slices)) k1 (omega (arith, i.costs, step, cheapest)) in
     let was : IsKept t m r.0 (k + 1) (get_or (items_of vs) (k + 1) []) = subst (λ l. IsKept t m r.0 (k + 1) l) (sym (i.layers.left (k + 1) (omega arith))) (r.1.kept.1 (k + 1) (omega (arith, within))) in
     let h = kept_vector t m r.0 v (k + 1) vs c.index_mut-in-loop-k.result.now c.keep_within-in-loop-k.new.layer c.bound_of-bound.result.multiplier c.bound_of-bound.result.ceiling
     (goal_below t m r.0 c.args.goal before r.1) n was c.index_mut-in-loop-k.ensures.value c.keep_within-in-loop-k.ensures b.multiplier (omega (arith, b.ceiling, left)) in

@@ -23,10 +23,10 @@ returns-in_default-clause-none c =
     let e = c.deref.ensures.value in
     let n : length c.deref.result.now - 1 ≡ length t.slices = omega (arith, ap length e, length-map vs (λ v. v.items), k.kept.0) in
     elim c.in_default.branch [
-      in_default-via-in-Some+else-goal-error w ↦
-        none_within t c.args.multiplier c.args.error (items_of vs) k.kept (length c.deref.result.now - 1) n w.in-Some.goal
-        (subst (λ l. (front : List Pair) × (get_or (items_of l) (length c.deref.result.now - 1) [] ≡ front ++ w.in-Some.goal ∷ [])) e w.in-Some.ensures.some) w.if-goal-error.false
+      | in_default-via-in-Some+else-goal-error w ↦
+          none_within t c.args.multiplier c.args.error (items_of vs) k.kept (length c.deref.result.now - 1) n w.in-Some.goal
+          (subst (λ l. (front : List Pair) × (get_or (items_of l) (length c.deref.result.now - 1) [] ≡ front ++ w.in-Some.goal ∷ [])) e w.in-Some.ensures.some) w.if-goal-error.false
       | in_default-via-in_default w ↦
-        none_ends t c.args.multiplier c.args.error (items_of vs) k.kept (length c.deref.result.now - 1) n
-        (subst (λ l. get_or (items_of l) (length c.deref.result.now - 1) [] ≡ []) e w.in_default.ensures.none)
+          none_ends t c.args.multiplier c.args.error (items_of vs) k.kept (length c.deref.result.now - 1) n
+          (subst (λ l. get_or (items_of l) (length c.deref.result.now - 1) [] ≡ []) e w.in_default.ensures.none)
     ]

@@ -1,9 +1,8 @@
-use Rattle.std.proofs.Common.{◌-◌, ◌+◌, ◌≤◌, List, [], ◌∷◌, ◌++◌, length, get_or, drop, refl, sym, subst, arith}
-use Rattle.std.specs.List.{All, Contains}
+use Rattle.std.proofs.Common.{◌-◌, ◌≤◌, length, get_or, refl, subst, arith}
+use Rattle.std.specs.List.{Contains}
 use Rattle.std.proofs.lemmas.List.Elements.{All-push}
 use Rattle.rate_table.specs.declared.entry.Entry.{Entry}
 use Rattle.rate_table.specs.Table.{IsEntry}
-use Rattle.rate_layers.specs.Merge.{Thinned}
 use Rattle.rate_layers.proofs.Thinning.{back_push, back_skip}
 use Rattle.rate_layers.proofs.thin.thin.Goals as goal
 use Rattle.rate_layers.proofs.thin.thin.Goals.{then-not-is_beaten+in_ok-push, else-not-is_beaten}
