@@ -61,13 +61,18 @@ tables_bytes es duration = flat_map atom_of (table_nodes es duration)
 
 -- ---- what they say
 
+-- one run for all samples, where there are any
+abbrev pub one_run : {Run : Type 0} → List Extent → Run → List Run
+one_run [] run = []
+one_run (e ∷ es) run = run ∷ []
+
 -- the tables of samples that were written
 abbrev pub written_tables : List Extent → (duration timescale : ℕ) → Tables
 written_tables es duration timescale = record {
   timescale = timescale;
   sizes = sizes_of es;
-  times = (if length es == 0 then [] else record { count = length es; duration = duration } ∷ []);
-  runs = (if length es == 0 then [] else record { first = 1; samples = 1; description = 1 } ∷ []);
+  times = one_run es (record { count = length es; duration = duration });
+  runs = one_run es (record { first = 1; samples = 1; description = 1 });
   offsets = places_of es;
 }
 
