@@ -1,5 +1,5 @@
 -- A walk from atom to atom.
-use Rattle.std.proofs.Common.{◌≡◌, ℕ, zero, suc, ◌+◌, ◌-◌, ◌≤◌, ◌<◌, Bool, true, false, List, [], ◌∷◌, length, Option, Some, None, Result, Ok, Err, refl, sym, ap, ◌∙◌, arith, cond}
+use Rattle.std.proofs.Common.{◌≡◌, ℕ, zero, suc, ◌-◌, ◌≤◌, ◌<◌, Bool, true, false, List, [], ◌∷◌, Option, Some, None, Ok, refl, sym, ap, ◌∙◌, arith}
 use Rattle.std.specs.List.{find}
 use Rattle.qt_atoms.specs.declared.atom.Atom.{Atom}
 use Rattle.qt_atoms.specs.declared.atom.Step.{Step}
@@ -7,7 +7,7 @@ use Rattle.qt_atoms.specs.declared.atom.Step.TheVariants as steps
 use Rattle.qt_atoms.specs.declared.atom.AtomFault.{AtomFault}
 use Rattle.qt_atoms.specs.declared.atom.AtomFault.TheVariants as faults
 use Rattle.pw_outside.specs.Reading.{Fails}
-use Rattle.qt_atoms.specs.Atoms.{Walk, Sized, bad_size, told_fault, and_then, atom_at, walk_over, walk, first_in, found_or, none_or_bad, StartsAt, LiesIn}
+use Rattle.qt_atoms.specs.Atoms.{Walk, Sized, bad_size, told_fault, and_then, atom_at, walk_over, walk, first_in, found_or, none_or_bad, StartsAt}
 
 -- the bytes of an atom are passed over
 pub passed : (file : List ℕ) (end : ℕ) (top : Bool) (left inside : ℕ) → inside ≤ left → walk_over file end top left inside ≡ walk_over file end top (left - inside) 0
@@ -43,6 +43,28 @@ walk-on file at end top a lt s =
     let lies = s.1 in
     let e : ((end - at) - 1) - ((a.end - a.at) - 1) ≡ end - a.end = omega (arith, s.0, lies.begins, lies.head, lies.within, lies.ends) in
     passed file end top ((end - at) - 1) ((a.end - a.at) - 1) (omega (arith, s.0, lies.begins, lies.head, lies.within, lies.ends)) ∙ ap (λ m. walk_over file end top m 0) e
+
+none-whole : (found : Option Atom) (bad : Option ℕ) → found_or found (none_or_bad bad) ≡ Ok None → bad ≡ None
+none-whole None None h = refl
+none-whole None (Some place) h = grind arith
+none-whole (Some a) bad h = grind arith
+
+-- the walk from an atom on, the walk that ends here, and the walk that a bad size ends
+pub walk_atom : (file : List ℕ) (at end : ℕ) (top : Bool) (a : Atom) → at < end → atom_at file at end top ≡ Ok (steps.Atom a) → StartsAt at end (steps.Atom a)
+    → walk file at end top ≡ record { atoms = a ∷ (walk file a.end end top).atoms; bad = (walk file a.end end top).bad }
+walk_atom file at end top a lt h s =
+    walk-step file at end top lt ∙ ap (λ r. and_then r (λ b. walk_over file end top ((end - at) - 1) ((b.end - b.at) - 1))) h
+    ∙ ap (λ (w : Walk). (let v : Walk = record { atoms = a ∷ w.atoms; bad = w.bad } in v)) (walk-on file at end top a lt s)
+
+pub walk_end : (file : List ℕ) (at end : ℕ) (top : Bool) → at < end → atom_at file at end top ≡ Ok steps.End → walk file at end top ≡ record { atoms = []; bad = None }
+walk_end file at end top lt h = walk-step file at end top lt ∙ ap (λ r. and_then r (λ b. walk_over file end top ((end - at) - 1) ((b.end - b.at) - 1))) h
+
+pub walk_bad : (file : List ℕ) (at end : ℕ) (top : Bool) (place : ℕ) → at < end → atom_at file at end top ≡ bad_size place → walk file at end top ≡ record { atoms = []; bad = Some place }
+walk_bad file at end top place lt h = walk-step file at end top lt ∙ ap (λ r. and_then r (λ b. walk_over file end top ((end - at) - 1) ((b.end - b.at) - 1))) h
+
+-- a walk in which no atom passes a test has no bad size, where that is all that was found
+pub none_is_whole : (test : Atom → Bool) (w : Walk) → first_in test w ≡ Ok None → w.bad ≡ None
+none_is_whole test w h = none-whole (find test w.atoms) w.bad h
 
 -- ---- the first of a walk
 

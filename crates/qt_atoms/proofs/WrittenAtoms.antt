@@ -1,18 +1,16 @@
 -- Atoms and numbers that were written are read.
-use Rattle.std.proofs.Common.{◌≡◌, ℕ, ◌+◌, ◌-◌, ◌≤◌, ◌<◌, ◌^◌, Bool, true, false, nat_lt, nat_eq, List, [], ◌∷◌, ◌++◌, length, take, drop, Result, Ok, Err, refl, sym, ap, ◌∙◌, arith, append_assoc}
-use Rattle.std.specs.Prelude.{◌==◌}
+use Rattle.std.proofs.Common.{◌≡◌, ℕ, ◌+◌, ◌-◌, ◌≤◌, ◌<◌, ◌^◌, Bool, false, nat_lt, nat_eq, List, [], ◌∷◌, ◌++◌, length, take, drop, Ok, refl, sym, ap, ◌∙◌, arith, append_assoc}
 use Rattle.std.specs.Int.{Width, w32, w64, byte_len, to_be_bytes, from_be_bytes}
 use Rattle.std.proofs.lemmas.Bool.Decides.{nat_tests}
 use Rattle.std.proofs.lemmas.List.{take_at, drop_at, drop-drop}
 use Rattle.std.proofs.lemmas.Nat.{from_be_bytes-to_be_bytes_4, from_be_bytes-to_be_bytes_8}
-use Rattle.qt_atoms.specs.declared.atom.Step.{Step}
 use Rattle.qt_atoms.specs.declared.atom.Step.TheVariants as steps
 use Rattle.qt_atoms.specs.Atoms.{number_in, kind_in, framed, atom_at}
-use Rattle.qt_atoms.specs.Written.{atom, ended, begun_atom, with_number, Node, atom_of, IsNode, placed, rows}
-use Rattle.std.proofs.Common.{Option, None}
+use Rattle.qt_atoms.specs.Written.{atom, ended, begun_atom, Node, atom_of, IsNode, placed, rows}
+use Rattle.std.proofs.Common.{None}
 use Rattle.std.specs.List.{flat_map, AllByRecursion}
 use Rattle.qt_atoms.specs.declared.atom.Atom.{Atom}
-use Rattle.qt_atoms.specs.Atoms.{Walk, Sized, and_then, walk, walk_over, StartsAt, LiesIn}
+use Rattle.qt_atoms.specs.Atoms.{Walk, and_then, walk, walk_over, StartsAt, LiesIn}
 use Rattle.qt_atoms.proofs.Walks.{walk-none, walk-step, walk-on}
 use Rattle.std.proofs.Common.{length-append}
 

@@ -1,4 +1,4 @@
-use Rattle.std.proofs.Common.{refl, Ok}
+use Rattle.std.proofs.Common.{refl}
 use Rattle.pw_outside.specs.Reading.{bytes_of}
 use Rattle.qt_atoms.proofs.Heads.{ok-is, head-size, head-kind}
 use Rattle.qt_atoms.proofs.next.head_of.Goals as goal

@@ -1,4 +1,4 @@
-use Rattle.std.proofs.Common.{◌≡◌, ℕ, ◌-◌, ◌≤◌}
+use Rattle.std.proofs.Common.{◌≡◌, ◌-◌, ◌≤◌}
 use Rattle.pw_outside.specs.Reading.{Told}
 use Rattle.qt_atoms.specs.Atoms.{walk, first_in, is_one_of}
 use Rattle.qt_atoms.proofs.walking.first_of.Given as goal

@@ -1,0 +1,3 @@
+pub mod Movie
+pub mod Ranges
+pub mod MovieBytes

@@ -1,0 +1,62 @@
+//! Faults, and numbers at a place of a store.
+
+ghost use Rattle.std.specs.Prelude.{◌≡◌, ◌≤◌, ◌<◌, ◌+◌, ◌^◌, length, Ok};
+ghost use Rattle.std.specs.Int.{w16, w32};
+ghost use Rattle.pw_outside.specs.Ports.{CountsFault};
+ghost use Rattle.pw_outside.specs.Reading.{Answers, Told};
+ghost use Rattle.qt_atoms.specs.Atoms.{bytes_in, number_in};
+ghost use Rattle.qt_tables.specs.declared.fault.MovieFault.TheVariants as faults;
+ghost use Rattle.qt_tables.specs.Faults.{told_fault, is_failed};
+
+use pw_outside::{ByteStore, fill_at};
+use qt_tables::{MovieFault, MovieKind};
+
+pub(crate) fn bad(kind: MovieKind, place: u64) -> MovieFault
+    ensures { result ≡ faults.Bad kind place }
+{
+    MovieFault::Bad { kind, place }
+}
+
+/// The `N` bytes at a place, which the store has. A store that doesn't tell its bytes may have fewer: `TableShape` at `table`.
+pub(crate) fn bytes_of<M: ByteStore, const N: usize>(
+    store: &mut M,
+    place: u64,
+    table: u64,
+) -> Result<[u8; N], MovieFault>
+    requires inside { Told (M.bytes store.old) (λ file. place + N ≤ length file) }
+    requires room { place + N < 2 ^ 64 }
+    ensures value { Told (M.bytes store.old) (λ file. Answers told_fault (λ x. x) result (Ok (bytes_in N file place))) }
+    ensures bytes { M.bytes store.new ≡ M.bytes store.old }
+    ensures cause { CountsFault (M.faults store.old) (M.faults store.new) (is_failed result) }
+{
+    let mut piece = [0u8; N];
+    let count = fill_at(store, place, &mut piece)?;
+    if count < N {
+        return Err(bad(MovieKind::TableShape, table));
+    }
+    Ok(piece)
+}
+
+/// The number of 16 bits at a place, as `bytes_of`.
+pub(crate) fn u16_of<M: ByteStore>(store: &mut M, place: u64, table: u64) -> Result<u16, MovieFault>
+    requires inside { Told (M.bytes store.old) (λ file. place + 2 ≤ length file) }
+    requires room { place + 2 < 2 ^ 64 }
+    ensures value { Told (M.bytes store.old) (λ file. Answers told_fault (λ x. x) result (Ok (number_in w16 file place))) }
+    ensures bytes { M.bytes store.new ≡ M.bytes store.old }
+    ensures cause { CountsFault (M.faults store.old) (M.faults store.new) (is_failed result) }
+{
+    let piece = bytes_of::<M, 2>(store, place, table)?;
+    Ok(u16::from_be_bytes(piece))
+}
+
+/// The number of 32 bits at a place, as `bytes_of`.
+pub(crate) fn u32_of<M: ByteStore>(store: &mut M, place: u64, table: u64) -> Result<u32, MovieFault>
+    requires inside { Told (M.bytes store.old) (λ file. place + 4 ≤ length file) }
+    requires room { place + 4 < 2 ^ 64 }
+    ensures value { Told (M.bytes store.old) (λ file. Answers told_fault (λ x. x) result (Ok (number_in w32 file place))) }
+    ensures bytes { M.bytes store.new ≡ M.bytes store.old }
+    ensures cause { CountsFault (M.faults store.old) (M.faults store.new) (is_failed result) }
+{
+    let piece = bytes_of::<M, 4>(store, place, table)?;
+    Ok(u32::from_be_bytes(piece))
+}
