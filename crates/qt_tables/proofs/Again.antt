@@ -1,16 +1,12 @@
 -- Tables that were written are read, and give the samples that were written.
-use Rattle.std.proofs.Common.{◌≡◌, ℕ, zero, suc, ◌+◌, ◌-◌, ◌*◌, ◌≤◌, ◌<◌, ◌^◌, Bool, true, false, nat_le, nat_lt, nat_eq, List, [], ◌∷◌, ◌++◌, Option, Some, None, Result, Ok, Err, length, map, take, drop, replicate, sum_by, refl, sym, ap, ◌∙◌, arith, append_assoc, length-append, get_or}
-use Rattle.std.specs.Prelude.{codes, ◌==◌, if◌then◌else◌, not, slice_get}
-use Rattle.std.specs.List.{flat_map, list_all, list_any, All, AllByRecursion}
-use Rattle.std.specs.Int.{Width, w32, w64, byte_len, to_be_bytes, from_be_bytes}
+use Rattle.std.proofs.Common.{◌≡◌, ℕ, ◌+◌, ◌≤◌, true, nat_le, List, [], ◌∷◌, length, take, drop, replicate, refl, ap, ◌∙◌, arith, length-append}
 use Rattle.std.proofs.lemmas.Bool.Decides.{nat_tests}
-use Rattle.std.proofs.lemmas.List.{append-nil, length-map, length-replicate, take_at, drop_at, drop-drop, length-take-le, length-drop}
+use Rattle.std.proofs.lemmas.List.{append-nil, length-take-le, length-drop}
 use Rattle.std.proofs.lemmas.List.Sums.{sum_by-cons}
-use Rattle.qt_tables.specs.declared.runs.TimeRun.{TimeRun}
 use Rattle.qt_tables.specs.declared.runs.ChunkRun.{ChunkRun}
 use Rattle.qt_tables.specs.declared.runs.Sample.{Sample}
 use Rattle.qt_tables.specs.declared.writer.Extent.{Extent}
-use Rattle.qt_tables.specs.Samples.{Tables, Chunk, samples, durations, run_of, run_from, no_run, chunk_of, chunks_from, chunks, held_by, samples_at, samples_in}
+use Rattle.qt_tables.specs.Samples.{Tables, Chunk, samples, durations, run_of, chunk_of, chunks_from, chunks, held_by, samples_at, samples_in}
 use Rattle.qt_tables.specs.Tables.{AreTables}
 use Rattle.qt_tables.specs.Writing.{sizes_of, places_of, written_tables, written_samples}
 use Rattle.qt_tables.proofs.Places.{length-samples_at, length-durations}

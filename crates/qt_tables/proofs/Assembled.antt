@@ -1,26 +1,25 @@
 -- All tables that were written, read together.
-use Rattle.std.proofs.Common.{◌≡◌, ℕ, zero, suc, ◌+◌, ◌-◌, ◌*◌, ◌≤◌, ◌<◌, ◌^◌, Bool, true, false, nat_lt, List, [], ◌∷◌, ◌++◌, Option, Some, None, Result, Ok, Err, length, map, sum_by, refl, sym, ap, ◌∙◌, arith, append_assoc, length-append, get_or}
-use Rattle.std.specs.Prelude.{codes, ◌==◌, if◌then◌else◌}
-use Rattle.std.specs.List.{flat_map, list_all, All, AllByRecursion}
+use Rattle.std.proofs.Common.{◌≡◌, ℕ, suc, ◌+◌, ◌≤◌, ◌<◌, ◌^◌, Bool, true, false, nat_lt, List, [], ◌∷◌, ◌++◌, Some, None, Ok, length, sum_by, refl, sym, ap, ◌∙◌, arith, append_assoc, length-append}
+use Rattle.std.specs.Prelude.{codes, if◌then◌else◌}
+use Rattle.std.specs.List.{flat_map, AllByRecursion}
 use Rattle.std.specs.Int.{w32, w64, to_be_bytes}
 use Rattle.std.proofs.lemmas.Bool.Decides.{nat_tests}
 use Rattle.std.proofs.lemmas.List.{append-nil, length-map}
 use Rattle.std.proofs.lemmas.List.Elements.{recursion_from_All}
 use Rattle.qt_atoms.specs.declared.atom.Atom.{Atom}
-use Rattle.qt_atoms.specs.Atoms.{number_in, Walk, Sized, walk, children, child, child_of, first_in, is_one_of}
+use Rattle.qt_atoms.specs.Atoms.{number_in, Walk, walk, children, child_of, first_in, is_one_of}
 use Rattle.qt_atoms.specs.Written.{atom, rows, Node, atom_of, IsNode, placed}
 use Rattle.qt_atoms.proofs.WrittenAtoms.{walk_written}
 use Rattle.qt_tables.specs.declared.runs.TimeRun.{TimeRun}
-use Rattle.qt_tables.specs.declared.runs.ChunkRun.{ChunkRun}
 use Rattle.qt_tables.specs.declared.writer.Extent.{Extent}
 use Rattle.qt_tables.specs.Laws.{AreExtents}
-use Rattle.qt_tables.specs.Samples.{Tables, chunks, held_by}
-use Rattle.qt_tables.specs.Tables.{body_length, table_in, timescale_in, sizes_in, times_in, runs_in, descriptions_of, offsets_in, tables_in}
-use Rattle.qt_tables.specs.Writing.{numbers_bytes, times_body, runs_body, sizes_of, sizes_body, places_of, are_near, near_body, far_body, places_node, table_nodes, tables_bytes, one_run, written_tables}
-use Rattle.qt_tables.proofs.Again.{one_each, held-ones}
+use Rattle.qt_tables.specs.Samples.{chunks, held_by}
+use Rattle.qt_tables.specs.Tables.{table_in, timescale_in, sizes_in, times_in, runs_in, descriptions_of, offsets_in, tables_in}
+use Rattle.qt_tables.specs.Writing.{numbers_bytes, times_body, runs_body, sizes_of, sizes_body, places_of, are_near, near_body, far_body, places_node, tables_bytes, one_run, written_tables}
+use Rattle.qt_tables.proofs.Again.{held-ones}
 use Rattle.qt_tables.proofs.Reread.{placed_at, numbers-at, longs-at, times-read, times-read-none, runs-read, runs-read-none, sizes-read, near-read, far-read, descriptions-read, tables-read, is-not-none}
 use Rattle.qt_tables.proofs.Chunks.{and-left, and-right}
-use Rattle.qt_tables.proofs.Wrapping.{length-times_body, length-runs_body, length-sizes_body, length-near_body, length-far_body, length-numbers}
+use Rattle.qt_tables.proofs.Wrapping.{length-times_body, length-runs_body, length-sizes_body, length-near_body, length-far_body}
 
 -- ---- an atom that stands at a place
 

@@ -1,23 +1,22 @@
 -- Tables that were written are read.
-use Rattle.std.proofs.Common.{◌≡◌, ℕ, zero, suc, ◌+◌, ◌-◌, ◌*◌, ◌≤◌, ◌<◌, ◌^◌, Bool, true, false, nat_le, nat_lt, nat_eq, List, [], ◌∷◌, ◌++◌, Option, Some, None, Result, Ok, Err, length, map, take, drop, sum_by, refl, sym, ap, ◌∙◌, arith, append_assoc, length-append, get_or}
-use Rattle.std.specs.Prelude.{codes, ◌==◌, if◌then◌else◌, not}
-use Rattle.std.specs.List.{flat_map, list_all, list_any, All, AllByRecursion}
-use Rattle.std.specs.Int.{Width, w32, w64, byte_len, to_be_bytes, from_be_bytes}
+use Rattle.std.proofs.Common.{◌≡◌, ℕ, zero, suc, ◌+◌, ◌*◌, ◌≤◌, ◌<◌, ◌^◌, true, false, nat_le, nat_lt, List, [], ◌∷◌, ◌++◌, Some, Ok, length, take, drop, sum_by, refl, sym, ap, ◌∙◌, arith, append_assoc, length-append, get_or}
+use Rattle.std.specs.Prelude.{codes, ◌==◌}
+use Rattle.std.specs.List.{flat_map, list_any, AllByRecursion}
+use Rattle.std.specs.Int.{w32, w64, to_be_bytes, from_be_bytes}
 use Rattle.std.proofs.Math.Nat.{mul-suc}
 use Rattle.std.proofs.lemmas.Bool.Decides.{nat_tests}
-use Rattle.std.proofs.lemmas.List.{append-nil, length-map, take-append-le, drop-append-le, length-drop}
+use Rattle.std.proofs.lemmas.List.{take-append-le, drop-append-le, length-drop}
 use Rattle.std.proofs.Math.Seq.{drop-append-add}
-use Rattle.pw_outside.specs.Reading.{bind, refuse}
+use Rattle.pw_outside.specs.Reading.{bind}
 use Rattle.qt_atoms.specs.declared.atom.Atom.{Atom}
-use Rattle.qt_atoms.specs.Atoms.{number_in, Walk, children, child, child_of, first_in, is_one_of}
-use Rattle.qt_atoms.specs.Written.{atom, rows, Node, atom_of, IsNode, placed}
-use Rattle.qt_atoms.proofs.WrittenAtoms.{rows_written, rows_written_long, walk_written}
+use Rattle.qt_atoms.specs.Atoms.{number_in, child, child_of}
+use Rattle.qt_atoms.specs.Written.{atom, rows}
+use Rattle.qt_atoms.proofs.WrittenAtoms.{rows_written, rows_written_long}
 use Rattle.qt_tables.specs.declared.runs.TimeRun.{TimeRun}
 use Rattle.qt_tables.specs.declared.runs.ChunkRun.{ChunkRun}
-use Rattle.qt_tables.specs.declared.writer.Extent.{Extent}
-use Rattle.qt_tables.specs.Samples.{Tables, chunks, held_by}
-use Rattle.qt_tables.specs.Tables.{body_length, table_in, count_in, timescale_in, sizes_in, times_in, runs_in, descriptions_of, offsets_in, offsets_table_in, tables_in}
-use Rattle.qt_tables.specs.Writing.{numbers_bytes, times_body, runs_body, sizes_of, sizes_body, places_of, are_near, near_body, far_body}
+use Rattle.qt_tables.specs.Samples.{chunks, held_by}
+use Rattle.qt_tables.specs.Tables.{body_length, table_in, count_in, timescale_in, sizes_in, times_in, runs_in, descriptions_of, offsets_in, tables_in}
+use Rattle.qt_tables.specs.Writing.{numbers_bytes}
 
 -- ---- rows
 

@@ -1,11 +1,9 @@
 -- The tables of samples that lie in chunks of their own, each with the same duration, as they are written
 -- (QuickTime File Format, sample table atoms; one entry for all samples is our own).
-use Rattle.std.specs.Prelude.{◌≡◌, ℕ, ◌+◌, ◌≤◌, ◌<◌, ◌^◌, ◌==◌, nat_lt, Bool, List, [], ◌∷◌, ◌++◌, length, map, codes, if◌then◌else◌}
-use Rattle.std.specs.List.{flat_map, list_all, All}
+use Rattle.std.specs.Prelude.{ℕ, ◌^◌, ◌==◌, nat_lt, Bool, List, [], ◌∷◌, ◌++◌, length, map, codes, if◌then◌else◌}
+use Rattle.std.specs.List.{flat_map, list_all}
 use Rattle.std.specs.Int.{w32, w64, to_be_bytes}
 use Rattle.qt_atoms.specs.Written.{Node, atom_of}
-use Rattle.qt_tables.specs.declared.runs.TimeRun.{TimeRun}
-use Rattle.qt_tables.specs.declared.runs.ChunkRun.{ChunkRun}
 use Rattle.qt_tables.specs.declared.runs.Sample.{Sample}
 use Rattle.qt_tables.specs.declared.writer.Extent.{Extent}
 use Rattle.qt_tables.specs.Samples.{Tables}
