@@ -1,6 +1,6 @@
 -- What is written of a movie: one spelling for each head and each list of frame sizes. Atoms and fields by the QuickTime File Format;
 -- which atoms there are, and their order, are our own.
-use Rattle.std.specs.Prelude.{◌≡◌, ℕ, ◌+◌, ◌*◌, ◌^◌, ◌<◌, ◌≤◌, Bool, true, false, List, [], ◌∷◌, ◌++◌, length, replicate, codes, if◌then◌else◌}
+use Rattle.std.specs.Prelude.{◌≡◌, ℕ, ◌+◌, ◌*◌, ◌^◌, ◌<◌, ◌≤◌, Bool, true, false, List, [], ◌∷◌, ◌++◌, length, replicate, map, codes, if◌then◌else◌}
 use Rattle.std.specs.List.{flat_map, All}
 use Rattle.std.specs.Int.{w16, w32, to_be_bytes}
 use Rattle.pw_planes.specs.declared.kinds.Chroma.{Chroma}
@@ -9,6 +9,8 @@ use Rattle.pw_planes.specs.declared.kinds.AlphaKind.{AlphaKind}
 use Rattle.pw_planes.specs.declared.kinds.AlphaKind.TheVariants as alphas
 use Rattle.pic_y4m.specs.declared.head.Head.{Head}
 use Rattle.qt_atoms.specs.Written.{Node, atom, atom_of}
+use Rattle.qt_tables.specs.declared.writer.Extent.{Extent}
+use Rattle.qt_tables.specs.Writing.{table_nodes}
 
 abbrev pub be16 : ℕ → List ℕ
 be16 n = to_be_bytes w16 n
@@ -92,3 +94,70 @@ description_bytes head = be32 86 ++ kind_of head ++ zeros 6 ++ be16 1 ++ be16 0 
 -- version and flags, one description
 unfoldable pub stsd_body : Head → List ℕ
 stsd_body head = be32 0 ++ be32 1 ++ description_bytes head
+
+-- ---- the movie atom
+
+abbrev pub nodes_bytes : List Node → List ℕ
+nodes_bytes nodes = flat_map atom_of nodes
+
+abbrev pub dinf_nodes : List Node
+dinf_nodes = node (codes "dref") dref_body ∷ []
+
+abbrev pub stbl_nodes : Head → List Extent → List Node
+stbl_nodes head es = node (codes "stsd") (stsd_body head) ∷ table_nodes es head.den
+
+abbrev pub minf_nodes : Head → List Extent → List Node
+minf_nodes head es =
+    node (codes "vmhd") vmhd_body
+    ∷ node (codes "hdlr") (hdlr_body (codes "dhlr") (codes "alis"))
+    ∷ node (codes "dinf") (nodes_bytes dinf_nodes)
+    ∷ node (codes "stbl") (nodes_bytes (stbl_nodes head es)) ∷ []
+
+-- the duration of so many frames
+abbrev pub duration_of : Head → List Extent → ℕ
+duration_of head es = length es * head.den
+
+abbrev pub mdia_nodes : Head → List Extent → List Node
+mdia_nodes head es =
+    node (codes "mdhd") (mdhd_body head.num (duration_of head es))
+    ∷ node (codes "hdlr") (hdlr_body (codes "mhlr") (codes "vide"))
+    ∷ node (codes "minf") (nodes_bytes (minf_nodes head es)) ∷ []
+
+abbrev pub trak_nodes : Head → List Extent → List Node
+trak_nodes head es =
+    node (codes "tkhd") (tkhd_body (duration_of head es) head.width head.height)
+    ∷ node (codes "mdia") (nodes_bytes (mdia_nodes head es)) ∷ []
+
+abbrev pub moov_nodes : Head → List Extent → List Node
+moov_nodes head es =
+    node (codes "mvhd") (mvhd_body head.num (duration_of head es))
+    ∷ node (codes "trak") (nodes_bytes (trak_nodes head es)) ∷ []
+
+-- the movie atom over frames that lie at these places
+unfoldable pub moov_bytes : Head → List Extent → List ℕ
+moov_bytes head es = atom (codes "moov") (nodes_bytes (moov_nodes head es))
+
+-- ---- the whole movie
+
+-- Where frames of these sizes lie, the first data atom at this place: each behind the 8 bytes of its data atom's head.
+abbrev pub extents_from : ℕ → List ℕ → List Extent
+extents_from place [] = []
+extents_from place (size ∷ sizes) = record { at = place + 8; size = size } ∷ extents_from (place + (8 + size)) sizes
+
+-- the same behind the file type
+abbrev pub extents : List ℕ → List Extent
+extents sizes = extents_from 20 sizes
+
+-- what a writer of a movie keeps: the form of the frames, their sizes, and for how many more frames it has memory
+pub record WriterState : Type 0 where
+  pub head : Head
+  pub sizes : List ℕ
+  pub spare : ℕ
+
+-- a frame behind the head of its data atom
+abbrev pub frame_bytes : List ℕ → List ℕ
+frame_bytes frame = frame_head_bytes (length frame) ++ frame
+
+-- the movie of these frames
+abbrev pub movie_bytes : Head → (frames : List (List ℕ)) → List ℕ
+movie_bytes head frames = ftyp_bytes ++ flat_map frame_bytes frames ++ moov_bytes head (extents (map length frames))

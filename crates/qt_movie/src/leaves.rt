@@ -2,7 +2,7 @@
 
 ghost use Rattle.std.specs.Prelude.{◌≡◌, ◌<◌, ◌+◌, ◌*◌, ◌^◌, ◌++◌, length, codes, IfOk, OnOk};
 ghost use Rattle.qt_atoms.specs.Written.{atom};
-ghost use Rattle.qt_movie.specs.MovieBytes.{mvhd_body, tkhd_body, mdhd_body, hdlr_body, vmhd_body, dref_body, is_422, kind_of, bits_of, description_bytes, stsd_body};
+ghost use Rattle.qt_movie.specs.MovieBytes.{mvhd_body, tkhd_body, mdhd_body, hdlr_body, vmhd_body, dref_body, dinf_nodes, nodes_bytes, kind_of, bits_of, description_bytes, stsd_body};
 
 use pic_y4m::Head;
 use pw_fields::{be16, be32};
@@ -173,9 +173,8 @@ fn put_dref(atoms: &mut AtomWriter) -> Result<(), NoMemory>
 }
 
 /// Appends the information on where the data lies.
-#[tactic(auto, using(crate::proofs::Contained::contained))]
 pub(crate) fn put_dinf(atoms: &mut AtomWriter) -> Result<(), NoMemory>
-    ensures atom { OnOk result (atoms.new ≡ atoms.old ++ atom (codes "dinf") (atom (codes "dref") dref_body)) }
+    ensures atom { OnOk result (atoms.new ≡ atoms.old ++ atom (codes "dinf") (nodes_bytes dinf_nodes)) }
     ensures size { OnOk result (length atoms.new ≡ length atoms.old + 36) }
 {
     let begun = atoms.begin(*b"dinf")?;

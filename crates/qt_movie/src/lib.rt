@@ -1,6 +1,7 @@
 //! Movies of ProRes pictures in QuickTime files, read and written.
 #![tactic(auto)]
 
+mod containers;
 mod description;
 mod external;
 mod fields;
@@ -9,8 +10,10 @@ mod moov;
 mod parts;
 mod reader;
 mod track;
+mod writer;
 
 pub use description::Description;
 pub use parts::Parts;
 pub use qt_tables::{MovieFault, MovieKind, Sample};
 pub use reader::{MovieReader, Track};
+pub use writer::MovieWriter;

@@ -1,11 +1,10 @@
 -- Where a sample stands in the list that is written out.
-use Rattle.std.proofs.Common.{◌≡◌, ℕ, zero, suc, ◌-◌, ◌+◌, ◌*◌, ◌≤◌, ◌<◌, List, [], ◌∷◌, ◌++◌, Option, Some, None, length, take, drop, replicate, sum_by, refl, sym, ap, ◌∙◌, arith, length-append, length-take-le, length-take, length-drop, get_or}
+use Rattle.std.proofs.Common.{◌≡◌, ℕ, zero, suc, ◌-◌, ◌+◌, ◌*◌, ◌≤◌, ◌<◌, List, [], ◌∷◌, ◌++◌, Some, length, take, drop, replicate, sum_by, refl, sym, ap, ◌∙◌, arith, length-append, length-take-le, length-take, length-drop, get_or}
 use Rattle.std.specs.Prelude.{slice_get}
-use Rattle.std.proofs.lemmas.List.{length-replicate, get_or-replicate, drop-drop, drop-take, take-take, take-append-drop}
+use Rattle.std.proofs.lemmas.List.{length-replicate, get_or-replicate, drop-drop, drop-take, take-take}
 use Rattle.std.proofs.lemmas.List.Sums.{sum_by-cons, sum_by-take-drop, sum_by_more}
-use Rattle.std.proofs.lemmas.Option.{slice_get-get_or, get_or_from_slice_get, slice_get_within}
+use Rattle.std.proofs.lemmas.Option.{slice_get-get_or, slice_get_within}
 use Rattle.qt_tables.specs.declared.runs.TimeRun.{TimeRun}
-use Rattle.qt_tables.specs.declared.runs.ChunkRun.{ChunkRun}
 use Rattle.qt_tables.specs.declared.runs.Sample.{Sample}
 use Rattle.qt_tables.specs.Samples.{Chunk, durations, samples_at, samples_in, held_by}
 use Rattle.qt_tables.specs.Sums.{bytes_before, timed_before}

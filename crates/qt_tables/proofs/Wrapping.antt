@@ -1,10 +1,10 @@
 -- Atoms written round bodies.
-use Rattle.std.proofs.Common.{◌≡◌, ℕ, ◌+◌, ◌-◌, ◌*◌, ◌≤◌, ◌<◌, ◌^◌, Bool, true, false, List, [], ◌∷◌, ◌++◌, length, map, refl, sym, ap, ◌∙◌, arith, append_assoc, length-append}
+use Rattle.std.proofs.Common.{◌≡◌, ℕ, ◌+◌, ◌-◌, ◌*◌, ◌≤◌, ◌<◌, ◌^◌, Bool, true, false, List, [], ◌∷◌, ◌++◌, length, refl, sym, ap, ◌∙◌, arith, append_assoc, length-append}
 use Rattle.std.specs.Prelude.{codes, ◌==◌, if◌then◌else◌}
 use Rattle.std.specs.List.{flat_map}
-use Rattle.std.specs.Int.{w32, w64, to_be_bytes}
+use Rattle.std.specs.Int.{w64, to_be_bytes}
 use Rattle.std.proofs.lemmas.List.{append-nil, length-map}
-use Rattle.qt_atoms.specs.Written.{atom, begun_atom, ended, Node, atom_of}
+use Rattle.qt_atoms.specs.Written.{atom, begun_atom, ended, atom_of}
 use Rattle.qt_atoms.proofs.WrittenAtoms.{ended_atom}
 use Rattle.qt_tables.specs.declared.writer.Extent.{Extent}
 use Rattle.qt_tables.specs.Writing.{numbers_bytes, sizes_of, places_of, times_body, runs_body, sizes_body, near_body, far_body, places_node, tables_bytes}

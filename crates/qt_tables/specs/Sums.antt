@@ -1,8 +1,8 @@
 -- Running sums over tables.
-use Rattle.std.specs.Prelude.{◌≡◌, ℕ, zero, suc, ◌+◌, ◌-◌, ◌<◌, ◌≤◌, min, List, [], ◌∷◌, length, take, sum_by, Option, Some, None, slice_get, slice_index}
+use Rattle.std.specs.Prelude.{◌≡◌, ℕ, ◌+◌, ◌-◌, ◌<◌, ◌≤◌, min, List, length, take, sum_by, Option, Some, None, slice_get, slice_index}
 use Rattle.qt_tables.specs.declared.runs.TimeRun.{TimeRun}
 use Rattle.qt_tables.specs.declared.runs.ChunkRun.{ChunkRun}
-use Rattle.qt_tables.specs.Samples.{Tables, chunk_of, chunks, held_by}
+use Rattle.qt_tables.specs.Samples.{chunk_of, chunks, held_by}
 
 -- what is in front of each of n items, and of all of them
 pub record AreSums (n : ℕ) (before : ℕ → ℕ) (sums : List ℕ) : Type 0 where

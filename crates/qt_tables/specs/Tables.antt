@@ -1,16 +1,16 @@
 -- The sample tables of a track, read from a file (QuickTime File Format, sample table atoms).
-use Rattle.std.specs.Prelude.{◌≡◌, ℕ, zero, suc, ◌+◌, ◌-◌, ◌*◌, ◌^◌, ◌<◌, ◌≤◌, Bool, true, false, not, List, [], ◌∷◌, length, Option, Some, None, Result, Ok, Err, nat_lt, nat_le, ◌==◌, ◌&&◌, ◌||◌, if◌then◌else◌, codes, sum_by, replicate, slice_index_or}
+use Rattle.std.specs.Prelude.{◌≡◌, ℕ, ◌+◌, ◌-◌, ◌*◌, ◌^◌, ◌<◌, ◌≤◌, Bool, true, not, List, [], ◌∷◌, length, Option, Some, None, Ok, nat_lt, nat_le, ◌==◌, ◌&&◌, if◌then◌else◌, codes, sum_by, replicate, slice_index_or}
 use Rattle.std.specs.List.{list_any, All}
-use Rattle.std.specs.Int.{Width, w8, w32, w64}
-use Rattle.pw_outside.specs.Reading.{◌>>=◌, bad, refuse}
+use Rattle.std.specs.Int.{w8, w32, w64}
+use Rattle.pw_outside.specs.Reading.{◌>>=◌, refuse}
 use Rattle.qt_atoms.specs.declared.atom.Atom.{Atom}
 use Rattle.qt_atoms.specs.Atoms.{number_in, child, child_of, is_kind}
 use Rattle.qt_atoms.specs.Written.{rows}
-use Rattle.qt_tables.specs.declared.fault.MovieKind.TheVariants.{AtomSize, MissingTable, TableShape, TablesDisagree, TooManySamples}
+use Rattle.qt_tables.specs.declared.fault.MovieKind.TheVariants.{MissingTable, TableShape, TablesDisagree, TooManySamples}
 use Rattle.qt_tables.specs.Faults.{Found, some_or, sized}
 use Rattle.qt_tables.specs.declared.runs.TimeRun.{TimeRun}
 use Rattle.qt_tables.specs.declared.runs.ChunkRun.{ChunkRun}
-use Rattle.qt_tables.specs.Samples.{Tables, chunks, held_by, samples}
+use Rattle.qt_tables.specs.Samples.{Tables, chunks, held_by}
 
 abbrev pub body_length : Atom → ℕ
 body_length a = a.end - a.body

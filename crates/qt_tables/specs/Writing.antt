@@ -1,11 +1,9 @@
 -- The tables of samples that lie in chunks of their own, each with the same duration, as they are written
 -- (QuickTime File Format, sample table atoms; one entry for all samples is our own).
-use Rattle.std.specs.Prelude.{◌≡◌, ℕ, ◌+◌, ◌≤◌, ◌<◌, ◌^◌, ◌==◌, nat_lt, Bool, List, [], ◌∷◌, ◌++◌, length, map, codes, if◌then◌else◌}
-use Rattle.std.specs.List.{flat_map, list_all, All}
+use Rattle.std.specs.Prelude.{ℕ, ◌^◌, ◌==◌, nat_lt, Bool, List, [], ◌∷◌, ◌++◌, length, map, codes, if◌then◌else◌}
+use Rattle.std.specs.List.{flat_map, list_all}
 use Rattle.std.specs.Int.{w32, w64, to_be_bytes}
 use Rattle.qt_atoms.specs.Written.{Node, atom_of}
-use Rattle.qt_tables.specs.declared.runs.TimeRun.{TimeRun}
-use Rattle.qt_tables.specs.declared.runs.ChunkRun.{ChunkRun}
 use Rattle.qt_tables.specs.declared.runs.Sample.{Sample}
 use Rattle.qt_tables.specs.declared.writer.Extent.{Extent}
 use Rattle.qt_tables.specs.Samples.{Tables}
@@ -61,13 +59,18 @@ tables_bytes es duration = flat_map atom_of (table_nodes es duration)
 
 -- ---- what they say
 
+-- one run for all samples, where there are any
+abbrev pub one_run : {Run : Type 0} → List Extent → Run → List Run
+one_run [] run = []
+one_run (e ∷ es) run = run ∷ []
+
 -- the tables of samples that were written
 abbrev pub written_tables : List Extent → (duration timescale : ℕ) → Tables
 written_tables es duration timescale = record {
   timescale = timescale;
   sizes = sizes_of es;
-  times = (if length es == 0 then [] else record { count = length es; duration = duration } ∷ []);
-  runs = (if length es == 0 then [] else record { first = 1; samples = 1; description = 1 } ∷ []);
+  times = one_run es (record { count = length es; duration = duration });
+  runs = one_run es (record { first = 1; samples = 1; description = 1 });
   offsets = places_of es;
 }
 

@@ -4,6 +4,7 @@
 mod fault;
 mod finding;
 mod judging;
+mod laws;
 mod rows;
 mod runs;
 mod sums;
@@ -14,6 +15,7 @@ mod window;
 mod writer;
 
 pub use fault::{MovieFault, MovieKind};
+pub use laws::{samples_are_counted, written_samples_are_given, written_tables_are_read};
 pub use runs::{ChunkRun, Sample, TimeRun};
 pub use tables::SampleTables;
 pub use writer::{Extent, TableWriter};

@@ -175,12 +175,22 @@ fn fault_of(answer: Result<SampleTables, MovieFault>) -> Option<MovieFault> {
     }
 }
 
+// the movie, with four other bytes at a place
+fn changed(place: usize, to: [u8; 4]) -> [u8; 307] {
+    let mut file = MOVIE;
+    if place <= 303 {
+        file[place] = to[0];
+        file[place + 1] = to[1];
+        file[place + 2] = to[2];
+        file[place + 3] = to[3];
+    }
+    file
+}
+
 #[test]
 fn tells_the_first_fault(rt: HostRuntime) {
     for (place, to, kind, at) in FAULTS {
-        assert!(rt; place <= 303);
-        let mut file = MOVIE;
-        file[place..place + 4].copy_from_slice(&to);
+        let file = changed(place, to);
         let answer = tables(&rt, rt.alloc(), &file, 4096, 1000, &MOVIE_STBL, &MOVIE_MDIA);
         let fault = MovieFault::Bad { kind, place: at };
         assert_eq!(rt; fault_of(answer), Some(fault), "{place}");
@@ -285,25 +295,26 @@ fn says_that_a_call_failed(rt: HostRuntime) {
     }
 }
 
-// the tables of samples with these places, of 5 bytes and up, each of duration 4
-fn written(rt: &impl Abort, alloc: Global, places: &[u64]) -> AtomWriter {
-    let mut writer = TableWriter::new(alloc);
-    let mut size = 5;
-    for at in places.iter().take(9) {
-        writer.push(*at, size).expect(rt, "memory");
-        size += 1;
-    }
+fn written(rt: &impl Abort, alloc: Global, writer: &TableWriter) -> AtomWriter {
     let mut atoms = AtomWriter::new(alloc);
     writer.write(4, &mut atoms).expect(rt, "memory");
     atoms
 }
 
+// the tables of samples of 5 and 6 bytes at these places, each of duration 4
+fn written_of_two(rt: &impl Abort, alloc: Global, first: u64, second: u64) -> AtomWriter {
+    let mut writer = TableWriter::new(alloc);
+    writer.push(first, 5).expect(rt, "memory");
+    writer.push(second, 6).expect(rt, "memory");
+    written(rt, alloc, &writer)
+}
+
 #[test]
 fn writes_tables(rt: HostRuntime) {
-    let none = written(&rt, rt.alloc(), &[]);
+    let none = written(&rt, rt.alloc(), &TableWriter::new(rt.alloc()));
     assert_eq!(rt; none.held(), &NO_TABLES[..]);
-    let near = written(&rt, rt.alloc(), &[28, 214]);
+    let near = written_of_two(&rt, rt.alloc(), 28, 214);
     assert_eq!(rt; near.held(), &NEAR_TABLES[..]);
-    let far = written(&rt, rt.alloc(), &[28, 1 << 32]);
+    let far = written_of_two(&rt, rt.alloc(), 28, 1 << 32);
     assert_eq!(rt; far.held(), &FAR_TABLES[..]);
 }

@@ -1,6 +1,5 @@
-use Rattle.std.proofs.Common.{rules, arith, ◌<◌, ◌≤◌, ◌+◌, length}
+use Rattle.std.proofs.Common.{arith, ◌<◌, ◌+◌, length}
 use Rattle.qt_tables.specs.declared.runs.TimeRun.{TimeRun}
-use Rattle.qt_tables.specs.Sums.{timed_before}
 use Rattle.qt_tables.proofs.Places.{duration-at}
 use Rattle.qt_tables.proofs.finding.duration_of.Goals as goal
 

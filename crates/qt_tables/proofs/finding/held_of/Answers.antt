@@ -1,6 +1,5 @@
-use Rattle.std.proofs.Common.{rules, arith, sym, ap, ◌∙◌, ◌≡◌, ◌<◌, ◌≤◌, ◌+◌, ◌-◌, length, get_or}
+use Rattle.std.proofs.Common.{arith, ◌≡◌, ◌<◌, ◌+◌, ◌-◌, length}
 use Rattle.qt_tables.specs.declared.runs.ChunkRun.{ChunkRun}
-use Rattle.qt_tables.specs.Sums.{held_before, InRun}
 use Rattle.qt_tables.proofs.Chunks.{held-first, held-all, some-run, first-of, in-run}
 use Rattle.qt_tables.proofs.finding.held_of.Goals as goal
 

@@ -1,5 +1,4 @@
-use Rattle.std.proofs.Common.{rules, arith, sym, ap, ◌∙◌, ◌≡◌, ◌<◌, ◌≤◌, ◌+◌, ◌-◌, ◌*◌, ◌^◌, length, get_or}
-use Rattle.qt_tables.specs.Sums.{bytes_before}
+use Rattle.std.proofs.Common.{arith}
 use Rattle.qt_tables.proofs.Places.{bytes-between, bytes-rise, bytes-fit}
 use Rattle.qt_tables.proofs.finding.sample_in.Goals as goal
 

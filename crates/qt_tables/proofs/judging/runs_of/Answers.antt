@@ -1,4 +1,4 @@
-use Rattle.std.proofs.Common.{arith, rules, sym, ◌∙◌}
+use Rattle.std.proofs.Common.{rules}
 use Rattle.qt_tables.proofs.Chunks.{runs-of}
 use Rattle.qt_tables.proofs.judging.runs_of.Goals as goal
 

@@ -1,6 +1,6 @@
-use Rattle.std.proofs.Common.{rules, arith, sym, ◌∙◌, ap, ◌≡◌, ◌≤◌, ◌+◌, ◌-◌, ◌*◌, length, get_or}
+use Rattle.std.proofs.Common.{arith, sym, ◌∙◌, ap, ◌≡◌, ◌≤◌, ◌+◌, ◌-◌, ◌*◌, length, get_or}
 use Rattle.qt_tables.specs.declared.runs.ChunkRun.{ChunkRun}
-use Rattle.qt_tables.specs.Sums.{AreSums, held_before}
+use Rattle.qt_tables.specs.Sums.{held_before}
 use Rattle.qt_tables.proofs.Chunks.{held-first, held-next, fronts-rise}
 use Rattle.qt_tables.proofs.RunningSums.{sums-first, sums-more}
 use Rattle.qt_tables.proofs.sums.run_sums.Goals as goal

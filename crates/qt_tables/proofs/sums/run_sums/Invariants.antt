@@ -1,4 +1,4 @@
-use Rattle.std.proofs.Common.{◌≡◌, ℕ, ◌+◌, ◌*◌, ◌<◌, ◌≤◌, length, get_or}
+use Rattle.std.proofs.Common.{◌≡◌, ◌*◌, ◌≤◌, length}
 use Rattle.std.specs.Prelude.{slice_get}
 use Rattle.qt_tables.specs.Sums.{AreSums, chunks_before, held_before}
 use Rattle.qt_tables.proofs.sums.run_sums.Given as goal

@@ -1,4 +1,4 @@
-use Rattle.std.proofs.Common.{◌≡◌, ℕ, ◌+◌, ◌*◌, ◌<◌, ◌≤◌, length, get_or}
+use Rattle.std.proofs.Common.{◌≡◌, ◌*◌, ◌≤◌}
 use Rattle.qt_tables.specs.Sums.{AreSums, timed_before}
 use Rattle.qt_tables.proofs.sums.time_sums.Given as goal
 

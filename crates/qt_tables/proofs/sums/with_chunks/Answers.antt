@@ -1,4 +1,4 @@
-use Rattle.std.proofs.Common.{arith, rules, ◌*◌, ◌≤◌}
+use Rattle.std.proofs.Common.{arith, ◌*◌, ◌≤◌}
 use Rattle.std.proofs.Math.Nat.{mul-le-mul_left}
 use Rattle.qt_tables.proofs.sums.with_chunks.Goals as goal
 

@@ -1,4 +1,4 @@
-use Rattle.std.proofs.Common.{rules, arith, sym, ap, ◌∙◌, ◌≡◌, ◌==◌, length}
+use Rattle.std.proofs.Common.{arith, ap, ◌∙◌, ◌==◌, length}
 use Rattle.qt_tables.proofs.Chunks.{held-all}
 use Rattle.qt_tables.proofs.tables.are_held.Goals as goal
 

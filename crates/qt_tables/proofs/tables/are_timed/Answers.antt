@@ -1,4 +1,4 @@
-use Rattle.std.proofs.Common.{rules, arith, sym, ap, ◌∙◌, ◌≡◌, ◌==◌, length, sum_by}
+use Rattle.std.proofs.Common.{arith, ap, ◌∙◌, ◌==◌, length, sum_by}
 use Rattle.std.proofs.lemmas.List.{take_all}
 use Rattle.qt_tables.specs.declared.runs.TimeRun.{TimeRun}
 use Rattle.qt_tables.proofs.tables.are_timed.Goals as goal

@@ -1,4 +1,4 @@
-use Rattle.std.proofs.Common.{rules, arith, ap, sym, ◌∙◌, ◌≡◌, ◌-◌, Ok}
+use Rattle.std.proofs.Common.{arith, ap, sym, Ok}
 use Rattle.pw_outside.specs.Reading.{bytes_of}
 use Rattle.qt_tables.proofs.Pieces.{in-piece, at-start}
 use Rattle.qt_tables.proofs.window.row_at.Goals as goal

@@ -1,4 +1,4 @@
-use Rattle.std.proofs.Common.{rules, arith, refl}
+use Rattle.std.proofs.Common.{arith, refl}
 use Rattle.std.specs.Prelude.{codes}
 use Rattle.qt_tables.specs.Writing.{sizes_body}
 use Rattle.qt_tables.proofs.Wrapping.{small, wrapped, length-sizes_body}

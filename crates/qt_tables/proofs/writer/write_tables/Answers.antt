@@ -1,4 +1,3 @@
-use Rattle.std.proofs.Common.{rules, arith, refl}
 use Rattle.qt_tables.proofs.Wrapping.{four-tables}
 use Rattle.qt_tables.proofs.writer.write_tables.Goals as goal
 

@@ -1,7 +1,5 @@
-use Rattle.std.proofs.Common.{rules, arith, sym, ap, ◌∙◌, ◌≡◌, length, sum_by}
+use Rattle.std.proofs.Common.{arith}
 use Rattle.std.proofs.lemmas.Bool.Decides.{nat_tests}
-use Rattle.qt_tables.specs.declared.runs.TimeRun.{TimeRun}
-use Rattle.qt_tables.specs.Samples.{chunks, held_by}
 use Rattle.qt_tables.proofs.tables.SampleTables.read.Goals as goal
 
 pub invariant_of-result : goal.invariant_of-result

@@ -1,6 +1,6 @@
-use Rattle.std.proofs.Common.{rules, arith, sym, ap, ◌∙◌, ◌≡◌, ◌≤◌, ◌<◌, ◌+◌, length}
+use Rattle.std.proofs.Common.{arith, sym, ap, ◌∙◌, ◌<◌, length}
 use Rattle.std.specs.Prelude.{slice_get}
-use Rattle.qt_tables.specs.Samples.{Tables, samples, chunks, chunk_of, durations, held_by}
+use Rattle.qt_tables.specs.Samples.{Tables, samples, chunks, chunk_of, durations}
 use Rattle.qt_tables.specs.Sums.{InRun}
 use Rattle.qt_tables.proofs.Places.{sample-is, length-durations}
 use Rattle.qt_tables.proofs.tables.SampleTables.sample.Goals as goal
