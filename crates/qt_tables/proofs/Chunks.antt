@@ -16,11 +16,11 @@ use Rattle.qt_tables.specs.Tables.{begins_at_1, is_in_order, AreRuns}
 
 -- ---- runs in order
 
-and-left : (a b : Bool) → (a && b) ≡ true → a ≡ true
+pub and-left : (a b : Bool) → (a && b) ≡ true → a ≡ true
 and-left true b h = refl
 and-left false b h = absurd cc
 
-and-right : (a b : Bool) → (a && b) ≡ true → b ≡ true
+pub and-right : (a b : Bool) → (a && b) ≡ true → b ≡ true
 and-right true b h = h
 and-right false b h = absurd cc
 
@@ -42,7 +42,7 @@ head-of descriptions from run runs h =
     record {
       rises = grind (arith, nat_tests, and-left a b ab);
       filled = grind (arith, nat_tests, and-right a b ab);
-      rest = and-right (a && b && c && d) e h
+      rest = and-right (a && b && c && d) e h;
     }
 
 rises-of : (descriptions from : ℕ) (runs : List ChunkRun) → is_in_order descriptions from runs ≡ true
@@ -64,7 +64,7 @@ runs-of descriptions runs h =
     record {
       begins = and-left (begins_at_1 runs) (is_in_order descriptions 0 runs) h;
       rises = λ k d h. (let e : suc k ≡ k + 1 = omega arith in rw (← e) (rises-of descriptions 0 runs order k d (omega arith)));
-      filled = filled-of descriptions 0 runs order
+      filled = filled-of descriptions 0 runs order;
     }
 
 -- ---- the run of a chunk
@@ -174,7 +174,7 @@ held-in-run runs offsets j m d are lt fits =
     let few = front-few (length offsets) (slice_get runs (j + 1)) in
     let len = length-chunks_from runs 1 offsets in
     held-more (chunks runs offsets) (chunks_before (length offsets) (slice_get runs j)) m (get_or runs j d).samples e (omega (arith, few, fits, len))
-      (λ k le less. ap (λ (c : Chunk). c.samples) (chunk-of-run runs offsets j k d e are lt le (omega (arith, less, fits))))
+    (λ k le less. ap (λ (c : Chunk). c.samples) (chunk-of-run runs offsets j k d e are lt le (omega (arith, less, fits))))
 
 -- the samples in front of the next run
 pub held-next : (runs : List ChunkRun) (offsets : List ℕ) (j a b : ℕ) (d : ChunkRun) → AreRuns runs → j < length runs
@@ -231,7 +231,7 @@ in-run runs offsets j i d are lt begun ends =
       chunk = slice_get-get_or (chunks runs offsets) ((run.first - 1) + q) e in_chunks ∙ ap Some (chunk-of-run runs offsets j ((run.first - 1) + q) d e are lt (omega (arith, place)) (omega (arith, place, fewer)));
       first = (let f : i - (i - h) % s ≡ held_by (take (a + q) (chunks runs offsets)) = omega (arith, held, parts, begun) in f) ∙ ap (λ m. held_by (take m (chunks runs offsets))) (sym place);
       begun = omega arith;
-      ends = omega (arith, below, parts, begun)
+      ends = omega (arith, below, parts, begun);
     }
 
 -- all samples are in front of what is behind the last run

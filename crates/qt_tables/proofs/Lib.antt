@@ -5,3 +5,6 @@ pub mod Chunks
 pub mod RunningSums
 pub mod Places
 pub mod Wrapping
+pub mod Again
+pub mod Reread
+pub mod Assembled

@@ -14,7 +14,7 @@ rows-more {X} row front from step count i x total lt h so_far =
     let k : count - i ≡ suc (count - (i + 1)) = omega arith in
     let next : (from + step * i) + step ≡ from + step * (i + 1) = omega arith in
     let one : front ++ rows row (from + step * i) step (count - i) ≡ (front ++ x ∷ []) ++ rows row (from + step * (i + 1)) step (count - (i + 1)) =
-      rw (k, h, next) (sym (append_assoc front (x ∷ []) (rows row (from + step * (i + 1)) step (count - (i + 1))))) in
+    rw (k, h, next) (sym (append_assoc front (x ∷ []) (rows row (from + step * (i + 1)) step (count - (i + 1))))) in
     sym one ∙ so_far
 
 abbrev found : {X : Type 0} → X → Result X (Fault MovieKind)

@@ -117,7 +117,7 @@ sample-in (x ∷ cs) sizes times (suc c) i size duration chunk there begun ends 
     let m : length front ≡ n = length-samples_at x.description x.at (take n sizes) times (omega (arith, k, len, within, one, begun)) ∙ k in
     let le : n ≤ i = omega (arith, one, begun) in
     let rest = sample-in cs (drop n sizes) (drop n times) c (i - n) size duration chunk there (omega (arith, one, begun)) (omega (arith, one, ends, begun))
-        (get-drop n i sizes le ∙ e) (get-drop n i times le ∙ f) (omega (arith, length-drop n sizes, length-drop n times, len)) in
+    (get-drop n i sizes le ∙ e) (get-drop n i times le ∙ f) (omega (arith, length-drop n sizes, length-drop n times, len)) in
     let off : (i - n) - h ≡ i - (n + h) = omega arith in
     get-behind front (samples_in cs (drop n sizes) (drop n times)) i (omega (arith, m, le))
     ∙ ap (λ q. slice_get (samples_in cs (drop n sizes) (drop n times)) (i - q)) m

@@ -15,8 +15,8 @@ sums-first before e = record { count = refl; each = first }
 -- one more sum
 pub sums-more : (n : ℕ) (before : ℕ → ℕ) (sums : List ℕ) (total : ℕ) → AreSums n before sums → total ≡ before (n + 1) → AreSums (n + 1) before (sums ++ total ∷ [])
 sums-more n before sums total are e = record {
-    count = omega (arith, length-append sums (total ∷ []), are.count);
-    each = below_more _ _
+  count = omega (arith, length-append sums (total ∷ []), are.count);
+  each = below_more _ _
       (λ k h. get_or_append_left sums (total ∷ []) 0 k (omega (arith, are.count)) ∙ are.each k h)
-      (get_or_push sums total 0 (n + 1) are.count ∙ e)
-  }
+      (get_or_push sums total 0 (n + 1) are.count ∙ e);
+}

@@ -4,3 +4,4 @@ pub mod Tables
 pub mod Sums
 pub mod Window
 pub mod Writing
+pub mod Laws

@@ -70,7 +70,7 @@ samples_at description at _ _ = []
 abbrev pub samples_in : List Chunk → (sizes durations : List ℕ) → List Sample
 samples_in [] sizes durations = []
 samples_in (c ∷ cs) sizes durations =
-  samples_at c.description c.at (take c.samples sizes) durations ++ samples_in cs (drop c.samples sizes) (drop c.samples durations)
+    samples_at c.description c.at (take c.samples sizes) durations ++ samples_in cs (drop c.samples sizes) (drop c.samples durations)
 
 -- the samples of a track
 abbrev pub samples : Tables → List Sample

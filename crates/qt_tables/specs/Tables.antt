@@ -87,15 +87,15 @@ descriptions_of file (Some stsd) = if nat_lt (body_length stsd) 8 then 0 else nu
 -- `stco` or `co64`: the places of the chunks
 unfoldable pub offsets_in : List ℕ → Atom → Found (List ℕ)
 offsets_in file table =
-  if is_kind (codes "stco") table
-  then (do
-    count ← count_in file table 4 4
-    Ok (rows (number_in w32 file) (table.body + 8) 4 count))
-  else (do
-    count ← count_in file table 4 8
-    let offsets = rows (number_in w64 file) (table.body + 8) 8 count
-    _ ← refuse (list_any (λ offset. nat_le (2 ^ 62) offset) offsets) TableShape table.at
-    Ok offsets)
+    if is_kind (codes "stco") table
+    then (do
+      count ← count_in file table 4 4
+      Ok (rows (number_in w32 file) (table.body + 8) 4 count))
+    else (do
+      count ← count_in file table 4 8
+      let offsets = rows (number_in w64 file) (table.body + 8) 8 count
+      _ ← refuse (list_any (λ offset. nat_le (2 ^ 62) offset) offsets) TableShape table.at
+      Ok offsets)
 
 -- the first `stco` or `co64`
 abbrev pub offsets_table_in : List ℕ → Atom → Found Atom

@@ -51,24 +51,29 @@ places_node es = if are_near es then record { kind = codes "stco"; body = near_b
 -- the tables, one behind the other
 abbrev pub table_nodes : List Extent → (duration : ℕ) → List Node
 table_nodes es duration =
-  record { kind = codes "stts"; body = times_body (length es) duration }
-  ∷ record { kind = codes "stsc"; body = runs_body (length es) }
-  ∷ record { kind = codes "stsz"; body = sizes_body es }
-  ∷ places_node es ∷ []
+    record { kind = codes "stts"; body = times_body (length es) duration }
+    ∷ record { kind = codes "stsc"; body = runs_body (length es) }
+    ∷ record { kind = codes "stsz"; body = sizes_body es }
+    ∷ places_node es ∷ []
 
 unfoldable pub tables_bytes : List Extent → (duration : ℕ) → List ℕ
 tables_bytes es duration = flat_map atom_of (table_nodes es duration)
 
 -- ---- what they say
 
+-- one run for all samples, where there are any
+abbrev pub one_run : {Run : Type 0} → List Extent → Run → List Run
+one_run [] run = []
+one_run (e ∷ es) run = run ∷ []
+
 -- the tables of samples that were written
 abbrev pub written_tables : List Extent → (duration timescale : ℕ) → Tables
 written_tables es duration timescale = record {
   timescale = timescale;
   sizes = sizes_of es;
-  times = (if length es == 0 then [] else record { count = length es; duration = duration } ∷ []);
-  runs = (if length es == 0 then [] else record { first = 1; samples = 1; description = 1 } ∷ []);
-  offsets = places_of es
+  times = one_run es (record { count = length es; duration = duration });
+  runs = one_run es (record { first = 1; samples = 1; description = 1 });
+  offsets = places_of es;
 }
 
 -- the samples that were written

@@ -70,10 +70,7 @@ pub(crate) fn table_of<M: ByteStore>(
 
 /// The first table of places.
 #[tactic(auto, unfolding(pw_outside::specs::Reading::bind))]
-pub(crate) fn offsets_table_of<M: ByteStore>(
-    store: &mut M,
-    stbl: &Atom,
-) -> Result<Atom, MovieFault>
+pub(crate) fn offsets_table_of<M: ByteStore>(store: &mut M, stbl: &Atom) -> Result<Atom, MovieFault>
     requires order { stbl.now.body ≤ stbl.now.end }
     requires inside { Told (M.bytes store.old) (λ file. stbl.now.end ≤ length file) }
     ensures value { Told (M.bytes store.old) (λ file. Answers told_fault (λ a. a) result (offsets_table_in file stbl.now)) }
@@ -118,10 +115,7 @@ fn count_of<M: ByteStore>(
 
 /// The time scale of an `mdhd`.
 #[tactic(auto, unfolding(crate::specs::Tables::timescale_in, pw_outside::specs::Reading::bind))]
-pub(crate) fn timescale_of<M: ByteStore>(
-    store: &mut M,
-    mdhd: &Atom,
-) -> Result<u32, MovieFault>
+pub(crate) fn timescale_of<M: ByteStore>(store: &mut M, mdhd: &Atom) -> Result<u32, MovieFault>
     requires order { mdhd.now.body ≤ mdhd.now.end }
     requires inside { Told (M.bytes store.old) (λ file. mdhd.now.end ≤ length file) }
     ensures value { Told (M.bytes store.old) (λ file. Answers told_fault (λ n. n) result (timescale_in file mdhd.now)) }

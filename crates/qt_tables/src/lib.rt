@@ -4,14 +4,18 @@
 mod fault;
 mod finding;
 mod judging;
+mod laws;
 mod rows;
 mod runs;
 mod sums;
 mod tables;
+#[cfg(test)]
+mod tests;
 mod window;
 mod writer;
 
 pub use fault::{MovieFault, MovieKind};
+pub use laws::{samples_are_counted, written_samples_are_given, written_tables_are_read};
 pub use runs::{ChunkRun, Sample, TimeRun};
 pub use tables::SampleTables;
 pub use writer::{Extent, TableWriter};

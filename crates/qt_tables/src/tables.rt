@@ -10,7 +10,10 @@ ghost use Rattle.qt_tables.specs.Tables.{tables_in, AreTables};
 
 use crate::fault::{MovieFault, MovieKind, bad};
 use crate::finding::{duration_of, held_of, sample_in};
-use crate::judging::{descriptions_in, offsets_of, offsets_table_of, runs_of, sizes_of, table_of, times_of, timescale_of};
+use crate::judging::{
+    descriptions_in, offsets_of, offsets_table_of, runs_of, sizes_of, table_of, times_of,
+    timescale_of,
+};
 use crate::runs::{ChunkRun, Sample, TimeRun};
 use crate::sums::{run_sums, size_sums, time_sums};
 use pw_outside::ByteStore;
@@ -146,6 +149,13 @@ impl SampleTables {
     {
         let held = held_of(&self.runs, &self.run_sums, &self.offsets, i);
         let duration = duration_of(&self.times, &self.time_sums, i);
-        sample_in(&self.sizes, &self.size_sums, &self.offsets, held, duration, i)
+        sample_in(
+            &self.sizes,
+            &self.size_sums,
+            &self.offsets,
+            held,
+            duration,
+            i,
+        )
     }
 }

@@ -9,8 +9,13 @@ overflow_sub-before c =
 
 pub overflow_add-result : goal.overflow_add-result
 overflow_add-result c =
-    omega (arith, c.requires.near c.args.held.chunk 0 c.requires.chunk, c.requires.sums.each c.args.i (omega arith), c.requires.few,
-      bytes-fit c.args.sizes.now c.args.i (λ k. omega (arith, c.type_inv.sizes k)) (omega arith))
+    omega (
+      arith,
+      c.requires.near c.args.held.chunk 0 c.requires.chunk,
+      c.requires.sums.each c.args.i (omega arith),
+      c.requires.few,
+      bytes-fit c.args.sizes.now c.args.i (λ k. omega (arith, c.type_inv.sizes k)) (omega arith),
+    )
 
 pub returns-clause-place : goal.returns-clause-place
 returns-clause-place c =
@@ -20,5 +25,10 @@ returns-clause-place c =
 
 pub returns-clause-near : goal.returns-clause-near
 returns-clause-near c =
-    omega (arith, c.requires.near c.args.held.chunk 0 c.requires.chunk, c.requires.sums.each c.args.i (omega arith), c.requires.few,
-      bytes-fit c.args.sizes.now c.args.i (λ k. omega (arith, c.type_inv.sizes k)) (omega arith))
+    omega (
+      arith,
+      c.requires.near c.args.held.chunk 0 c.requires.chunk,
+      c.requires.sums.each c.args.i (omega arith),
+      c.requires.few,
+      bytes-fit c.args.sizes.now c.args.i (λ k. omega (arith, c.type_inv.sizes k)) (omega arith),
+    )

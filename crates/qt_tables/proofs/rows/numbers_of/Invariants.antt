@@ -13,5 +13,5 @@ invariant-rows g l = record {
   end : l.window.end ≡ l.from + 4 * l.count;
   shows : Shows (g.M.ByteStore.bytes l.initial.store) l.window;
   bytes : g.M.ByteStore.bytes l.store ≡ g.M.ByteStore.bytes l.initial.store;
-  cause : g.M.ByteStore.faults l.store ≡ g.M.ByteStore.faults l.initial.store
+  cause : g.M.ByteStore.faults l.store ≡ g.M.ByteStore.faults l.initial.store;
 }

@@ -6,7 +6,7 @@ invariant-halves l = record {
   order : l.low < l.high;
   in_range : l.high < length l.sums;
   begun : get_or l.sums l.low 0 ≤ l.count;
-  next : l.count < get_or l.sums l.high 0
+  next : l.count < get_or l.sums l.high 0;
 }
 
 abbrev pub decreases-halves : goal.decreases-halves

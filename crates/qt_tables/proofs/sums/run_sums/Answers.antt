@@ -15,7 +15,7 @@ runs-init c =
       sums = sums-first (held_before c.args.runs.now c.args.offsets.now) first;
       total = first;
       begun = c.chunks_in_front-begun.ensures.value;
-      small = omega arith
+      small = omega arith;
     })
 
 pub overflow_sub-next : goal.overflow_sub-next
@@ -31,5 +31,5 @@ runs-preserved c =
       sums = sums-more c.runs.k (held_before c.args.runs.now c.args.offsets.now) c.runs.sums.items _ c.runs.invariant.sums total;
       total = total;
       begun = c.chunks_in_front-next.ensures.value;
-      small = omega (arith, c.with_chunks-total.ensures.small, c.runs.invariant.small, rise)
+      small = omega (arith, c.with_chunks-total.ensures.small, c.runs.invariant.small, rise);
     })

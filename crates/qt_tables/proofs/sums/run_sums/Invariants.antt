@@ -8,5 +8,5 @@ invariant-runs l = record {
   sums : AreSums l.k (held_before l.runs l.offsets) l.sums.items;
   total : l.total ≡ held_before l.runs l.offsets l.k;
   begun : l.begun ≡ chunks_before (length l.offsets) (slice_get l.runs l.k);
-  small : l.total ≤ 4294967295 * l.begun
+  small : l.total ≤ 4294967295 * l.begun;
 }

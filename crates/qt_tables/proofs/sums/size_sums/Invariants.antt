@@ -6,5 +6,5 @@ abbrev pub invariant-sizes : goal.invariant-sizes
 invariant-sizes l = record {
   sums : AreSums l.size-index (bytes_before l.sizes) l.sums.items;
   total : l.total ≡ bytes_before l.sizes l.size-index;
-  small : l.total ≤ 4294967295 * l.size-index
+  small : l.total ≤ 4294967295 * l.size-index;
 }

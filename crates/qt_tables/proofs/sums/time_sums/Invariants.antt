@@ -6,5 +6,5 @@ abbrev pub invariant-times : goal.invariant-times
 invariant-times l = record {
   sums : AreSums l.run-index (timed_before l.times) l.sums.items;
   total : l.total ≡ timed_before l.times l.run-index;
-  small : l.total ≤ 4294967295 * l.run-index
+  small : l.total ≤ 4294967295 * l.run-index;
 }

@@ -14,5 +14,5 @@ returns-clause-value c =
     let within : c.args.i < length t.sizes.items = omega (arith, c.requires, ap (λ (v : Tables). length v.sizes) c.self.view_is) in
     let len = length-durations t.times.items ∙ are.timed in
     ap (λ (v : Tables). slice_get (samples v) c.args.i) (sym c.self.view_is) ∙ (sample-is (chunks t.runs.items t.offsets.items) t.sizes.items (durations t.times.items) held.chunk c.args.i held.first (chunk_of _ held.run) c.sample_in.result there.chunk there.first there.begun there.ends
-      within len (rw (c.sample_in.ensures.duration, ← c.deref-4.ensures.value) c.duration_of-duration.ensures) (rw (← c.deref-8.ensures.value, ← c.deref-6.ensures.value) c.sample_in.ensures.place)
-      (rw (← c.deref-6.ensures.value) c.sample_in.ensures.size) c.sample_in.ensures.description)
+    within len (rw (c.sample_in.ensures.duration, ← c.deref-4.ensures.value) c.duration_of-duration.ensures) (rw (← c.deref-8.ensures.value, ← c.deref-6.ensures.value) c.sample_in.ensures.place)
+    (rw (← c.deref-6.ensures.value) c.sample_in.ensures.size) c.sample_in.ensures.description)
