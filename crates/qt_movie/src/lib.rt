@@ -9,6 +9,8 @@ mod leaves;
 mod moov;
 mod parts;
 mod reader;
+#[cfg(test)]
+mod tests;
 mod track;
 mod writer;
 
