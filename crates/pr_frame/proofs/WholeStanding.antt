@@ -1,6 +1,6 @@
 -- The same of pictures and of frames.
-use Rattle.std.proofs.Common.{◌≡◌, ◌≢◌, ℕ, zero, suc, ◌+◌, ◌-◌, ◌*◌, ◌/◌, ◌%◌, ◌<◌, ◌≤◌, Bool, true, false, not, ◌||◌, ◌==◌, nat_lt, List, [], ◌∷◌, length, take, drop, sum, Option, Some, None, Result, Ok, Err, refl, sym, ap, ◌∙◌, subst, arith, length-drop}
-use Rattle.std.specs.Prelude.{IsSome, IfOk, IfErr, IfSome}
+use Rattle.std.proofs.Common.{◌≡◌, ◌≢◌, inl, inr, ℕ, zero, suc, ◌+◌, ◌-◌, ◌*◌, ◌/◌, ◌%◌, ◌<◌, ◌≤◌, Bool, true, false, not, ◌||◌, ◌==◌, nat_lt, List, [], ◌∷◌, length, take, drop, sum, Option, Some, None, Result, Ok, Err, refl, sym, ap, ◌∙◌, subst, arith, length-drop}
+use Rattle.std.specs.Prelude.{◌⊎◌}
 use Rattle.std.specs.Result.{result_err}
 use Rattle.std.proofs.lemmas.Bool.{le-ltb, ltb-false, ne_eqb, eqb-false, eqb-true, eq-eqb}
 use Rattle.pw_outside.specs.Reading.{Fault, Rest, Read, bind, refuse, Fails, Gives, Told, bytes_of, rest_of}
@@ -327,3 +327,13 @@ frame-again s f p =
     let room : header_taken s + (r.size - header_taken s) ≡ r.size = omega (arith, p.stands.header.sizes.within) in
     let found = pictures-again (pictures_of h.interlace) r.size h at (r.size - header_taken s) f.pictures p.built.alpha room p.stands.number p.stands.pictures in
     bind-step _ _ (bind-step _ _ head ∙ refuse-step _ _ _ _ built ∙ bind-step _ _ found.1)
+
+pub same-frame : (f g : CodedFrame) → Ok {CodedFrame} {Fault FrameKind} f ≡ Ok g → f ≡ g
+same-frame f g e = cc
+
+or-fault : (s : List ℕ) (r : Result CodedFrame (Fault FrameKind)) → frame_of s ≡ r → ((f : CodedFrame) × StandsBuilt s f) ⊎ ((fault : Fault FrameKind) × (frame_fault s ≡ Some fault))
+or-fault s (Ok f) e = inl (f, frame-found s f e)
+or-fault s (Err fault) e = inr (fault, ap result_err e)
+
+pub frame-or-fault : (s : List ℕ) → ((f : CodedFrame) × StandsBuilt s f) ⊎ ((fault : Fault FrameKind) × (frame_fault s ≡ Some fault))
+frame-or-fault s = or-fault s (frame_of s) refl
