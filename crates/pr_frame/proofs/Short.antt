@@ -10,7 +10,8 @@ use Rattle.pw_planes.specs.declared.kinds.Interlace.{Interlace}
 use Rattle.pw_planes.specs.declared.kinds.Interlace.TheVariants.{Progressive, TopFirst, BottomFirst}
 use Rattle.pr_geom.specs.declared.places.SlicePlace.{SlicePlace}
 use Rattle.pr_geom.specs.declared.places.Part.TheVariants.{Y, Cb, Cr}
-use Rattle.pr_coeff.specs.Component.{Block, component}
+use Rattle.pr_coeff.specs.Component.{Block, component, AreBlocks}
+use Rattle.pr_coeff.proofs.WovenLemmas.{AreBlocks_from, AllSmall_from}
 use Rattle.pr_coeff.proofs.CostLemmas.{component_cost}
 use Rattle.pr_head.specs.declared.frame.FrameHeader.{FrameHeader}
 use Rattle.pr_head.specs.declared.slice.SliceHeader.{SliceHeader}
@@ -22,9 +23,10 @@ use Rattle.pr_frame.specs.declared.coded.CodedSlice.{CodedSlice}
 use Rattle.pr_frame.specs.declared.coded.CodedPicture.{CodedPicture}
 use Rattle.pr_frame.specs.declared.coded.CodedFrame.{CodedFrame}
 use Rattle.pr_frame.specs.Forms.{scan_of, has_alpha, places_in}
-use Rattle.pr_frame.specs.Coded.{IsCodedSlice, AreCodedSlices, IsWritableBlock, IsWritableSlice, HasArrays}
+use Rattle.pr_frame.specs.Coded.{IsCodedSlice, AreCodedSlices, IsCodedPicture, IsWritableBlock, IsWritableSlice, IsWritablePicture, HasArrays}
+use Rattle.pr_frame.specs.Ready.{IsReadyPart, IsReady, IsReadyPicture}
 use Rattle.pr_frame.specs.Written.{component_bytes, slice_header_of, slice_bytes, slice_length, slice_lengths, picture_length, picture_bytes, frame_length_of, written}
-use Rattle.pr_frame.proofs.Counts.{HasBlocksOf, AllHave, places-have}
+use Rattle.pr_frame.proofs.Counts.{HasBlocksOf, AllHave, places-have, count-places}
 use Rattle.pr_frame.proofs.Standing.{scan-is}
 use Rattle.pr_frame.proofs.SliceLoop.{sum-front}
 
@@ -35,14 +37,18 @@ unfolding slice_header_bytes
 header-length r true = refl
 header-length r false = refl
 
-pub length-slice : (mode : Interlace) (alpha : AlphaKind) (s : CodedSlice) → length (slice_bytes mode alpha s) ≡ slice_length mode alpha s
+slice-is : (mode : Interlace) (alpha : AlphaKind) (s : CodedSlice) → slice_bytes mode alpha s ≡ slice_header_bytes (slice_header_of mode alpha s) (has_alpha alpha) ++ component_bytes mode s.y ++ component_bytes mode s.cb ++ component_bytes mode s.cr
 unfolding slice_bytes
+slice-is mode alpha s = refl
+
+pub length-slice : (mode : Interlace) (alpha : AlphaKind) (s : CodedSlice) → length (slice_bytes mode alpha s) ≡ slice_length mode alpha s
 length-slice mode alpha s =
     let h = slice_header_bytes (slice_header_of mode alpha s) (has_alpha alpha) in
     let y = component_bytes mode s.y in
     let cb = component_bytes mode s.cb in
     let cr = component_bytes mode s.cr in
-    omega (arith, length-append h (y ++ cb ++ cr), length-append y (cb ++ cr), length-append cb cr, header-length (slice_header_of mode alpha s) (has_alpha alpha))
+    let e : length (h ++ y ++ cb ++ cr) ≡ slice_length mode alpha s = omega (arith, length-append h y, length-append (h ++ y) cb, length-append (h ++ y ++ cb) cr, header-length (slice_header_of mode alpha s) (has_alpha alpha)) in
+    ap length (slice-is mode alpha s) ∙ e
 
 pub length-slices : (mode : Interlace) (alpha : AlphaKind) (xs : List CodedSlice) → length (flat_map (slice_bytes mode alpha) xs) ≡ sum (map (slice_length mode alpha) xs)
 length-slices mode alpha [] = refl
@@ -61,13 +67,17 @@ pub length-lengths : (mode : Interlace) (alpha : AlphaKind) (xs : List CodedSlic
 length-lengths mode alpha [] = refl
 length-lengths mode alpha (x ∷ xs) = ap suc (length-lengths mode alpha xs)
 
-pub length-picture : (mode : Interlace) (alpha : AlphaKind) (x : CodedPicture) → length (picture_bytes mode alpha x) ≡ picture_length mode alpha x
+picture-is : (mode : Interlace) (alpha : AlphaKind) (x : CodedPicture) → picture_bytes mode alpha x ≡ picture_header_bytes (picture_length mode alpha x) (length x.slices) x.log2 ++ sizes_bytes (slice_lengths mode alpha x) ++ flat_map (slice_bytes mode alpha) x.slices
 unfolding picture_bytes
+picture-is mode alpha x = refl
+
+pub length-picture : (mode : Interlace) (alpha : AlphaKind) (x : CodedPicture) → length (picture_bytes mode alpha x) ≡ picture_length mode alpha x
 length-picture mode alpha x =
     let h = picture_header_bytes (picture_length mode alpha x) (length x.slices) x.log2 in
     let t = sizes_bytes (slice_lengths mode alpha x) in
     let b = flat_map (slice_bytes mode alpha) x.slices in
-    omega (arith, length-append h (t ++ b), length-append t b, length-table (slice_lengths mode alpha x), length-lengths mode alpha x.slices, length-slices mode alpha x.slices, picture-header-length (picture_length mode alpha x) (length x.slices) x.log2)
+    let e : length (h ++ t ++ b) ≡ picture_length mode alpha x = omega (arith, length-append h t, length-append (h ++ t) b, length-table (slice_lengths mode alpha x), length-lengths mode alpha x.slices, length-slices mode alpha x.slices, picture-header-length (picture_length mode alpha x) (length x.slices) x.log2) in
+    ap length (picture-is mode alpha x) ∙ e
 
 pub length-pictures : (mode : Interlace) (alpha : AlphaKind) (xs : List CodedPicture) → length (flat_map (picture_bytes mode alpha) xs) ≡ sum (map (picture_length mode alpha) xs)
 length-pictures mode alpha [] = refl
@@ -78,10 +88,16 @@ pub frame-header-length : (h : FrameHeader) (size : ℕ) → HasArrays h → len
 unfolding frame_header_bytes
 frame-header-length h size is = simp length-append (omega (arith, is.encoder, is.luma, is.chroma_weights))
 
-pub length-written : (f : CodedFrame) → HasArrays f.header → length (written f) ≡ frame_length_of f
+written-is : (f : CodedFrame) → written f ≡ frame_header_bytes f.header (frame_length_of f) ++ flat_map (picture_bytes f.header.interlace f.header.alpha) f.pictures
 unfolding written
+written-is f = refl
+
+pub length-written : (f : CodedFrame) → HasArrays f.header → length (written f) ≡ frame_length_of f
 length-written f is =
-    omega (arith, length-append (frame_header_bytes f.header (frame_length_of f)) (flat_map (picture_bytes f.header.interlace f.header.alpha) f.pictures), frame-header-length f.header (frame_length_of f) is, length-pictures f.header.interlace f.header.alpha f.pictures)
+    let h = frame_header_bytes f.header (frame_length_of f) in
+    let b = flat_map (picture_bytes f.header.interlace f.header.alpha) f.pictures in
+    let e : length (h ++ b) ≡ frame_length_of f = omega (arith, length-append h b, frame-header-length f.header (frame_length_of f) is, length-pictures f.header.interlace f.header.alpha f.pictures) in
+    ap length (written-is f) ∙ e
 
 -- ---- slices are short
 
@@ -117,3 +133,50 @@ slices-short h [] (x ∷ xs) have are small = absurd are
 slices-short h (p ∷ places) [] have are small = absurd are
 slices-short h (p ∷ places) (x ∷ xs) have are small =
     All-cons (λ s. slice_length h.interlace h.alpha s < 65535) x xs (slice-short h p x have.0 are.0 (All-head IsWritableSlice x xs small)) (slices-short h places xs have.1 are.1 (All-tail IsWritableSlice x xs small))
+
+-- ---- what is ready to be written
+
+pub part-short : (mode : Interlace) (blocks : List Block) → IsReadyPart blocks → length (component_bytes mode blocks) < 14592
+part-short mode blocks r = component-short mode blocks r.some r.few r.values
+
+pub ready-short : (mode : Interlace) (alpha : AlphaKind) (s : CodedSlice) → IsReady s → slice_length mode alpha s < 65535
+ready-short mode alpha s r = omega (arith, part-short mode s.y r.y, part-short mode s.cb r.cb, part-short mode s.cr r.cr, alpha-least (has_alpha alpha))
+
+slice-ready : (h : FrameHeader) (place : SlicePlace) (s : CodedSlice) → HasBlocksOf h place → IsCodedSlice h place s → IsWritableSlice s → IsReady s
+slice-ready h place s have is small = record {
+  y = record { some = omega (arith, is.y, have.some Y); few = omega (arith, is.y, have.few Y); values = small.y };
+  cb = record { some = omega (arith, is.cb, have.some Cb); few = omega (arith, is.cb, have.few Cb); values = small.cb };
+  cr = record { some = omega (arith, is.cr, have.some Cr); few = omega (arith, is.cr, have.few Cr); values = small.cr };
+}
+
+slices-ready : (h : FrameHeader) (places : List SlicePlace) (xs : List CodedSlice) → AllHave h places → AreCodedSlices h places xs → All IsWritableSlice xs → All IsReady xs
+slices-ready h [] [] have are small = All-nil IsReady
+slices-ready h [] (x ∷ xs) have are small = absurd are
+slices-ready h (p ∷ places) [] have are small = absurd are
+slices-ready h (p ∷ places) (x ∷ xs) have are small =
+    All-cons IsReady x xs (slice-ready h p x have.0 are.0 (All-head IsWritableSlice x xs small)) (slices-ready h places xs have.1 are.1 (All-tail IsWritableSlice x xs small))
+
+same-count : (h : FrameHeader) (places : List SlicePlace) (xs : List CodedSlice) → AreCodedSlices h places xs → length xs ≡ length places
+same-count h [] [] are = refl
+same-count h [] (x ∷ xs) are = absurd are
+same-count h (p ∷ places) [] are = absurd are
+same-count h (p ∷ places) (x ∷ xs) are = ap suc (same-count h places xs are.1)
+
+picture-ready : (h : FrameHeader) (x : CodedPicture) → IsCodedPicture h x → IsWritablePicture x → IsReadyPicture x
+picture-ready h x is small = record {
+  few = omega (arith, same-count h (places_in h x.log2) x.slices is.slices, is.layout.slices, count-places h (record { header = 8; size = 0; log2 = x.log2 }));
+  log2 = is.layout.size;
+  slices = slices-ready h (places_in h x.log2) x.slices (places-have h x.log2 is.layout.size) is.slices small;
+}
+
+pub pictures-ready : (h : FrameHeader) (xs : List CodedPicture) → All (IsCodedPicture h) xs → All IsWritablePicture xs → All IsReadyPicture xs
+pictures-ready h [] are small = All-nil IsReadyPicture
+pictures-ready h (x ∷ xs) are small =
+    All-cons IsReadyPicture x xs (picture-ready h x (All-head (IsCodedPicture h) x xs are) (All-head IsWritablePicture x xs small)) (pictures-ready h xs (All-tail (IsCodedPicture h) x xs are) (All-tail IsWritablePicture x xs small))
+
+-- blocks of 64 values that can be written
+pub writable-blocks : (blocks : List Block) → ((i : ℕ) → i < length blocks → length (get_or blocks i []) ≡ 64) → All IsWritableBlock blocks → AreBlocks blocks
+writable-blocks blocks shape small = AreBlocks_from blocks (λ i lt. (shape i lt, AllSmall_from (get_or blocks i []) (λ k lt2. omega (arith, blocks-at blocks i k small))))
+
+pub scan-same : (mode : Interlace) (blocks : List Block) (places : List ℕ) → places ≡ scan_of mode → length (component places blocks) ≡ length (component_bytes mode blocks)
+scan-same mode blocks places e = ap (λ ps. length (component ps blocks)) e

@@ -328,8 +328,8 @@ frame-again s f p =
     let found = pictures-again (pictures_of h.interlace) r.size h at (r.size - header_taken s) f.pictures p.built.alpha room p.stands.number p.stands.pictures in
     bind-step _ _ (bind-step _ _ head ∙ refuse-step _ _ _ _ built ∙ bind-step _ _ found.1)
 
-pub same-frame : (f g : CodedFrame) → Ok {CodedFrame} {Fault FrameKind} f ≡ Ok g → f ≡ g
-same-frame f g e = cc
+pub same-frame : (f g : CodedFrame) (r : Result CodedFrame (Fault FrameKind)) → r ≡ Ok f → r ≡ Ok g → f ≡ g
+same-frame f g r d e = cc
 
 or-fault : (s : List ℕ) (r : Result CodedFrame (Fault FrameKind)) → frame_of s ≡ r → ((f : CodedFrame) × StandsBuilt s f) ⊎ ((fault : Fault FrameKind) × (frame_fault s ≡ Some fault))
 or-fault s (Ok f) e = inl (f, frame-found s f e)

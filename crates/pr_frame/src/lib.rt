@@ -5,7 +5,9 @@ mod coded;
 mod laws;
 mod parts;
 mod read;
+mod size;
 mod slices;
+mod write;
 
 pub use coded::{
     AlphaValues, Blocks, CodedFrame, CodedPicture, CodedPictures, CodedSlice, CodedSlices,
@@ -14,3 +16,5 @@ pub use laws::{
     frame_has_no_fault, frame_or_fault, one_frame, slices_are_short, written_has_length, written_stands,
 };
 pub use read::read_frame;
+pub use size::frame_length;
+pub use write::write_frame;
