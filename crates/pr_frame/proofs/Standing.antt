@@ -22,13 +22,14 @@ use Rattle.pr_frame.specs.Stands.{ComponentStands, slice_header_in, HasSlice, Sl
 use Rattle.pr_frame.specs.Reading.{ahead, placed, blocks_at, components_at, coded_slice_at, coded_slices_at}
 use Rattle.pr_frame.proofs.Rests.{ok-both, blocks-rest, IsHead, head-found, head-of-coded, coded-is, whole-size, stated-none}
 use Rattle.pr_frame.proofs.Steps.{blocks-value}
+use Rattle.pr_frame.proofs.Counts.{HasBlocksOf}
 use Rattle.pw_planes.specs.declared.kinds.Interlace.{Interlace}
 use Rattle.pw_planes.specs.declared.kinds.Interlace.TheVariants.{Progressive, TopFirst, BottomFirst}
 
-or-false : (a b : Bool) → a ≡ false → b ≡ false → (a || b) ≡ false
+pub or-false : (a b : Bool) → a ≡ false → b ≡ false → (a || b) ≡ false
 or-false a b e f = rw (e, f) refl
 
-false-or : (a b : Bool) → (a || b) ≡ false → (a ≡ false) × (b ≡ false)
+pub false-or : (a b : Bool) → (a || b) ≡ false → (a ≡ false) × (b ≡ false)
 false-or true b e = absurd cc
 false-or false b e = (refl, e)
 
@@ -42,11 +43,6 @@ scan-is BottomFirst = interlaced_is_scan
 placed-ok : {A : Type 0} (place : ℕ) (r : Result A coefficients.Fault) {x : A} → placed place r ≡ Ok x → r ≡ Ok x
 placed-ok place (Ok y) e = cc
 placed-ok place (Err f) e = absurd cc
-
--- how many blocks a part has
-pub record HasBlocksOf (h : FrameHeader) (place : SlicePlace) : Type 0 where
-  pub some : (part : Part) → 0 < block_count h place part
-  pub few : (part : Part) → block_count h place part ≤ 32
 
 pub blocks-found : (scan : List ℕ) (count size : ℕ) (s t : Rest) (blocks : List Block) → IsScan scan → 0 < count → blocks_at scan count size s ≡ Ok (blocks, t)
     → ComponentStands scan count (take size s.bytes) blocks

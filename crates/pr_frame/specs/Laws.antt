@@ -1,11 +1,14 @@
 -- Laws of frames, over the definitions alone.
-use Rattle.std.specs.Prelude.{◌≡◌, ◌⊎◌, List, ℕ, length, Some, None}
+use Rattle.std.specs.Prelude.{◌≡◌, ◌⊎◌, ◌<◌, ◌≤◌, List, ℕ, length, Some, None}
 use Rattle.pw_outside.specs.Reading.{Fault}
 use Rattle.pr_head.specs.declared.fault.FrameKind.{FrameKind}
+use Rattle.std.specs.List.{All}
+use Rattle.pr_head.specs.declared.frame.FrameHeader.{FrameHeader}
+use Rattle.pr_frame.specs.declared.coded.CodedSlice.{CodedSlice}
 use Rattle.pr_frame.specs.declared.coded.CodedFrame.{CodedFrame}
-use Rattle.pr_frame.specs.Forms.{IsBuilt}
-use Rattle.pr_frame.specs.Coded.{CanBeWritten, HasArrays, HasShape}
-use Rattle.pr_frame.specs.Written.{written, frame_length_of}
+use Rattle.pr_frame.specs.Forms.{IsBuilt, places_in}
+use Rattle.pr_frame.specs.Coded.{AreCodedSlices, IsWritableSlice, CanBeWritten, HasArrays, HasShape}
+use Rattle.pr_frame.specs.Written.{slice_length, written, frame_length_of}
 use Rattle.pr_frame.specs.Stands.{FrameStands}
 use Rattle.pr_frame.specs.Reading.{frame_fault}
 
@@ -33,3 +36,8 @@ WrittenStands = (f : CodedFrame) → HasShape f → CanBeWritten f → FrameStan
 -- how many bytes are written
 abbrev pub WrittenHasLength : Type 0
 WrittenHasLength = (f : CodedFrame) → HasArrays f.header → length (written f) ≡ frame_length_of f
+
+-- a slice that can be written has fewer than 65,535 bytes
+abbrev pub SlicesAreShort : Type 0
+SlicesAreShort = (h : FrameHeader) (log2 : ℕ) (slices : List CodedSlice) → log2 ≤ 3 → AreCodedSlices h (places_in h log2) slices → All IsWritableSlice slices
+    → All (λ slice. slice_length h.interlace h.alpha slice < 65535) slices

@@ -2,11 +2,19 @@
 #![tactic(auto)]
 
 mod coded;
+mod laws;
 mod parts;
 mod read;
+mod size;
 mod slices;
+mod write;
 
 pub use coded::{
     AlphaValues, Blocks, CodedFrame, CodedPicture, CodedPictures, CodedSlice, CodedSlices,
 };
+pub use laws::{
+    frame_has_no_fault, frame_or_fault, one_frame, slices_are_short, written_has_length, written_stands,
+};
 pub use read::read_frame;
+pub use size::frame_length;
+pub use write::write_frame;

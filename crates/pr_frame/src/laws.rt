@@ -1,0 +1,33 @@
+//! Laws over the definitions alone. The functions do nothing; their contracts are the laws.
+
+ghost use Rattle.pr_frame.specs.Laws.{OneFrame, FrameOrFault, FrameHasNoFault, WrittenStands, WrittenHasLength, SlicesAreShort};
+
+/// A sample stands for one coded frame at most.
+pub fn one_frame()
+    ensures { OneFrame }
+{}
+
+/// A sample stands for a coded frame, or has a fault.
+pub fn frame_or_fault()
+    ensures { FrameOrFault }
+{}
+
+/// A sample that stands for a coded frame has no fault.
+pub fn frame_has_no_fault()
+    ensures { FrameHasNoFault }
+{}
+
+/// What is written stands for what was written.
+pub fn written_stands()
+    ensures { WrittenStands }
+{}
+
+/// How many bytes are written.
+pub fn written_has_length()
+    ensures { WrittenHasLength }
+{}
+
+/// A slice that can be written has fewer than 65,535 bytes.
+pub fn slices_are_short()
+    ensures { SlicesAreShort }
+{}
