@@ -1,9 +1,8 @@
 -- Slices coded one after the other, and what a coded frame has.
-use Rattle.std.proofs.Common.{◌≡◌, ℕ, zero, suc, ◌+◌, ◌*◌, ◌^◌, ◌%◌, ◌/◌, ◌<◌, ◌≤◌, List, [], ◌∷◌, ◌++◌, length, map, take, drop, get_or, ℤ, pos, nat_abs, refl, sym, ap, ◌∙◌, subst, arith, length-take-le}
+use Rattle.std.proofs.Common.{◌≡◌, ℕ, ◌+◌, ◌*◌, ◌%◌, ◌/◌, ◌<◌, ◌≤◌, List, [], ◌∷◌, ◌++◌, length, map, take, drop, get_or, ℤ, pos, nat_abs, refl, sym, ap, ◌∙◌, subst, arith, length-take-le}
 use Rattle.std.specs.List.{All, AllZip, flat_map, range_with_len}
 use Rattle.std.proofs.lemmas.List.{length-map, take_all, get_or_default, append-nil}
 use Rattle.std.proofs.lemmas.List.Elements.{All-cons, All-head, All-tail, All-map}
-use Rattle.pw_planes.specs.declared.kinds.AlphaKind.{AlphaKind}
 use Rattle.pw_planes.specs.declared.kinds.Interlace.{Interlace}
 use Rattle.pw_planes.specs.declared.kinds.Interlace.TheVariants.{Progressive}
 use Rattle.pr_geom.specs.declared.layout.Layout.{Layout}
@@ -11,16 +10,13 @@ use Rattle.pr_geom.specs.declared.places.SlicePlace.{SlicePlace}
 use Rattle.pr_geom.specs.Faults.{IsAllowed, slice_count}
 use Rattle.pr_geom.specs.Layout.{slices_of}
 use Rattle.pr_geom.specs.Slices.{pictures_of, macroblocks, picture_slices}
-use Rattle.pr_dct.specs.Transform.{AreWithin}
 use Rattle.pr_quant.specs.declared.weights.Weights.{Weights}
-use Rattle.pr_quant.specs.Quantised.{greatest_coefficient}
 use Rattle.pr_head.specs.declared.frame.FrameHeader.{FrameHeader}
-use Rattle.pr_head.specs.Header.{HasLayoutSize}
 use Rattle.pr_frame.specs.declared.coded.CodedSlice.{CodedSlice}
 use Rattle.pr_frame.specs.declared.coded.CodedPicture.{CodedPicture}
 use Rattle.pr_frame.specs.declared.coded.CodedFrame.{CodedFrame}
 use Rattle.pr_frame.specs.Forms.{places_in, IsBuilt}
-use Rattle.pr_frame.specs.Coded.{IsCodedSlice, AreCodedSlices, IsCodedPicture, IsCodedFrame, IsWritableBlock, IsWritableSlice, IsWritablePicture, IsWritableHeader, IsWritable}
+use Rattle.pr_frame.specs.Coded.{AreCodedSlices, IsCodedPicture, IsCodedFrame, IsWritableBlock, IsWritableSlice, IsWritablePicture, IsWritableHeader, IsWritable}
 use Rattle.rate_build.specs.declared.slices.SliceCoefficients.{SliceCoefficients}
 use Rattle.rate_build.specs.Measures.{multipliers, quantised_block, quantised_part, IsMultiplier, IsBlock}
 use Rattle.rate_build.specs.Coefficients.{FrameCoefficients, IsSliceAt, AreOfLayout, frame_places}

@@ -14,3 +14,6 @@ pub use laws::frame_has_table_size;
 pub use slices::{CoefficientSlices, Coefficients, SliceCoefficients};
 pub use tables::build_table;
 pub use transform::coefficients_of;
+
+#[cfg(test)]
+mod tests;

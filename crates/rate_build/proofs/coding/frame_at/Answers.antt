@@ -1,4 +1,4 @@
-use Rattle.std.proofs.Common.{◌≡◌, ◌∷◌, ◌++◌, [], length, sym, subst, ap, ◌∙◌, List, ℕ}
+use Rattle.std.proofs.Common.{◌∷◌, ◌++◌, [], length, sym, subst, ap, ◌∙◌, List}
 use Rattle.std.specs.List.{All}
 use Rattle.rate_build.specs.declared.slices.SliceCoefficients.{SliceCoefficients}
 use Rattle.rate_build.specs.Coefficients.{FrameCoefficients}
