@@ -1,5 +1,5 @@
 -- The entries of a slice, joined of the measures of its parts.
-use Rattle.std.proofs.Common.{◌≡◌, ℕ, ◌+◌, ◌-◌, ◌*◌, ◌^◌, ◌<◌, ◌≤◌, List, [], ◌∷◌, ◌++◌, length, map, take, get_or, ℤ, refl, sym, ap, ◌∙◌, subst, arith}
+use Rattle.std.proofs.Common.{◌≡◌, ℕ, ◌+◌, ◌-◌, ◌<◌, List, [], ◌∷◌, ◌++◌, map, take, get_or, ℤ, refl, sym, ap, ◌∙◌, arith}
 use Rattle.std.specs.List.{range_with_len}
 use Rattle.std.proofs.lemmas.List.{ext_get_or, get_or-take}
 use Rattle.std.proofs.lemmas.List.FromFn.{map-range_with_len_more, get_or-map-range_with_len, length-map-range_with_len}
@@ -10,7 +10,7 @@ use Rattle.pr_frame.specs.Forms.{scan_of}
 use Rattle.rate_table.specs.declared.entry.Entry.{Entry}
 use Rattle.rate_build.specs.declared.costs.Measure.{Measure}
 use Rattle.rate_build.specs.declared.slices.SliceCoefficients.{SliceCoefficients}
-use Rattle.rate_build.specs.Measures.{measured, all_measured, no_measure, IsSmall, AreSmall}
+use Rattle.rate_build.specs.Measures.{measured, all_measured, no_measure}
 use Rattle.rate_build.specs.Tables.{entry_of, entries_of, joined_entry}
 
 pub joined_more : (y cb cr : List Measure) (lo i k : ℕ) (entries : List Entry) (e : Entry) → k ≡ i → e.index ≡ lo + i

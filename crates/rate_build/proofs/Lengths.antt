@@ -1,6 +1,6 @@
 -- How long coded frames are, and their slices.
-use Rattle.std.proofs.Common.{◌≡◌, ℕ, zero, suc, ◌+◌, ◌-◌, ◌*◌, ◌<◌, ◌≤◌, List, [], ◌∷◌, ◌++◌, length, map, take, drop, refl, sym, ap, ◌∙◌, subst, arith, length-append, length-take-le}
-use Rattle.std.specs.List.{Contains, AllZip, sum, sum_by, range_with_len}
+use Rattle.std.proofs.Common.{◌≡◌, ℕ, zero, suc, ◌+◌, ◌-◌, ◌*◌, List, [], ◌∷◌, length, map, take, drop, refl, sym, ap, ◌∙◌, subst, arith, length-take-le}
+use Rattle.std.specs.List.{Contains, sum, range_with_len}
 use Rattle.std.proofs.lemmas.List.{length-map, length-drop, drop-drop, take-append-drop, map-append, nil_from_length}
 use Rattle.std.proofs.lemmas.List.Sums.{sum_by-append, sum_by-cons}
 use Rattle.std.proofs.lemmas.Slice.Zip.{AllZip-long}
@@ -8,18 +8,16 @@ use Rattle.pw_planes.specs.declared.kinds.AlphaKind.{AlphaKind}
 use Rattle.pw_planes.specs.declared.kinds.Interlace.{Interlace}
 use Rattle.pr_geom.specs.Layout.{slices_of}
 use Rattle.pr_geom.specs.Slices.{pictures_of}
-use Rattle.pr_head.specs.declared.frame.FrameHeader.{FrameHeader}
 use Rattle.pr_quant.specs.declared.weights.Weights.{Weights}
 use Rattle.pr_frame.specs.declared.coded.CodedSlice.{CodedSlice}
 use Rattle.pr_frame.specs.declared.coded.CodedPicture.{CodedPicture}
-use Rattle.pr_frame.specs.Written.{slice_length, picture_length, frame_length_of}
+use Rattle.pr_frame.specs.Written.{slice_length, picture_length}
 use Rattle.rate_table.specs.declared.entry.Entry.{Entry}
 use Rattle.rate_table.specs.Table.{IsChoice, size_of, indices}
 use Rattle.rate_table.proofs.Lists.{contains_map}
 use Rattle.rate_build.specs.declared.slices.SliceCoefficients.{SliceCoefficients}
-use Rattle.rate_build.specs.Coefficients.{FrameCoefficients, AreOfLayout}
-use Rattle.rate_build.specs.Coding.{coded_slice, coded_slices, coded_picture, coded_frame, weights_in, IsHeaderOf}
-use Rattle.rate_build.specs.Tables.{entry_of, entries_of, slice_size, table_of}
+use Rattle.rate_build.specs.Coding.{coded_slice, coded_slices, weights_in}
+use Rattle.rate_build.specs.Tables.{entry_of, entries_of}
 use Rattle.rate_build.specs.Laws.{FrameHasTableSize}
 use Rattle.rate_build.proofs.Whole.{slices_number}
 

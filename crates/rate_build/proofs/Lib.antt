@@ -5,3 +5,4 @@ pub mod InTurn
 pub mod Joined
 pub mod Whole
 pub mod Lengths
+pub mod Chosen

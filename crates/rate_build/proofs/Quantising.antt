@@ -1,6 +1,6 @@
 -- A block quantised place by place, and a part block by block.
-use Rattle.std.proofs.Common.{◌≡◌, ℕ, ◌+◌, ◌-◌, ◌*◌, ◌^◌, ◌<◌, ◌≤◌, List, [], ◌∷◌, ◌++◌, length, map, take, get_or, ℤ, pos, nat_abs, set, to_z, of_z, w16, refl, sym, ap, ◌∙◌, subst, arith}
-use Rattle.std.specs.List.{All, sum, sum_by, range_with_len}
+use Rattle.std.proofs.Common.{◌≡◌, ℕ, ◌+◌, ◌-◌, ◌<◌, ◌≤◌, List, [], length, map, take, get_or, ℤ, pos, nat_abs, set, to_z, of_z, w16, refl, sym, ap, ◌∙◌, subst, arith}
+use Rattle.std.specs.List.{sum, sum_by, range_with_len}
 use Rattle.std.proofs.lemmas.List.{get_or-map, ext_get_or, length-map, get_or-take, length-take-le}
 use Rattle.std.proofs.lemmas.List.Edits.{fill_by_more}
 use Rattle.std.proofs.lemmas.List.FromFn.{sum_by-map-range_with_len_more, fill_by_all, get_or-map-range_with_len, length-map-range_with_len}

@@ -1,6 +1,5 @@
 -- A slice of coefficients has what its parts have.
-use Rattle.std.proofs.Common.{◌≡◌, ℕ, ◌^◌, ◌<◌, List, [], length, map, ℤ, Option, None, refl, sym, ap, ◌∙◌, subst, arith}
-use Rattle.std.specs.List.{All}
+use Rattle.std.proofs.Common.{◌≡◌, ℕ, List, [], length, ℤ, None, ap, ◌∙◌, arith}
 use Rattle.std.proofs.lemmas.List.{length-map}
 use Rattle.pw_planes.specs.declared.kinds.AlphaKind.TheVariants.{Absent}
 use Rattle.pw_planes.specs.declared.kinds.Chroma.{Chroma}
@@ -10,7 +9,6 @@ use Rattle.pr_geom.specs.declared.places.Part.{Part}
 use Rattle.pr_geom.specs.declared.places.Part.TheVariants.{Y, Cb, Cr}
 use Rattle.pr_geom.specs.declared.places.SlicePlace.{SlicePlace}
 use Rattle.pr_geom.specs.Blocks.{blocks_of}
-use Rattle.pr_frame.specs.Forms.{alpha_depth}
 use Rattle.rate_build.specs.declared.slices.SliceCoefficients.{SliceCoefficients}
 use Rattle.rate_build.specs.Measures.{ArePart}
 use Rattle.rate_build.specs.Coefficients.{coefficients_at, part_coefficients, alpha_values, Planes, slice_coefficients, IsSliceAt}

@@ -1,6 +1,6 @@
 -- How large quantised values, errors and components are.
-use Rattle.std.proofs.Common.{◌≡◌, ℕ, ◌+◌, ◌*◌, ◌-◌, ◌^◌, ◌<◌, ◌≤◌, inl, inr, List, [], ◌∷◌, length, map, take, get_or, ℤ, pos, nat_abs, zero, suc, add-one, refl, sym, ap, ◌∙◌, subst, arith, true, false, nat_le, if◌then◌else◌, lit≤}
-use Rattle.std.specs.List.{All, sum, sum_by, range_with_len}
+use Rattle.std.proofs.Common.{◌≡◌, ℕ, ◌+◌, ◌*◌, ◌-◌, ◌^◌, ◌<◌, ◌≤◌, inl, inr, List, [], ◌∷◌, length, map, take, get_or, ℤ, pos, nat_abs, zero, suc, add-one, refl, sym, ap, ◌∙◌, subst, arith}
+use Rattle.std.specs.List.{All, sum_by}
 use Rattle.std.proofs.Math.Nat.{mul-le-mul_right}
 use Rattle.std.proofs.lemmas.Nat.{mul-le}
 use Rattle.std.proofs.lemmas.List.Sums.{sum_by-le}
@@ -9,10 +9,10 @@ use Rattle.std.proofs.lemmas.List.{get_or-map, get_or-take, get_or_past, length-
 use Rattle.std.proofs.lemmas.List.Elements.{All-head, All-tail}
 use Rattle.std.proofs.lemmas.List.FromFn.{get_or-map-range_with_len, length-map-range_with_len}
 use Rattle.pr_dct.specs.Transform.{AreWithin}
-use Rattle.pr_quant.specs.Quantised.{scale_of, quantised, error_of, greatest_coefficient, greatest_multiplier}
+use Rattle.pr_quant.specs.Quantised.{scale_of, quantised, greatest_coefficient}
 use Rattle.pr_quant.specs.Matrices.{IsWeight}
 use Rattle.pr_quant.proofs.NearestLemmas.{quantised_small, error_small}
-use Rattle.pr_coeff.specs.Component.{AreBlocks, AllSmall, IsScan, component}
+use Rattle.pr_coeff.specs.Component.{AreBlocks, IsScan, component}
 use Rattle.pr_coeff.proofs.WholeLemmas.{scan_of as is_scan}
 use Rattle.pr_coeff.specs.declared.scan.Scan.TheVariants as scans
 use Rattle.pr_frame.specs.Forms.{scan_of}

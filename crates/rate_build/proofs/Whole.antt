@@ -1,10 +1,9 @@
 -- The table of a frame is within the limits of tables.
-use Rattle.std.proofs.Common.{◌≡◌, ℕ, ◌+◌, ◌-◌, ◌*◌, ◌^◌, ◌<◌, ◌≤◌, List, [], ◌∷◌, ◌++◌, length, map, refl, sym, ap, ◌∙◌, subst, arith, length-append}
+use Rattle.std.proofs.Common.{◌≡◌, ◌*◌, ◌^◌, ◌<◌, ◌≤◌, List, [], ◌∷◌, ◌++◌, length, ◌∙◌, arith, length-append}
 use Rattle.std.proofs.Math.Nat.{mul-le-mul_right}
 use Rattle.std.proofs.lemmas.Nat.{mul-le}
 use Rattle.std.proofs.lemmas.List.Sums.{sum_by-cons}
-use Rattle.std.specs.List.{All, AllZip, Contains, flat_map, range_with_len}
-use Rattle.std.proofs.lemmas.List.{length-map}
+use Rattle.std.specs.List.{All, AllZip, flat_map, range_with_len}
 use Rattle.std.proofs.lemmas.List.Elements.{All-cons, All-head, All-tail, All-contains}
 use Rattle.std.proofs.lemmas.Slice.Zip.{AllZip-long}
 use Rattle.pw_planes.specs.declared.kinds.Interlace.{Interlace}
@@ -16,7 +15,7 @@ use Rattle.pr_geom.specs.declared.places.SlicePlace.{SlicePlace}
 use Rattle.pr_geom.specs.Layout.{slices_of}
 use Rattle.pr_geom.specs.Slices.{pictures_of}
 use Rattle.rate_table.specs.declared.entry.Entry.{Entry}
-use Rattle.rate_table.specs.Table.{IsEntry, IsSlice, IsChoice, IsTable, error_of}
+use Rattle.rate_table.specs.Table.{IsEntry, IsSlice, IsChoice, error_of}
 use Rattle.rate_build.specs.declared.slices.SliceCoefficients.{SliceCoefficients}
 use Rattle.rate_build.specs.Coefficients.{FrameCoefficients, IsSliceAt, frame_places, AreOfLayout}
 use Rattle.rate_build.specs.Tables.{HasParts}

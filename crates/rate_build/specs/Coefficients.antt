@@ -1,6 +1,6 @@
 -- The coefficients of a picture: those of each block of each slice of its coded pictures, in order (blocks, slices and fields as
 -- in SMPTE RDD 36, picture structure; the transform and the repeated edges are our own).
-use Rattle.std.specs.Prelude.{◌≡◌, ℕ, ◌+◌, ◌*◌, ◌^◌, ◌<◌, ◌≤◌, List, [], ◌∷◌, length, map, Option, None, Some, ℤ}
+use Rattle.std.specs.Prelude.{◌≡◌, ℕ, ◌+◌, ◌*◌, ◌^◌, ◌<◌, List, [], ◌∷◌, length, map, Option, None, Some, ℤ}
 use Rattle.std.specs.List.{All, AllZip, flat_map, range_with_len}
 use Rattle.pw_planes.specs.declared.kinds.AlphaKind.{AlphaKind}
 use Rattle.pw_planes.specs.declared.kinds.Chroma.{Chroma}
@@ -24,7 +24,7 @@ use Rattle.pr_geom.specs.Slices.{pictures_of}
 use Rattle.pr_dct.specs.Transform.{coefficients}
 use Rattle.pr_frame.specs.Forms.{alpha_count, alpha_depth}
 use Rattle.rate_build.specs.declared.slices.SliceCoefficients.{SliceCoefficients}
-use Rattle.rate_build.specs.Measures.{IsBlock, ArePart}
+use Rattle.rate_build.specs.Measures.{ArePart}
 
 -- ---- blocks and slices
 

@@ -1,5 +1,5 @@
 -- The table of a frame: what each slice costs at each quantisation index (our own).
-use Rattle.std.specs.Prelude.{◌≡◌, ℕ, ◌+◌, ◌-◌, ◌*◌, ◌<◌, List, length, map, get_or}
+use Rattle.std.specs.Prelude.{ℕ, ◌+◌, ◌-◌, ◌*◌, ◌<◌, List, length, map, get_or}
 use Rattle.std.specs.List.{All, range_with_len}
 use Rattle.pw_planes.specs.declared.kinds.AlphaKind.{AlphaKind}
 use Rattle.pw_planes.specs.declared.kinds.Interlace.{Interlace}

@@ -52,7 +52,7 @@ fn quantise_value(value: i16, multiplier: u32) -> (i16, u64)
 }
 
 /// Writes a block quantised, and gives the sum of its squared errors.
-fn quantise_block(block: &Block, multipliers: &[u32; 64], quantised: &mut Block) -> u64
+pub(crate) fn quantise_block(block: &Block, multipliers: &[u32; 64], quantised: &mut Block) -> u64
     requires block { AreWithin greatest_coefficient block.now }
     requires multipliers { (p : ℕ) → p < 64 → IsMultiplier (slice_index multipliers.now p) }
     ensures value { quantised.new ≡ quantised_block multipliers.now block.now }

@@ -11,6 +11,8 @@ mod sums;
 mod table;
 mod writing;
 #[cfg(test)]
+mod writing_tests;
+#[cfg(test)]
 mod tests;
 
 pub use entry::{Entry, Pair};

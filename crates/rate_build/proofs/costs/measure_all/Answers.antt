@@ -1,6 +1,6 @@
-use Rattle.std.proofs.Common.{ℕ, ◌+◌, ◌≡◌, ◌<◌, get_or, sym, subst, ap, ◌∙◌, arith}
+use Rattle.std.proofs.Common.{◌+◌, get_or, sym, subst, arith}
 use Rattle.pr_coeff.specs.Component.{places}
-use Rattle.rate_build.specs.Measures.{IsMultiplier, measured, multipliers}
+use Rattle.rate_build.specs.Measures.{IsMultiplier, measured}
 use Rattle.rate_build.proofs.Small.{are_multipliers}
 use Rattle.rate_build.proofs.Quantising.{measured_is, measures_more, all_filled}
 use Rattle.rate_build.proofs.costs.measure_all.Goals as goal

@@ -1,4 +1,4 @@
-use Rattle.std.proofs.Common.{◌≡◌, ◌*◌, ◌^◌, ◌<◌, ◌≤◌, ℕ, [], length, get_or, take}
+use Rattle.std.proofs.Common.{◌≡◌, ◌*◌, ◌^◌, ◌<◌, ◌≤◌, ℕ, [], get_or, take}
 use Rattle.std.specs.List.{sum_by}
 use Rattle.rate_build.specs.Measures.{quantised_block, block_error}
 use Rattle.rate_build.proofs.costs.quantise_blocks.Given as goal

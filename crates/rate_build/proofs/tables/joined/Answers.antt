@@ -1,4 +1,4 @@
-use Rattle.std.proofs.Common.{arith, rules}
+use Rattle.std.proofs.Common.{arith}
 use Rattle.std.proofs.lemmas.List.Elements.{All-push}
 use Rattle.rate_table.proofs.Behind.{slice-behind, last_index-behind}
 use Rattle.rate_build.specs.Tables.{IsShort}

@@ -1,6 +1,5 @@
-use Rattle.std.proofs.Common.{sym, subst, ap, ◌∙◌}
+use Rattle.std.proofs.Common.{◌∙◌}
 use Rattle.pr_frame.specs.Forms.{scan_of}
-use Rattle.rate_build.proofs.Small.{mode_scan, measures_small}
 use Rattle.rate_build.proofs.Joined.{joined_is, measures_told}
 use Rattle.rate_build.proofs.tables.slice_table.Goals as goal
 

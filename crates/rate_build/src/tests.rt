@@ -1,0 +1,220 @@
+//! Tables that were worked out outside of this crate.
+
+ghost use Rattle.std.specs.Prelude.{◌≡◌, ◌^◌, None};
+ghost use Rattle.pw_planes.specs.declared.kinds.Chroma.TheVariants.{C422};
+ghost use Rattle.pw_planes.specs.declared.kinds.AlphaKind.TheVariants.{Absent};
+ghost use Rattle.pw_planes.specs.Samples.{bits_of};
+ghost use Rattle.rate_build.specs.Coefficients.{HasDepth};
+
+use super::*;
+use pr_geom::Layout;
+use pr_quant::laws::named_weights_are_in_range;
+use pr_quant::{Matrix, Weights};
+use pw_planes::{AlphaKind, Chroma, Depth, Interlace, Picture, Plane};
+use rate_table::{Entry, FrameTable};
+use std::alloc::Global;
+use std::process::Abort;
+
+fn limit(depth: Depth) -> u16
+    ensures { result ≡ 2 ^ bits_of depth }
+{
+    match depth {
+        Depth::D8 => 256,
+        Depth::D10 => 1024,
+        Depth::D12 => 4096,
+    }
+}
+
+/// A plane of samples of two bytes each, the low byte first.
+fn plane(
+    rt: &impl Abort,
+    alloc: Global,
+    bytes: &[u8],
+    size: (u32, u32),
+    depth: Depth,
+) -> Plane
+    ensures { HasDepth result depth }
+{
+    let (width, height) = size;
+    assert!(rt; 1 <= width && width <= 64 && 1 <= height && height <= 64);
+    let limit = limit(depth);
+    let mut samples = Vec::new(alloc);
+    for i in 0..bytes.len() / 2 {
+        let sample = u16::from(bytes[2 * i]) + 256 * u16::from(bytes[2 * i + 1]);
+        assert!(rt; sample < limit);
+        samples.push(sample).expect(rt, "memory");
+    }
+    assert!(rt; samples.len() == (height * width) as usize);
+    Plane::from_samples(width, height, samples)
+}
+
+/// A picture of so many columns and rows, plane behind plane.
+fn picture(
+    rt: &impl Abort,
+    alloc: Global,
+    bytes: &[u8],
+    size: (u32, u32),
+    depth: Depth,
+) -> Picture
+    ensures depth { (result.depth ≡ depth) × HasDepth result.y depth × HasDepth result.cb depth × HasDepth result.cr depth }
+    ensures form { (result.chroma ≡ C422) × (result.alpha ≡ None) }
+{
+    let (width, height) = size;
+    assert!(rt; width <= 64 && height <= 64);
+    let narrow = width.div_ceil(2);
+    let luma = 2 * (width * height) as usize;
+    let chroma = 2 * (narrow * height) as usize;
+    let y = bytes.get(..luma).unwrap_or(&[]);
+    let cb = bytes.get(luma..luma + chroma).unwrap_or(&[]);
+    let cr = bytes.get(luma + chroma..).unwrap_or(&[]);
+    Picture {
+        y: plane(rt, alloc, y, (width, height), depth),
+        cb: plane(rt, alloc, cb, (narrow, height), depth),
+        cr: plane(rt, alloc, cr, (narrow, height), depth),
+        alpha: None,
+        chroma: Chroma::C422,
+        depth,
+    }
+}
+
+/// The coefficients of a picture.
+fn coefficients(
+    rt: &impl Abort,
+    alloc: Global,
+    picture: &Picture,
+    size: (u16, u16),
+    log2: u8,
+) -> Coefficients
+    requires form { (picture.now.chroma ≡ C422) × (picture.now.alpha ≡ None) }
+    requires depth { HasDepth picture.now.y picture.now.depth × HasDepth picture.now.cb picture.now.depth × HasDepth picture.now.cr picture.now.depth }
+    ensures { result.alpha ≡ Absent }
+{
+    let (width, height) = size;
+    assert!(rt; log2 <= 3);
+    assert!(rt; picture.has_size(u32::from(width), u32::from(height)));
+    match Layout::new(width, height, log2, Interlace::Progressive, Chroma::C422) {
+        Ok(layout) => coefficients_of(alloc, picture, &layout, AlphaKind::Absent).expect(rt, "memory"),
+        Err(_) => rt.abort(),
+    }
+}
+
+/// The table of a picture, with a budget of 1,000 bytes.
+fn table(
+    rt: &impl Abort,
+    alloc: Global,
+    bytes: &[u8],
+    (width, height): (u16, u16),
+    (depth, log2, matrix): (Depth, u8, Matrix),
+    (lo, hi): (u8, u8),
+) -> FrameTable {
+    let picture = picture(rt, alloc, bytes, (u32::from(width), u32::from(height)), depth);
+    let coefficients = coefficients(rt, alloc, &picture, (width, height), log2);
+    assert!(rt; 1 <= lo && lo <= hi && hi <= 224);
+    named_weights_are_in_range();
+    let weights = Weights::named(matrix);
+    build_table(alloc, &coefficients, &weights, lo, hi, 1000).expect(rt, "memory")
+}
+
+/// A slice has these sizes and errors, from index `lo` on.
+fn has_entries(rt: &impl Abort, table: &FrameTable, slice: usize, lo: u8, want: &[(u16, u64)]) {
+    assert!(rt; slice < table.slices.as_slice().len());
+    let entries = table.slices.as_slice()[slice].entries();
+    assert_eq!(rt; entries.len(), want.len());
+    let mut index = lo;
+    for (entry, (size, error)) in entries.iter().zip(want) {
+        assert_eq!(rt; *entry, Entry { index, size: *size, error: *error });
+        assert!(rt; index < 255);
+        index += 1;
+    }
+}
+
+#[test]
+fn builds_the_table_of_a_grey_picture(rt: HostRuntime) {
+    let mut bytes = [0; 1024];
+    for i in 0..512 {
+        bytes[2 * i + 1] = 2;
+    }
+    let form = (Depth::D10, 3, Matrix::Flat);
+    let table = table(&rt, rt.alloc(), &bytes, (16, 16), form, (1, 3));
+    assert_eq!(rt; (table.budget, table.fixed), (1000, 166));
+    assert_eq!(rt; table.slices.as_slice().len(), 1);
+    has_entries(&rt, &table, 0, 1, &[(12, 0), (12, 0), (12, 0)]);
+}
+
+#[test]
+fn builds_the_table_of_9_by_2(rt: HostRuntime) {
+    let bytes = b"\xe5\x00\xe5\x00\xe5\x00\xe5\x00\x1a\x00\x1a\x00\x1a\x00\x1a\x00\xe5\x00\xe5\x00\
+        \xe5\x00\xe5\x00\xe5\x00\x1a\x00\x1a\x00\x1a\x00\x1a\x00\xe5\x00\xac\x00\xac\x00\
+        \xac\x00\xac\x00\x53\x00\xac\x00\xac\x00\xac\x00\xac\x00\x53\x00\x5e\x00\x5e\x00\
+        \x5e\x00\x5e\x00\xa1\x00\x5e\x00\x5e\x00\x5e\x00\x5e\x00\xa1\x00";
+    let size = (9, 2);
+    let form = (Depth::D8, 2, Matrix::Steep);
+    let table = table(&rt, rt.alloc(), bytes, size, form, (1, 1));
+    assert_eq!(rt; table.fixed, 166);
+    assert_eq!(rt; table.slices.as_slice().len(), 1);
+    has_entries(&rt, &table, 0, 1, &[(81, 144)]);
+}
+
+#[test]
+fn builds_the_table_of_1_by_2(rt: HostRuntime) {
+    let bytes = b"\x3f\x01\x55\x01\x64\x01\x3d\x01\x4e\x01\x7a\x01";
+    let size = (1, 2);
+    let form = (Depth::D10, 1, Matrix::Flat);
+    let table = table(&rt, rt.alloc(), bytes, size, form, (1, 4));
+    assert_eq!(rt; table.fixed, 166);
+    assert_eq!(rt; table.slices.as_slice().len(), 1);
+    has_entries(&rt, &table, 0, 1, &[(68, 28), (62, 156), (59, 332), (56, 940)]);
+}
+
+#[test]
+fn builds_the_table_of_4_by_4(rt: HostRuntime) {
+    let bytes = b"\x38\x01\x38\x01\x38\x01\x38\x01\x38\x01\x38\x01\x38\x01\x38\x01\x38\x01\x38\x01\
+        \x38\x01\x38\x01\x38\x01\x38\x01\x38\x01\x38\x01\x0e\x03\x0e\x03\x0e\x03\x0e\x03\
+        \x0e\x03\x0e\x03\x0e\x03\x0e\x03\x1d\x00\x1d\x00\x1d\x00\x1d\x00\x1d\x00\x1d\x00\
+        \x1d\x00\x1d\x00";
+    let size = (4, 4);
+    let form = (Depth::D10, 3, Matrix::Steep);
+    let table = table(&rt, rt.alloc(), bytes, size, form, (200, 215));
+    assert_eq!(rt; table.fixed, 166);
+    assert_eq!(rt; table.slices.as_slice().len(), 1);
+    has_entries(&rt, &table, 0, 200, &[(12, 925826), (12, 749250), (12, 713986), (12, 820034), (12, 1067394), (12, 1456066), (12, 1986050), (12, 2657346), (12, 3469954), (12, 4423874), (12, 5161602), (12, 4805250), (12, 4324994), (12, 3954306), (12, 3693186), (12, 3541634)]);
+}
+
+#[test]
+fn builds_the_table_of_20_by_1(rt: HostRuntime) {
+    let bytes = b"\x29\x08\xba\x08\x4b\x09\xdc\x09\x6d\x0a\xfe\x0a\x8f\x0b\x20\x0c\xb1\x0c\x42\x0d\
+        \xd3\x0d\x64\x0e\xf5\x0e\x86\x0f\xff\x0f\xff\x0f\xff\x0f\xff\x0f\xff\x0f\xff\x0f\
+        \xce\x08\x64\x08\xfa\x07\x90\x07\x26\x07\xbc\x06\x52\x06\xe8\x05\x7e\x05\x14\x05\
+        \x1e\x09\x9d\x08\x1c\x08\x9b\x07\x1a\x07\x99\x06\x18\x06\x97\x05\x16\x05\x95\x04";
+    let size = (20, 1);
+    let form = (Depth::D12, 0, Matrix::Flat);
+    let table = table(&rt, rt.alloc(), bytes, size, form, (2, 2));
+    assert_eq!(rt; table.fixed, 168);
+    assert_eq!(rt; table.slices.as_slice().len(), 2);
+    has_entries(&rt, &table, 0, 2, &[(77, 324)]);
+    has_entries(&rt, &table, 1, 2, &[(51, 184)]);
+}
+
+#[test]
+fn builds_the_table_of_1_by_9(rt: HostRuntime) {
+    let bytes = b"\x41\x06\xff\x07\x41\x06\xff\x07\x41\x06\xff\x07\x41\x06\xff\x07\x41\x06\xfb\x07\
+        \xff\x07\xfb\x07\xff\x07\xfb\x07\xff\x07\xfb\x07\xff\x07\xfb\x07\x71\x07\xff\x07\
+        \x71\x07\xff\x07\x71\x07\xff\x07\x71\x07\xff\x07\x71\x07";
+    let size = (1, 9);
+    let form = (Depth::D12, 1, Matrix::Steep);
+    let table = table(&rt, rt.alloc(), bytes, size, form, (126, 132));
+    assert_eq!(rt; table.fixed, 166);
+    assert_eq!(rt; table.slices.as_slice().len(), 1);
+    has_entries(&rt, &table, 0, 126, &[(19, 1677608), (17, 1686844), (17, 1696448), (16, 1644512), (16, 1657152), (16, 1596128), (16, 1504448)]);
+}
+
+#[test]
+fn builds_the_table_of_2_by_1(rt: HostRuntime) {
+    let bytes = b"\xec\x01\xe9\x01\x06\x09\x71\x08";
+    let size = (2, 1);
+    let form = (Depth::D12, 0, Matrix::Flat);
+    let table = table(&rt, rt.alloc(), bytes, size, form, (1, 7));
+    assert_eq!(rt; table.fixed, 166);
+    assert_eq!(rt; table.slices.as_slice().len(), 1);
+    has_entries(&rt, &table, 0, 1, &[(21, 22), (15, 166), (13, 214), (13, 390), (13, 486), (13, 838), (13, 662)]);
+}
