@@ -115,7 +115,7 @@ impl MovieWriter {
     /// Appends the movie atom, over the frames whose heads were appended. Takes all its memory before it writes the first byte.
     pub fn finish<K: ByteSink>(self, alloc: Global, sink: &mut K) -> Result<(), WriteEnd>
         // All of it is appended, or after `Failed` a part from its front, or after `NoMemory` nothing.
-        ensures bytes { Writes (K.held sink.old) (K.held sink.new) (K.taken sink.old) (K.taken sink.new) result (moov_bytes self.head (extents self.sizes)) }
+        ensures bytes { Writes result (sink_state (K.held sink.old) (K.taken sink.old)) (sink_state (K.held sink.new) (K.taken sink.new)) (moov_bytes self.head (extents self.sizes)) }
         ensures settled { K.settled sink.old ≤ K.settled sink.new }
         ensures cause { CountsFault (K.faults sink.old) (K.faults sink.new) (write_failed result) }
     {
