@@ -1,3 +1,4 @@
 mod InOrder
 mod Contained
 mod Lengths
+mod Frames

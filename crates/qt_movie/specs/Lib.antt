@@ -1,3 +1,4 @@
 pub mod Movie
 pub mod Ranges
 pub mod MovieBytes
+pub mod Laws

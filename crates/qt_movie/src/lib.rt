@@ -5,6 +5,7 @@ mod containers;
 mod description;
 mod external;
 mod fields;
+mod laws;
 mod leaves;
 mod moov;
 mod parts;
@@ -15,6 +16,7 @@ mod track;
 mod writer;
 
 pub use description::Description;
+pub use laws::frames_lie_at_their_places;
 pub use parts::Parts;
 pub use qt_tables::{MovieFault, MovieKind, Sample};
 pub use reader::{MovieReader, Track};
