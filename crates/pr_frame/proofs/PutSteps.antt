@@ -1,11 +1,11 @@
 -- Slices, pictures and frames, written piece by piece.
-use Rattle.std.proofs.Common.{◌≡◌, ℕ, zero, suc, ◌+◌, ◌<◌, ◌≤◌, false, List, [], ◌∷◌, ◌++◌, length, take, drop, get_or, map, sum, Result, Ok, Err, refl, sym, ap, ◌∙◌, subst, arith, append_assoc, length-append}
+use Rattle.std.proofs.Common.{◌≡◌, ℕ, zero, suc, ◌+◌, ◌<◌, ◌≤◌, false, List, [], ◌∷◌, ◌++◌, length, take, drop, get_or, map, sum, Result, Ok, Err, refl, sym, ap, ◌∙◌, subst, arith, append_assoc}
 use Rattle.std.specs.Prelude.{OnOk, OnErr}
-use Rattle.std.specs.List.{All, flat_map}
+use Rattle.std.specs.List.{flat_map}
 use Rattle.std.specs.Int.{w16, to_be_bytes}
 use Rattle.std.proofs.lemmas.List.{take_more, append-nil, take_all, take-append-drop}
 use Rattle.pw_outside.specs.Writing.{SinkState, Puts, PutsFront, PutsPart}
-use Rattle.pw_outside.proofs.Puts.{puts_then, puts_front, part_front, front_more, then_front}
+use Rattle.pw_outside.proofs.Puts.{puts_then, part_front, front_more, then_front}
 use Rattle.pw_planes.specs.declared.kinds.AlphaKind.TheVariants.{Absent}
 use Rattle.pw_planes.specs.declared.kinds.Interlace.{Interlace}
 use Rattle.pr_coeff.specs.Component.{Block}
@@ -18,7 +18,7 @@ use Rattle.pr_frame.specs.declared.coded.CodedSlice.{CodedSlice}
 use Rattle.pr_frame.specs.declared.coded.CodedPicture.{CodedPicture}
 use Rattle.pr_frame.specs.declared.coded.CodedFrame.{CodedFrame}
 use Rattle.pr_frame.proofs.SliceLoop.{sum-front}
-use Rattle.pr_frame.specs.Written.{component_bytes, slice_header_of, slice_bytes, slice_length, slice_lengths, picture_length, picture_bytes, frame_length_of, written}
+use Rattle.pr_frame.specs.Written.{component_bytes, slice_header_of, slice_bytes, slice_length, picture_length, picture_bytes, frame_length_of, written}
 
 pub on-ok : {X E P Q : Type 0} (r : Result X E) → (P → Q) → OnOk r P → OnOk r Q
 on-ok (Ok x) f p = f p

@@ -1,10 +1,9 @@
 -- What was written is read again.
-use Rattle.std.proofs.Common.{◌≡◌, ℕ, zero, suc, ◌+◌, ◌-◌, ◌*◌, ◌%◌, ◌^◌, ◌<◌, ◌≤◌, Bool, true, false, not, List, [], ◌∷◌, ◌++◌, length, take, drop, map, sum, Result, Ok, Err, refl, sym, ap, ◌∙◌, subst, arith, length-append, append_assoc}
+use Rattle.std.proofs.Common.{◌≡◌, ℕ, suc, ◌+◌, ◌-◌, ◌*◌, ◌%◌, ◌^◌, ◌<◌, ◌≤◌, false, not, List, [], ◌∷◌, ◌++◌, length, take, map, sum, Ok, refl, sym, ap, ◌∙◌, subst, arith, append_assoc}
 use Rattle.std.specs.List.{All, flat_map}
-use Rattle.std.proofs.lemmas.List.{append-nil}
 use Rattle.std.proofs.lemmas.List.Elements.{All-head, All-tail, All-nil, All-cons}
-use Rattle.pw_outside.specs.Reading.{Fault, Rest, Read, bind}
-use Rattle.pw_bits.specs.Bits.{bits, bytes, zeros}
+use Rattle.pw_outside.specs.Reading.{Rest}
+use Rattle.pw_bits.specs.Bits.{bits}
 use Rattle.pw_bits.proofs.BitsLemmas.{bits-bytes}
 use Rattle.pw_planes.specs.declared.kinds.Interlace.{Interlace}
 use Rattle.pw_planes.specs.declared.kinds.AlphaKind.{AlphaKind}
@@ -15,13 +14,11 @@ use Rattle.pr_geom.specs.declared.places.SlicePlace.{SlicePlace}
 use Rattle.pr_geom.specs.declared.places.Part.TheVariants.{Y, Cb, Cr}
 use Rattle.pr_geom.specs.Slices.{pictures_of}
 use Rattle.pr_coeff.specs.Component.{Block, AreBlocks, IsScan, Stands, spelling, component}
-use Rattle.pr_head.specs.declared.fault.FrameKind.{FrameKind}
 use Rattle.pr_head.specs.declared.frame.FrameHeader.{FrameHeader}
 use Rattle.pr_head.specs.declared.picture.PictureHeader.{PictureHeader}
-use Rattle.pr_head.specs.declared.slice.SliceHeader.{SliceHeader}
-use Rattle.pr_head.specs.Header.{IsHeader, header_at, frame_header_bytes}
+use Rattle.pr_head.specs.Header.{IsHeader, frame_header_bytes}
 use Rattle.pr_head.specs.Picture.{picture_at, table_at, picture_header_bytes, slices_in}
-use Rattle.pr_head.specs.Slice.{slice_at, slice_header_bytes, IsSliceHeader}
+use Rattle.pr_head.specs.Slice.{slice_at, slice_header_bytes}
 use Rattle.pr_head.specs.Laws.{sizes_bytes}
 use Rattle.pr_head.specs.Own.{version_of}
 use Rattle.pr_head.proofs.Again.{frame-again, picture-again, sizes-again, slice-again}
@@ -30,10 +27,9 @@ use Rattle.pr_head.proofs.Chain.{bind-step, refuse-step}
 use Rattle.pr_frame.specs.declared.coded.CodedSlice.{CodedSlice}
 use Rattle.pr_frame.specs.declared.coded.CodedPicture.{CodedPicture}
 use Rattle.pr_frame.specs.declared.coded.CodedFrame.{CodedFrame}
-use Rattle.pr_frame.specs.Forms.{scan_of, has_alpha, places_in, block_count, alpha_count, is_built}
+use Rattle.pr_frame.specs.Forms.{scan_of, places_in, block_count, alpha_count, is_built}
 use Rattle.pr_frame.specs.Coded.{IsCodedSlice, AreCodedSlices, IsCodedPicture, IsWritableSlice, IsWritablePicture, HasArrays, HasBlocks, HasShape, CanBeWritten}
 use Rattle.pr_frame.specs.Written.{component_bytes, slice_header_of, slice_bytes, slice_length, slice_lengths, picture_length, picture_bytes, frame_length_of, written}
-use Rattle.pr_frame.specs.Stands.{ComponentStands}
 use Rattle.pr_frame.specs.Reading.{ahead, blocks_at, components_at, coded_slice_at, coded_slices_at, coded_picture_at, coded_pictures_at, frame_at, frame_of}
 use Rattle.pr_frame.proofs.Counts.{HasBlocksOf, AllHave, places-have, count-places}
 use Rattle.pr_frame.proofs.Rests.{coded-is}
@@ -109,7 +105,7 @@ slice-written h place s k rest absent have is has small =
     let short : size < 65535 = subst (λ a. slice_length mode a s < 65535) absent (slice-short h place s have is small) in
     let none : s.alpha ≡ [] = no-values (s.alpha) (is.alpha ∙ ap (λ a. alpha_count a place) absent) in
     let head : slice_at size false (record { place = k; bytes = slice_header_bytes r false ++ body }) ≡ Ok (r, record { place = k + 6; bytes = body }) =
-        slice-again size k false r body (record { least = omega arith; most = omega arith; index_from = is.index_from; index_to = is.index_to; whole = omega arith }) (omega arith) refl refl in
+    slice-again size k false r body (record { least = omega arith; most = omega arith; index_from = is.index_from; index_to = is.index_to; whole = omega arith }) (omega arith) refl refl in
     let end : k + 6 + length y + length cb + length cr ≡ k + size = omega arith in
     ap (λ l. coded_slice_at h place size (record { place = k; bytes = l })) (slice-bytes-are mode s rest)
     ∙ coded-is h place size (record { place = k; bytes = slice_header_bytes r false ++ body }) r (record { place = k + 6; bytes = body }) absent head
@@ -176,7 +172,7 @@ picture-written F h x k rest absent is has small within less =
     let head = picture-again F k h size (length x.slices) x.log2 (table ++ (body ++ rest)) (omega arith) within (omega arith) is.layout.size (few-slices h x is) in
     let read0 = sizes-again r (k + 8) sizes (body ++ rest) short (omega (arith, many)) in
     let read : table_at r (slices_in h r) (record { place = k + 8; bytes = table ++ (body ++ rest) }) ≡ Ok (sizes, record { place = k + 8 + 2 * length sizes; bytes = body ++ rest }) =
-        subst (λ n. table_at r n (record { place = k + 8; bytes = table ++ (body ++ rest) }) ≡ Ok (sizes, record { place = k + 8 + 2 * length sizes; bytes = body ++ rest })) (many ∙ count) read0 in
+    subst (λ n. table_at r n (record { place = k + 8; bytes = table ++ (body ++ rest) }) ≡ Ok (sizes, record { place = k + 8 + 2 * length sizes; bytes = body ++ rest })) (many ∙ count) read0 in
     let slices = slices-written h places x.slices (k + 8 + 2 * length sizes) rest absent have is.slices has small in
     let whole : ahead size (record { place = k; bytes = picture_bytes mode Absent x ++ rest }) ≡ record { place = k + size; bytes = rest } = behind k size (picture_bytes mode Absent x) rest (length-picture mode Absent x) in
     bind-step _ _ (ap (λ l. picture_at F h (record { place = k; bytes = l })) (picture-bytes-are mode x rest) ∙ head)
@@ -230,7 +226,7 @@ frame-written f has w =
     let read = pictures-written size h f.pictures 156 absent w.writable.coded.pictures has.blocks w.writable.values (omega (arith, same)) w.short in
     let t = read.0 in
     let moved : coded_pictures_at (pictures_of h.interlace) size h (record { place = 156; bytes = pics }) ≡ Ok (f.pictures, t) =
-        subst (λ c. coded_pictures_at c size h (record { place = 156; bytes = pics }) ≡ Ok (f.pictures, t)) w.writable.coded.number
-        (subst (λ a. coded_pictures_at (length f.pictures) size h (record { place = 156; bytes = flat_map (picture_bytes h.interlace a) f.pictures }) ≡ Ok (f.pictures, t)) (sym absent) read.1) in
+    subst (λ c. coded_pictures_at c size h (record { place = 156; bytes = pics }) ≡ Ok (f.pictures, t)) w.writable.coded.number
+    (subst (λ a. coded_pictures_at (length f.pictures) size h (record { place = 156; bytes = flat_map (picture_bytes h.interlace a) f.pictures }) ≡ Ok (f.pictures, t)) (sym absent) read.1) in
     let built : not (is_built h) ≡ false = ap not (built-again h w.writable.built) in
     bind-step _ _ (bind-step _ _ head ∙ refuse-step _ _ _ _ built ∙ bind-step _ _ moved)

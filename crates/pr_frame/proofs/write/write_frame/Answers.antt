@@ -1,6 +1,4 @@
-use Rattle.std.proofs.Common.{◌≡◌, ◌<◌, refl, ap, arith, map, sum}
-use Rattle.pw_planes.specs.declared.kinds.AlphaKind.TheVariants.{Absent}
-use Rattle.pr_frame.specs.Ready.{IsReadyPicture}
+use Rattle.std.proofs.Common.{refl, ap, arith, map, sum}
 use Rattle.pr_frame.specs.Written.{picture_length}
 use Rattle.pr_frame.proofs.Short.{pictures-ready}
 use Rattle.pr_frame.proofs.PutSteps.{on-ok, on-err, err-any, frame-puts, frame-head, frame-pictures}

@@ -21,10 +21,10 @@ pub returns-clause-ok : goal.returns-clause-ok
 returns-clause-ok g c =
     let s = c.args.slice.now in
     on-ok c.write_part-3.result (slice-puts c.args.mode s c.header_of.result c.as_slice.result.now c.as_slice-2.result.now c.as_slice-3.result.now c.header_of.ensures c.as_slice.ensures c.as_slice-2.ensures c.as_slice-3.ensures
-        c.in_ok-write_slice_header.ensures.ok c.in_ok-write_part.ensures.ok c.in_ok-write_part-2.ensures.ok) c.write_part-3.ensures.ok
+    c.in_ok-write_slice_header.ensures.ok c.in_ok-write_part.ensures.ok c.in_ok-write_part-2.ensures.ok) c.write_part-3.ensures.ok
 
 pub returns-clause-err : goal.returns-clause-err
 returns-clause-err g c =
     let s = c.args.slice.now in
     on-err c.write_part-3.result (slice-cr c.args.mode s c.header_of.result c.as_slice.result.now c.as_slice-2.result.now c.as_slice-3.result.now c.header_of.ensures c.as_slice.ensures c.as_slice-2.ensures c.as_slice-3.ensures
-        c.in_ok-write_slice_header.ensures.ok c.in_ok-write_part.ensures.ok c.in_ok-write_part-2.ensures.ok) c.write_part-3.ensures.err
+    c.in_ok-write_slice_header.ensures.ok c.in_ok-write_part.ensures.ok c.in_ok-write_part-2.ensures.ok) c.write_part-3.ensures.err
