@@ -1,9 +1,8 @@
 -- What the call that reads a frame answers.
-use Rattle.std.proofs.Common.{◌≡◌, ℕ, List, length, Option, Some, None, Result, Ok, Err, ap, refl}
-use Rattle.std.specs.Prelude.{IsSome, IfOk, IfErr, IfSome}
+use Rattle.std.proofs.Common.{◌≡◌, ℕ, List, length, Option, Some, Result, Ok, Err, ap}
+use Rattle.std.specs.Prelude.{IfOk, IfErr, IfSome}
 use Rattle.std.specs.Result.{result_err}
-use Rattle.pw_outside.specs.Reading.{Fault, Rest, Fails, Gives, Told, bytes_of, rest_of}
-use Rattle.pr_head.specs.declared.fault.FrameKind.{FrameKind}
+use Rattle.pw_outside.specs.Reading.{Fails, Gives, Told, bytes_of, rest_of}
 use Rattle.pr_head.specs.declared.fault.FrameFault.{FrameFault}
 use Rattle.pr_head.specs.declared.fault.FrameFault.TheVariants as faults
 use Rattle.pr_head.specs.Faults.{told_fault}

@@ -1,12 +1,11 @@
 -- Counts of slices and of their blocks.
-use Rattle.std.proofs.Common.{◌≡◌, ℕ, zero, suc, ◌+◌, ◌*◌, ◌/◌, ◌%◌, ◌<◌, ◌≤◌, List, [], ◌∷◌, length, take, drop, get_or, refl, sym, ap, ◌∙◌, subst, arith, pow_mono}
-use Rattle.std.specs.List.{Contains}
+use Rattle.std.proofs.Common.{◌≡◌, ℕ, zero, suc, ◌*◌, ◌/◌, ◌<◌, ◌≤◌, List, [], ◌∷◌, length, drop, get_or, refl, ap, arith, pow_mono}
 use Rattle.pw_planes.specs.declared.kinds.Chroma.{Chroma}
 use Rattle.pw_planes.specs.declared.kinds.Chroma.TheVariants.{C422, C444}
 use Rattle.pr_geom.specs.declared.places.SlicePlace.{SlicePlace}
 use Rattle.pr_geom.specs.declared.places.Part.{Part}
 use Rattle.pr_geom.specs.declared.places.Part.TheVariants.{Y, Cb, Cr}
-use Rattle.pr_geom.specs.Slices.{pictures_of, macroblocks, picture_slices, no_slice}
+use Rattle.pr_geom.specs.Slices.{pictures_of, macroblocks, no_slice}
 use Rattle.pr_geom.specs.Blocks.{blocks_of}
 use Rattle.pr_geom.specs.Faults.{slice_count}
 use Rattle.pr_geom.proofs.SliceLemmas.{slice_bounds}

@@ -1,7 +1,7 @@
 -- The pictures of a frame, and the frame, read.
-use Rattle.std.proofs.Common.{◌≡◌, ℕ, zero, suc, ◌+◌, ◌-◌, ◌*◌, ◌<◌, ◌≤◌, Bool, true, false, not, List, [], ◌∷◌, ◌++◌, length, drop, Option, Some, None, Result, Ok, Err, refl, sym, ap, ◌∙◌, subst, arith, length-drop}
+use Rattle.std.proofs.Common.{◌≡◌, ℕ, suc, ◌+◌, ◌-◌, ◌<◌, ◌≤◌, Bool, true, false, not, List, [], ◌∷◌, ◌++◌, length, Option, Ok, refl, sym, ap, ◌∙◌, subst, arith, length-drop}
 use Rattle.std.proofs.lemmas.List.{append-nil}
-use Rattle.pw_outside.specs.Reading.{Fault, Rest, Read, bind, Fails, bad, bytes_of, rest_of}
+use Rattle.pw_outside.specs.Reading.{Rest, Read, bind, Fails, bad, bytes_of, rest_of}
 use Rattle.pw_outside.proofs.Chains.{with_front, with_front-more, with_front_nil, fails-whole}
 use Rattle.pr_geom.specs.Slices.{pictures_of}
 use Rattle.pr_head.specs.declared.fault.FrameKind.{FrameKind}
@@ -14,7 +14,7 @@ use Rattle.pr_head.proofs.Chain.{bind-ok}
 use Rattle.pr_frame.specs.declared.coded.CodedPicture.{CodedPicture}
 use Rattle.pr_frame.specs.declared.coded.CodedFrame.{CodedFrame}
 use Rattle.pr_frame.specs.Forms.{is_built}
-use Rattle.pr_frame.specs.Reading.{ahead, coded_picture_at, coded_pictures_at, frame_at, frame_of, frame_fault}
+use Rattle.pr_frame.specs.Reading.{ahead, coded_picture_at, coded_pictures_at, frame_at, frame_of}
 use Rattle.pr_frame.proofs.Rests.{ok-both, header-rest}
 use Rattle.pr_frame.proofs.SliceLoop.{ahead-length}
 

@@ -1,26 +1,23 @@
 -- One picture, read.
-use Rattle.std.proofs.Common.{◌≡◌, ℕ, zero, suc, ◌+◌, ◌-◌, ◌*◌, ◌≤◌, List, [], ◌∷◌, length, drop, sum, Option, Result, Ok, Err, refl, sym, ap, ◌∙◌, subst, arith, length-drop}
+use Rattle.std.proofs.Common.{◌≡◌, ℕ, ◌+◌, ◌-◌, ◌*◌, ◌≤◌, List, [], ◌∷◌, length, drop, sum, Option, Ok, refl, sym, ap, ◌∙◌, arith}
 use Rattle.std.proofs.lemmas.List.{drop-drop}
-use Rattle.pw_outside.specs.Reading.{Fault, Rest, Read, bind, Fails, bytes_of, rest_of}
+use Rattle.pw_outside.specs.Reading.{Rest, bind, Fails, bytes_of, rest_of}
 use Rattle.pw_outside.proofs.Chains.{fails-whole}
 use Rattle.pw_planes.specs.declared.kinds.AlphaKind.TheVariants.{Absent}
 use Rattle.pr_geom.specs.declared.places.SlicePlace.{SlicePlace}
 use Rattle.pr_geom.specs.declared.layout.Layout.{Layout}
-use Rattle.pr_geom.specs.Slices.{pictures_of, macroblocks, picture_slices}
 use Rattle.pr_geom.specs.Faults.{slice_count}
 use Rattle.pr_geom.specs.Layout.{IsLayoutOf, slices_of}
-use Rattle.pr_head.specs.declared.fault.FrameKind.{FrameKind}
 use Rattle.pr_head.specs.declared.fault.FrameFault.{FrameFault}
 use Rattle.pr_head.specs.declared.frame.FrameHeader.{FrameHeader}
 use Rattle.pr_head.specs.declared.picture.PictureHeader.{PictureHeader}
 use Rattle.pr_head.specs.Faults.{told_fault}
-use Rattle.pr_head.specs.Picture.{picture_of, slices_in, sizes_of, picture_size, picture_at, table_at}
-use Rattle.pr_head.proofs.Chain.{bind-ok, bind-step}
+use Rattle.pr_head.specs.Picture.{slices_in, picture_size, picture_at, table_at}
+use Rattle.pr_head.proofs.Chain.{bind-ok}
 use Rattle.pr_head.proofs.Passing.{ahead-ahead, ahead-none, same_rest}
 use Rattle.pr_frame.specs.declared.coded.CodedSlice.{CodedSlice}
-use Rattle.pr_frame.specs.declared.coded.CodedPicture.{CodedPicture}
 use Rattle.pr_frame.specs.Forms.{places_in}
-use Rattle.pr_frame.specs.Reading.{ahead, coded_slice_at, coded_slices_at, coded_picture_at}
+use Rattle.pr_frame.specs.Reading.{ahead, coded_slices_at, coded_picture_at}
 use Rattle.pr_frame.proofs.Rests.{ok-both, picture-rest, table-rest, coded-rest}
 use Rattle.pr_frame.proofs.SliceLoop.{sum-front, ahead-length}
 

@@ -1,28 +1,25 @@
 -- What reading leaves: the bytes behind what was read.
-use Rattle.std.proofs.Common.{◌≡◌, ℕ, zero, suc, ◌+◌, ◌*◌, ◌≤◌, Bool, true, false, ◌||◌, List, [], ◌∷◌, length, drop, sum, Option, Result, Ok, Err, refl, sym, ap, ◌∙◌, subst, arith, length-drop}
+use Rattle.std.proofs.Common.{◌≡◌, ℕ, ◌+◌, ◌*◌, ◌≤◌, Bool, true, false, ◌||◌, List, drop, Ok, Err, refl, sym, ap, ◌∙◌, subst, arith}
 use Rattle.std.proofs.lemmas.Bool.{ltb-false, eqb-false}
 use Rattle.pw_planes.specs.declared.kinds.AlphaKind.TheVariants.{Absent}
 use Rattle.pr_frame.specs.Forms.{has_alpha}
-use Rattle.pw_outside.specs.Reading.{Fault, Rest, Read, bind, Fails}
+use Rattle.pw_outside.specs.Reading.{Rest, Read, bind, Fails}
 use Rattle.pw_outside.proofs.Chains.{fails-whole}
 use Rattle.pr_head.specs.declared.fault.FrameFault.{FrameFault}
 use Rattle.pr_head.specs.Faults.{told_fault}
 use Rattle.pr_geom.specs.declared.places.SlicePlace.{SlicePlace}
-use Rattle.pr_geom.specs.declared.places.TheConstants.{MAX_SLICES}
 use Rattle.pr_coeff.specs.Component.{Block}
-use Rattle.pr_coeff.specs.Reading as coefficients
 use Rattle.pr_head.specs.declared.fault.FrameKind.{FrameKind}
 use Rattle.pr_head.specs.declared.frame.FrameHeader.{FrameHeader}
 use Rattle.pr_head.specs.declared.picture.PictureHeader.{PictureHeader}
 use Rattle.pr_head.specs.declared.slice.SliceHeader.{SliceHeader}
-use Rattle.pr_head.specs.Header.{Opened, start_of, opened_of, header_at}
+use Rattle.pr_head.specs.Header.{Opened, opened_of, header_at}
 use Rattle.pr_head.specs.Picture.{picture_of, picture_at, sizes_of, table_at}
 use Rattle.pr_head.specs.Slice.{slice_size, stated_of, with_last, slice_fault, slice_at}
 use Rattle.pr_head.proofs.Chain.{bind-ok, bind-step, refuse-ok}
 use Rattle.pr_head.proofs.Passing.{ahead-ahead}
 use Rattle.pr_frame.specs.declared.coded.CodedSlice.{CodedSlice}
-use Rattle.pr_frame.specs.declared.coded.CodedPicture.{CodedPicture}
-use Rattle.pr_frame.specs.Reading.{ahead, placed, blocks_at, components_at, coded_slice_at}
+use Rattle.pr_frame.specs.Reading.{ahead, blocks_at, components_at, coded_slice_at}
 
 -- a value and the rest behind it
 abbrev found : {A : Type 0} → A → Rest → Read FrameKind A

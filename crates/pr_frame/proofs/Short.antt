@@ -1,22 +1,21 @@
 -- How many bytes are written.
-use Rattle.std.proofs.Common.{◌≡◌, ℕ, zero, suc, ◌+◌, ◌*◌, ◌^◌, ◌<◌, ◌≤◌, Bool, true, false, List, [], ◌∷◌, ◌++◌, length, map, sum, get_or, ℤ, pos, nat_abs, refl, sym, ap, ◌∙◌, subst, arith, length-append}
+use Rattle.std.proofs.Common.{◌≡◌, ℕ, zero, suc, ◌+◌, ◌*◌, ◌<◌, ◌≤◌, Bool, true, false, List, [], ◌∷◌, ◌++◌, length, map, sum, get_or, pos, nat_abs, refl, sym, ap, ◌∙◌, arith, length-append}
 use Rattle.std.specs.List.{All, flat_map}
-use Rattle.std.specs.Int.{w16, w32, to_be_bytes}
+use Rattle.std.specs.Int.{w16, to_be_bytes}
 use Rattle.std.proofs.lemmas.List.Elements.{All-head, All-tail, All-nil, All-cons}
-use Rattle.std.proofs.lemmas.List.Sums.{sum_by-cons}
 use Rattle.pw_planes.specs.declared.kinds.AlphaKind.{AlphaKind}
-use Rattle.pw_planes.specs.declared.kinds.AlphaKind.TheVariants.{Absent, Eight, Sixteen}
+use Rattle.pw_planes.specs.declared.kinds.AlphaKind.TheVariants.{Absent}
 use Rattle.pw_planes.specs.declared.kinds.Interlace.{Interlace}
-use Rattle.pw_planes.specs.declared.kinds.Interlace.TheVariants.{Progressive, TopFirst, BottomFirst}
 use Rattle.pr_geom.specs.declared.places.SlicePlace.{SlicePlace}
 use Rattle.pr_geom.specs.declared.places.Part.TheVariants.{Y, Cb, Cr}
+use Rattle.pr_geom.specs.declared.places.TheConstants.{MAX_SLICES}
+use Rattle.pr_head.specs.Picture.{slices_in, picture_header_bytes}
 use Rattle.pr_coeff.specs.Component.{Block, component, AreBlocks}
 use Rattle.pr_coeff.proofs.WovenLemmas.{AreBlocks_from, AllSmall_from}
 use Rattle.pr_coeff.proofs.CostLemmas.{component_cost}
 use Rattle.pr_head.specs.declared.frame.FrameHeader.{FrameHeader}
 use Rattle.pr_head.specs.declared.slice.SliceHeader.{SliceHeader}
 use Rattle.pr_head.specs.Header.{frame_header_bytes}
-use Rattle.pr_head.specs.Picture.{picture_header_bytes}
 use Rattle.pr_head.specs.Slice.{least_slice_header, slice_header_bytes}
 use Rattle.pr_head.specs.Laws.{sizes_bytes}
 use Rattle.pr_frame.specs.declared.coded.CodedSlice.{CodedSlice}
@@ -180,3 +179,6 @@ writable-blocks blocks shape small = AreBlocks_from blocks (λ i lt. (shape i lt
 
 pub scan-same : (mode : Interlace) (blocks : List Block) (places : List ℕ) → places ≡ scan_of mode → length (component places blocks) ≡ length (component_bytes mode blocks)
 scan-same mode blocks places e = ap (λ ps. length (component ps blocks)) e
+
+pub few-slices : (h : FrameHeader) (x : CodedPicture) → IsCodedPicture h x → slices_in h (record { header = 8; size = picture_length h.interlace Absent x; log2 = x.log2 }) ≤ MAX_SLICES
+few-slices h x is = is.layout.slices

@@ -1,5 +1,5 @@
 -- Reading slices one after the other, as a loop does.
-use Rattle.std.proofs.Common.{◌≡◌, ℕ, suc, ◌+◌, ◌-◌, ◌<◌, ◌≤◌, List, [], ◌∷◌, ◌++◌, length, take, drop, get_or, sum, Ok, Err, refl, sym, ap, ◌∙◌, arith, subst, length-drop}
+use Rattle.std.proofs.Common.{◌≡◌, ℕ, ◌+◌, ◌-◌, ◌<◌, ◌≤◌, List, [], ◌∷◌, ◌++◌, length, take, drop, get_or, sum, Ok, Err, refl, sym, ap, ◌∙◌, arith, subst, length-drop}
 use Rattle.std.proofs.lemmas.List.{append-nil, drop_more, take_more, drop_all}
 use Rattle.std.proofs.lemmas.List.Sums.{sum_by-cons}
 use Rattle.pw_outside.specs.Reading.{Rest, Read, bind, Fails}
@@ -22,7 +22,6 @@ sum-drop xs i lt = ap sum (drop_more xs i 0 lt) ∙ sum-front (get_or xs i 0) (d
 
 module _ (h : FrameHeader) (places : List SlicePlace) (sizes : List ℕ) (i : ℕ) (place : SlicePlace) (size : ℕ) (s : Rest) (total : Read FrameKind (List CodedSlice))
     (in_places : i < length places) (in_sizes : i < length sizes) (place_is : place ≡ get_or places i no_slice) (size_is : size ≡ get_or sizes i 0) where
-
   pub step : coded_slices_at h (drop i places) (drop i sizes) s ≡ bind (coded_slice_at h place size s) (λ first. bind (coded_slices_at h (drop (i + 1) places) (drop (i + 1) sizes) first.1) (λ others. Ok (first.0 ∷ others.0, others.1)))
   unfolding coded_slices_at
   step = rw (drop_more places i no_slice in_places, drop_more sizes i 0 in_sizes, place_is, size_is) refl
@@ -39,8 +38,8 @@ module _ (h : FrameHeader) (places : List SlicePlace) (sizes : List ℕ) (i : �
   unfolding bind
   slices-end fault front told so_far =
       fails-whole told_fault fault (coded_slice_at h place size s) total (λ f e.
-          let one : coded_slices_at h (drop i places) (drop i sizes) s ≡ Err f = step ∙ rw e refl in
-          sym so_far ∙ rw one refl) told
+      let one : coded_slices_at h (drop i places) (drop i sizes) s ≡ Err f = step ∙ rw e refl in
+      sym so_far ∙ rw one refl) told
 
 pub slices-all : (h : FrameHeader) (places : List SlicePlace) (sizes : List ℕ) (i : ℕ) (s : Rest) (total : Read FrameKind (List CodedSlice)) (front : List CodedSlice) → length places ≤ i
     → with_front front (coded_slices_at h (drop i places) (drop i sizes) s) ≡ total → total ≡ Ok (front, s)

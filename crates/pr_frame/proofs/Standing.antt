@@ -1,26 +1,24 @@
 -- What is read stands for the bytes, and what stands for the bytes is read.
-use Rattle.std.proofs.Common.{◌≡◌, ◌≢◌, ℕ, zero, suc, ◌+◌, ◌-◌, ◌*◌, ◌/◌, ◌%◌, ◌<◌, ◌≤◌, Bool, true, false, not, ◌||◌, ◌==◌, nat_lt, List, [], ◌∷◌, length, take, drop, sum, Option, Result, Ok, Err, refl, sym, ap, ◌∙◌, subst, arith}
-use Rattle.std.proofs.lemmas.Bool.{le-ltb, ltb-false, ne_eqb, eqb-false}
-use Rattle.pw_outside.specs.Reading.{Fault, Rest, Read, bind, refuse}
+use Rattle.std.proofs.Common.{◌≡◌, ℕ, ◌+◌, ◌<◌, ◌≤◌, Bool, true, false, ◌||◌, ◌==◌, nat_lt, List, [], take, drop, Result, Ok, Err, refl, sym, ap, ◌∙◌, subst, arith}
+use Rattle.std.proofs.lemmas.Bool.{le-ltb, ne_eqb}
+use Rattle.pw_outside.specs.Reading.{Rest}
 use Rattle.pw_bits.specs.Bits.{bits}
 use Rattle.pw_planes.specs.declared.kinds.AlphaKind.TheVariants.{Absent}
 use Rattle.pr_geom.specs.declared.places.SlicePlace.{SlicePlace}
-use Rattle.pr_geom.specs.declared.places.Part.{Part}
 use Rattle.pr_geom.specs.declared.places.Part.TheVariants.{Y, Cb, Cr}
 use Rattle.pr_coeff.specs.Component.{Block, IsScan}
 use Rattle.pr_coeff.specs.Reading as coefficients
 use Rattle.pr_coeff.proofs.WholeLemmas.{component_again, component_found, progressive_is_scan, interlaced_is_scan}
-use Rattle.pr_head.specs.declared.fault.FrameKind.{FrameKind}
 use Rattle.pr_head.specs.declared.frame.FrameHeader.{FrameHeader}
 use Rattle.pr_head.specs.declared.slice.SliceHeader.{SliceHeader}
 use Rattle.pr_head.specs.Slice.{least_slice_header, slice_size, stated_of, with_last, slice_fault, slice_at}
-use Rattle.pr_head.proofs.Chain.{bind-ok, bind-step, refuse-ok, refuse-step}
+use Rattle.pr_head.proofs.Chain.{bind-ok, bind-step, refuse-step}
 use Rattle.pr_head.proofs.Passing.{ahead-ahead}
 use Rattle.pr_frame.specs.declared.coded.CodedSlice.{CodedSlice}
 use Rattle.pr_frame.specs.Forms.{scan_of, has_alpha, block_count}
-use Rattle.pr_frame.specs.Stands.{ComponentStands, slice_header_in, HasSlice, SliceStands, SlicesStand}
-use Rattle.pr_frame.specs.Reading.{ahead, placed, blocks_at, components_at, coded_slice_at, coded_slices_at}
-use Rattle.pr_frame.proofs.Rests.{ok-both, blocks-rest, IsHead, head-found, head-of-coded, coded-is, whole-size, stated-none}
+use Rattle.pr_frame.specs.Stands.{ComponentStands, slice_header_in, HasSlice, SliceStands}
+use Rattle.pr_frame.specs.Reading.{ahead, placed, blocks_at, components_at, coded_slice_at}
+use Rattle.pr_frame.proofs.Rests.{ok-both, blocks-rest, head-found, head-of-coded, coded-is, whole-size, stated-none}
 use Rattle.pr_frame.proofs.Steps.{blocks-value}
 use Rattle.pr_frame.proofs.Counts.{HasBlocksOf}
 use Rattle.pw_planes.specs.declared.kinds.Interlace.{Interlace}
@@ -94,11 +92,11 @@ slice-found h place size s t x absent blocks e =
     let t1-is = blocks-rest _ _ _ _ _ _ e2.1 ∙ ap (ahead r.y) t0-is ∙ ahead-ahead r.y r.header s in
     let t2-is = blocks-rest _ _ _ _ _ _ e3.1 ∙ ap (ahead r.cb) t1-is ∙ ahead-ahead r.cb (r.header + r.y) s in
     let y : ComponentStands scan (block_count h place Y) (take r.y (drop r.header s.bytes)) e2.0.0 =
-        subst (λ (v : Rest). ComponentStands scan (block_count h place Y) (take r.y v.bytes) e2.0.0) t0-is (blocks-found scan _ _ _ _ _ is (blocks.some Y) e2.1) in
+    subst (λ (v : Rest). ComponentStands scan (block_count h place Y) (take r.y v.bytes) e2.0.0) t0-is (blocks-found scan _ _ _ _ _ is (blocks.some Y) e2.1) in
     let cb : ComponentStands scan (block_count h place Cb) (take r.cb (drop (r.header + r.y) s.bytes)) e3.0.0 =
-        subst (λ (v : Rest). ComponentStands scan (block_count h place Cb) (take r.cb v.bytes) e3.0.0) t1-is (blocks-found scan _ _ _ _ _ is (blocks.some Cb) e3.1) in
+    subst (λ (v : Rest). ComponentStands scan (block_count h place Cb) (take r.cb v.bytes) e3.0.0) t1-is (blocks-found scan _ _ _ _ _ is (blocks.some Cb) e3.1) in
     let cr : ComponentStands scan (block_count h place Cr) (take r.cr (drop (r.header + r.y + r.cb) s.bytes)) e4.0.0 =
-        subst (λ (v : Rest). ComponentStands scan (block_count h place Cr) (take r.cr v.bytes) e4.0.0) t2-is (blocks-found scan _ _ _ _ _ is (blocks.some Cr) e4.1) in
+    subst (λ (v : Rest). ComponentStands scan (block_count h place Cr) (take r.cr v.bytes) e4.0.0) t2-is (blocks-found scan _ _ _ _ _ is (blocks.some Cr) e4.1) in
     let all : HasSlice false h place size r s.bytes (record { index = r.index; y = e2.0.0; cb = e3.0.0; cr = e4.0.0; alpha = [] }) = record {
       least = head.least;
       whole = head.size_is;
@@ -111,7 +109,7 @@ slice-found h place size s t x absent blocks e =
       no_values = refl;
     } in
     let at_header : HasSlice false h place size (slice_header_in false size s.bytes) s.bytes x =
-        subst (λ (q : SliceHeader). HasSlice false h place size q s.bytes x) head.is (subst (λ (v : CodedSlice). HasSlice false h place size r s.bytes v) (sym x-is) all) in
+    subst (λ (q : SliceHeader). HasSlice false h place size q s.bytes x) head.is (subst (λ (v : CodedSlice). HasSlice false h place size r s.bytes v) (sym x-is) all) in
     subst (λ a. HasSlice a h place size (slice_header_in a size s.bytes) s.bytes x) (sym (ap has_alpha absent)) at_header
 
 pub slice-again : (h : FrameHeader) (place : SlicePlace) (size : ℕ) (s : Rest) (x : CodedSlice) → h.alpha ≡ Absent → HasBlocksOf h place → SliceStands h place size s.bytes x → coded_slice_at h place size s ≡ Ok (x, ahead size s)

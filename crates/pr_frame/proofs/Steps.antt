@@ -1,10 +1,10 @@
 -- One component, read.
-use Rattle.std.proofs.Common.{◌≡◌, ℕ, ◌+◌, ◌≤◌, List, Bool, Option, Some, None, Result, Ok, Err, length, take, drop, refl, sym, ap, subst, ◌∙◌, arith}
+use Rattle.std.proofs.Common.{◌≡◌, ℕ, ◌+◌, ◌≤◌, List, Option, Some, None, Ok, length, take, drop, refl, sym, ap, subst, ◌∙◌, arith}
 use Rattle.std.specs.Prelude.{IsSome}
 use Rattle.pw_bits.specs.Window.{first_bytes}
 use Rattle.pr_coeff.specs.declared.scan.Scan.{Scan}
 use Rattle.pr_coeff.proofs.WholeLemmas.{scan_of, component_again}
-use Rattle.pw_outside.specs.Reading.{Fault, Rest, Read, bind, Fails, bytes_of, rest_of}
+use Rattle.pw_outside.specs.Reading.{Rest, Read, bind, Fails, bytes_of, rest_of}
 use Rattle.pw_bits.specs.Bits.{bits}
 use Rattle.pr_coeff.specs.Component.{Block, Stands, places}
 use Rattle.pr_coeff.specs.Reading as coefficients
@@ -54,14 +54,14 @@ blocks-stand scan count size at o blocks told number few stands =
     let same : l ≡ bits (take size (bytes_of o)) = ap bits (window-bytes size o told) in
     let read : coefficients.component_at (length blocks) (places scan) l ≡ Ok blocks = component_again (places scan) l blocks (scan_of scan) (omega arith) stands in
     blocks-value (places scan) count size (rest_of at o) blocks
-        (ap (coefficients.component_at count (places scan)) (sym same) ∙ ap (λ n. coefficients.component_at n (places scan) l) (sym number) ∙ read)
+    (ap (coefficients.component_at count (places scan)) (sym same) ∙ ap (λ n. coefficients.component_at n (places scan) l) (sym number) ∙ read)
 
 pub blocks-window-fault : (scan : Scan) (count size at : ℕ) (o : Option (List ℕ)) (n : ℕ) (e : CoeffFault) (f : FrameFault) → IsSome o → n ≡ count
     → IsFault e (coefficients.component_at n (places scan) (bits (bytes_of (first_bytes size o)))) → IsFaultOf e at f → Fails told_fault f (blocks_at (places scan) count size (rest_of at o))
 blocks-window-fault scan count size at o n e f told number found is =
     blocks-fault (places scan) count size (rest_of at o) e f
-        (subst (λ l. IsFault e (coefficients.component_at count (places scan) (bits l))) (window-bytes size o told)
-        (subst (λ m. IsFault e (coefficients.component_at m (places scan) (bits (bytes_of (first_bytes size o))))) number found)) is
+    (subst (λ l. IsFault e (coefficients.component_at count (places scan) (bits l))) (window-bytes size o told)
+    (subst (λ m. IsFault e (coefficients.component_at m (places scan) (bits (bytes_of (first_bytes size o))))) number found)) is
 
 -- the place behind what was read
 pub value-at : {X : Type 0} (read : Read FrameKind X) (x : X) (after n m : ℕ) (new : Option (List ℕ)) (s : Rest) → read ≡ Ok (x, rest_of after new) → rest_of after new ≡ ahead n s → s.place + n ≡ m

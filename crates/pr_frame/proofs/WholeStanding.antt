@@ -1,9 +1,9 @@
 -- The same of pictures and of frames.
-use Rattle.std.proofs.Common.{◌≡◌, ◌≢◌, inl, inr, ℕ, zero, suc, ◌+◌, ◌-◌, ◌*◌, ◌/◌, ◌%◌, ◌<◌, ◌≤◌, Bool, true, false, not, ◌||◌, ◌==◌, nat_lt, List, [], ◌∷◌, length, take, drop, sum, Option, Some, None, Result, Ok, Err, refl, sym, ap, ◌∙◌, subst, arith, length-drop}
+use Rattle.std.proofs.Common.{◌≡◌, inl, inr, ℕ, zero, suc, ◌+◌, ◌-◌, ◌*◌, ◌%◌, ◌≤◌, Bool, true, false, not, ◌==◌, nat_lt, List, [], ◌∷◌, length, drop, sum, Some, Result, Ok, Err, refl, sym, ap, ◌∙◌, subst, arith}
 use Rattle.std.specs.Prelude.{◌⊎◌}
 use Rattle.std.specs.Result.{result_err}
 use Rattle.std.proofs.lemmas.Bool.{le-ltb, ltb-false, ne_eqb, eqb-false, eqb-true, eq-eqb}
-use Rattle.pw_outside.specs.Reading.{Fault, Rest, Read, bind, refuse, Fails, Gives, Told, bytes_of, rest_of}
+use Rattle.pw_outside.specs.Reading.{Fault, Rest}
 use Rattle.pw_planes.specs.declared.kinds.AlphaKind.{AlphaKind}
 use Rattle.pw_planes.specs.declared.kinds.AlphaKind.TheVariants.{Absent, Eight, Sixteen}
 use Rattle.pw_planes.specs.declared.kinds.Chroma.{Chroma}
@@ -12,17 +12,12 @@ use Rattle.pw_planes.specs.declared.kinds.Interlace.{Interlace}
 use Rattle.pw_planes.specs.declared.kinds.Interlace.TheVariants.{Progressive, TopFirst, BottomFirst}
 use Rattle.pw_planes.specs.declared.plane.TheConstants.{MAX_WIDTH, MAX_HEIGHT}
 use Rattle.pr_geom.specs.declared.places.SlicePlace.{SlicePlace}
-use Rattle.pr_geom.specs.declared.places.Part.{Part}
-use Rattle.pr_geom.specs.declared.places.Part.TheVariants.{Y, Cb, Cr}
 use Rattle.pr_geom.specs.declared.places.TheConstants.{MAX_SLICES}
 use Rattle.pr_geom.specs.Slices.{pictures_of}
 use Rattle.pr_head.specs.declared.fault.FrameKind.{FrameKind}
-use Rattle.pr_head.specs.declared.fault.FrameFault.{FrameFault}
-use Rattle.pr_head.specs.declared.fault.FrameFault.TheVariants as faults
 use Rattle.pr_head.specs.declared.frame.FrameHeader.{FrameHeader}
 use Rattle.pr_head.specs.declared.picture.PictureHeader.{PictureHeader}
-use Rattle.pr_head.specs.Faults.{told_fault}
-use Rattle.pr_head.specs.Header.{icpf, Opened, start_of, opened_of, luma_of, chroma_weights_of, header_of, chroma_bits, interlace_bits, alpha_bits, interlace_of, size_fault, form_fault, header_at, HasSizes, HasForm}
+use Rattle.pr_head.specs.Header.{icpf, Opened, start_of, opened_of, interlace_bits, interlace_of, size_fault, form_fault, header_at}
 use Rattle.pr_head.specs.Picture.{picture_of, slices_in, sizes_of, picture_size, picture_fault, picture_at, table_at}
 use Rattle.pr_head.proofs.Chain.{bind-ok, bind-step, refuse-ok, refuse-step}
 use Rattle.pr_head.proofs.Passing.{ahead-ahead, ahead-none}
@@ -31,14 +26,13 @@ use Rattle.pr_frame.specs.declared.coded.CodedSlice.{CodedSlice}
 use Rattle.pr_frame.specs.declared.coded.CodedPicture.{CodedPicture}
 use Rattle.pr_frame.specs.declared.coded.CodedFrame.{CodedFrame}
 use Rattle.pr_frame.specs.Forms.{places_in, IsBuilt, is_built, is_built_form}
-use Rattle.pr_frame.specs.Stands.{SliceStands, SlicesStand, table_of, behind_table, PictureStands, PicturesStand, HeaderStands, header_taken, FrameStands}
-use Rattle.pr_frame.specs.Reading.{ahead, coded_slice_at, coded_slices_at, coded_picture_at, coded_pictures_at, frame_at, frame_of, frame_fault}
+use Rattle.pr_frame.specs.Stands.{SlicesStand, table_of, behind_table, PictureStands, PicturesStand, HeaderStands, header_taken}
+use Rattle.pr_frame.specs.Reading.{ahead, coded_slices_at, coded_picture_at, coded_pictures_at, frame_at, frame_of, frame_fault}
 use Rattle.pr_frame.specs.Laws.{StandsBuilt}
 use Rattle.pr_frame.proofs.Rests.{ok-both, header-rest, picture-rest, table-rest, coded-rest}
 use Rattle.pr_frame.proofs.SliceLoop.{sum-front}
-use Rattle.pr_frame.proofs.PictureSteps.{slices-rest}
 use Rattle.pr_frame.proofs.Standing.{slice-found, slice-again, or-false, false-or}
-use Rattle.pr_frame.proofs.Counts.{HasBlocksOf, AllHave, places-have, length-sizes, count-places}
+use Rattle.pr_frame.proofs.Counts.{AllHave, places-have, length-sizes, count-places}
 
 -- ---- slices
 
@@ -166,7 +160,7 @@ picture-found F h s t room x absent e read =
     let found = slices-found h (places_in h r.log2) e2.0.0 e2.0.1 e3.0.1 e3.0.0 absent (places-have h r.log2 (log2-small s.bytes)) same slices0 in
     let t2-is : e2.0.1 ≡ ahead (r.header + 2 * slices_in h r) s = behind.1 ∙ ahead-ahead (2 * slices_in h r) r.header s in
     let moved : SlicesStand h (places_in h r.log2) (table_of h s.bytes) (behind_table h s.bytes) e3.0.0 =
-        subst (λ zs. SlicesStand h (places_in h r.log2) zs (behind_table h s.bytes) e3.0.0) behind.0 (subst (λ (v : Rest). SlicesStand h (places_in h r.log2) e2.0.0 v.bytes e3.0.0) t2-is found) in
+    subst (λ zs. SlicesStand h (places_in h r.log2) zs (behind_table h s.bytes) e3.0.0) behind.0 (subst (λ (v : Rest). SlicesStand h (places_in h r.log2) e2.0.0 v.bytes e3.0.0) t2-is found) in
     let stands : PictureStands h room s.bytes (record { log2 = r.log2; slices = e3.0.0 }) = record {
       fields = omega (arith, judged.fields);
       header = judged.header;

@@ -1,5 +1,5 @@
 -- What each step of writing asks of what it writes; a frame that can be written has it all (our own).
-use Rattle.std.specs.Prelude.{ℕ, ◌<◌, ◌≤◌, List, length}
+use Rattle.std.specs.Prelude.{◌<◌, ◌≤◌, List, length}
 use Rattle.std.specs.List.{All}
 use Rattle.pr_coeff.specs.Component.{Block}
 use Rattle.pr_frame.specs.declared.coded.CodedSlice.{CodedSlice}

@@ -7,13 +7,16 @@ mod parts;
 mod read;
 mod size;
 mod slices;
+#[cfg(test)]
+mod tests;
 mod write;
 
 pub use coded::{
     AlphaValues, Blocks, CodedFrame, CodedPicture, CodedPictures, CodedSlice, CodedSlices,
 };
 pub use laws::{
-    frame_has_no_fault, frame_or_fault, one_frame, slices_are_short, written_has_length, written_stands,
+    frame_has_no_fault, frame_or_fault, one_frame, slices_are_short, written_has_length,
+    written_stands,
 };
 pub use read::read_frame;
 pub use size::frame_length;

@@ -20,11 +20,7 @@ use pw_outside::{ByteSink, Failed, put};
 use pw_planes::Interlace;
 
 /// Writes a component.
-fn write_part<K: ByteSink>(
-    blocks: &[Block],
-    mode: Interlace,
-    sink: &mut K,
-) -> Result<(), Failed>
+fn write_part<K: ByteSink>(blocks: &[Block], mode: Interlace, sink: &mut K) -> Result<(), Failed>
     requires { IsReadyPart blocks.now }
     ensures ok { OnOk result (Puts (sink_state (K.held sink.old) (K.taken sink.old)) (sink_state (K.held sink.new) (K.taken sink.new)) (component_bytes mode blocks.now)) }
     ensures err { OnErr result (PutsFront (sink_state (K.held sink.old) (K.taken sink.old)) (sink_state (K.held sink.new) (K.taken sink.new)) (component_bytes mode blocks.now)) }
@@ -50,11 +46,7 @@ fn header_of(slice: &CodedSlice, mode: Interlace) -> SliceHeader
 }
 
 /// Writes a slice.
-fn write_slice<K: ByteSink>(
-    slice: &CodedSlice,
-    mode: Interlace,
-    sink: &mut K,
-) -> Result<(), Failed>
+fn write_slice<K: ByteSink>(slice: &CodedSlice, mode: Interlace, sink: &mut K) -> Result<(), Failed>
     requires { IsReady slice.now }
     ensures ok { OnOk result (Puts (sink_state (K.held sink.old) (K.taken sink.old)) (sink_state (K.held sink.new) (K.taken sink.new)) (slice_bytes mode Absent slice.now)) }
     ensures err { OnErr result (PutsFront (sink_state (K.held sink.old) (K.taken sink.old)) (sink_state (K.held sink.new) (K.taken sink.new)) (slice_bytes mode Absent slice.now)) }
@@ -86,11 +78,7 @@ fn write_slices<K: ByteSink>(
 }
 
 /// Writes the size of a slice.
-fn write_size<K: ByteSink>(
-    slice: &CodedSlice,
-    mode: Interlace,
-    sink: &mut K,
-) -> Result<(), Failed>
+fn write_size<K: ByteSink>(slice: &CodedSlice, mode: Interlace, sink: &mut K) -> Result<(), Failed>
     requires { IsReady slice.now }
     ensures ok { OnOk result (Puts (sink_state (K.held sink.old) (K.taken sink.old)) (sink_state (K.held sink.new) (K.taken sink.new)) (to_be_bytes w16 (slice_length mode Absent slice.now))) }
     ensures err { OnErr result (PutsFront (sink_state (K.held sink.old) (K.taken sink.old)) (sink_state (K.held sink.new) (K.taken sink.new)) (to_be_bytes w16 (slice_length mode Absent slice.now))) }

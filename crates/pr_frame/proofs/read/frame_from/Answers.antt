@@ -1,12 +1,11 @@
-use Rattle.std.proofs.Common.{◌≡◌, ◌+◌, ◌≤◌, ◌∙◌, Ok, true, false, sym, ap, subst, length}
+use Rattle.std.proofs.Common.{◌≡◌, ◌+◌, ◌≤◌, ◌∙◌, Ok, true, false, sym, subst, length}
 use Rattle.std.proofs.lemmas.Result.{err_from_is_err_and}
 use Rattle.std.specs.Prelude.{IsSome}
-use Rattle.pw_outside.specs.Reading.{Rest, rest_of, bytes_of, Fails}
-use Rattle.pr_geom.specs.Slices.{pictures_of}
+use Rattle.pw_outside.specs.Reading.{rest_of, bytes_of, Fails}
 use Rattle.pr_head.specs.Faults.{told_fault}
 use Rattle.pr_head.specs.Header.{Opened, header_at}
 use Rattle.pr_frame.specs.Forms.{is_built}
-use Rattle.pr_frame.specs.Reading.{coded_pictures_at, frame_at}
+use Rattle.pr_frame.specs.Reading.{coded_pictures_at}
 use Rattle.pr_frame.proofs.FrameSteps.{frame-head-fails, frame-unbuilt, frame-pictures-fails, frame-value, head-at, head-room}
 use Rattle.pr_frame.proofs.read.frame_from.Goals as goal
 
@@ -41,10 +40,10 @@ returns-in_err-pictures-clause-bytes g c =
     rw (p.1, p.2) (record {
       told = λ h. tt;
       answer = λ h.
-        let a = c.in_ok-header.ensures.bytes.answer h in
-        let head = head-at c.args.size left new o a.0 c.from.result a.1 c.from.ensures in
-        let room = head-room c.args.size left new o c.from.result head c.in_ok-header.ensures.size (c.requires.bytes h) in
-        frame-pictures-fails c.args.size s o t head fault yes
+          let a = c.in_ok-header.ensures.bytes.answer h in
+          let head = head-at c.args.size left new o a.0 c.from.result a.1 c.from.ensures in
+          let room = head-room c.args.size left new o c.from.result head c.in_ok-header.ensures.size (c.requires.bytes h) in
+          frame-pictures-fails c.args.size s o t head fault yes
           (subst (λ n. Fails told_fault fault (coded_pictures_at n o.size o.header t)) c.pictures_in-count.ensures ((c.in_err-pictures.ensures.bytes (λ k. room)).answer (c.in_ok-header.ensures.bytes.told h)));
     })
 

@@ -13,6 +13,6 @@ returns-clause-bytes g c = λ enough.
     record {
       told = (c.in_ok-picture.ensures.bytes enough).told;
       answer = λ h.
-        let a = (c.in_ok-picture.ensures.bytes enough).answer h in
-        value-at (picture_at c.args.frame c.args.header.now s) r a.0 r.header _ new s a.1 (picture-rest c.args.frame c.args.header.now s r (rest_of a.0 new) a.1).1 (ap (λ n. c.args.place.now + n) (sym c.from.ensures));
+          let a = (c.in_ok-picture.ensures.bytes enough).answer h in
+          value-at (picture_at c.args.frame c.args.header.now s) r a.0 r.header _ new s a.1 (picture-rest c.args.frame c.args.header.now s r (rest_of a.0 new) a.1).1 (ap (λ n. c.args.place.now + n) (sym c.from.ensures));
     }

@@ -2,11 +2,10 @@ use Rattle.std.proofs.Common.{◌≡◌, ◌+◌, ◌*◌, ◌-◌, ◌≤◌, s
 use Rattle.std.specs.Prelude.{IsSome}
 use Rattle.std.proofs.lemmas.Result.{err_from_is_err_and}
 use Rattle.pw_outside.specs.Reading.{Rest, rest_of, bytes_of, Fails}
-use Rattle.pr_geom.specs.Layout.{slices_of}
 use Rattle.pr_head.specs.Faults.{told_fault}
 use Rattle.pr_head.specs.Picture.{table_at, slices_in}
 use Rattle.pr_frame.specs.Forms.{places_in}
-use Rattle.pr_frame.specs.Reading.{ahead, coded_slices_at, coded_picture_at}
+use Rattle.pr_frame.specs.Reading.{ahead, coded_slices_at}
 use Rattle.pr_frame.proofs.Rests.{picture-rest, table-rest}
 use Rattle.pr_head.proofs.Passing.{ahead-ahead}
 use Rattle.pr_frame.proofs.PictureSteps.{slices-rest, layout-places, layout-count, picture-fails, table-fails, slices-fails, picture-value, behind-table, picture-end, enough-table, enough-slices}
@@ -34,9 +33,9 @@ returns-in_err-sizes-clause-bytes g c = λ enough.
     rw (p.1, p.2) (record {
       told = λ h. tt;
       answer = λ h.
-        let head = first.answer h in
-        let e1 = enough-table F s t1 r (enough h) c.in_ok-picture.ensures.within (picture-rest F hd s r t1 head).1 in
-        table-fails F hd s r t1 head fault (subst (λ n. Fails told_fault fault (table_at r n t1)) count ((c.in_err-sizes.ensures.bytes (λ k. e1)).answer (first.told h)));
+          let head = first.answer h in
+          let e1 = enough-table F s t1 r (enough h) c.in_ok-picture.ensures.within (picture-rest F hd s r t1 head).1 in
+          table-fails F hd s r t1 head fault (subst (λ n. Fails told_fault fault (table_at r n t1)) count ((c.in_err-sizes.ensures.bytes (λ k. e1)).answer (first.told h)));
     })
 
 pub returns-in_err-slices-clause-bytes : goal.returns-in_err-slices-clause-bytes
@@ -58,15 +57,15 @@ returns-in_err-slices-clause-bytes g c = λ enough.
     rw (p.1, p.2) (record {
       told = λ h. tt;
       answer = λ h.
-        let head = first.answer h in
-        let e1 = enough-table F s t1 r (enough h) c.in_ok-picture.ensures.within (picture-rest F hd s r t1 head).1 in
-        let second = c.in_ok-sizes.ensures.bytes (λ k. e1) in
-        let table0 = second.answer (first.told h) in
-        let table = subst (λ n. table_at r n t1 ≡ Ok (sizes, t2)) count table0 in
-        let e2 : sum sizes ≤ length t2.bytes = enough-slices r t1 t2 sizes c.slices.result e1 (table-rest r c.slices.result t1 sizes t2 table0).1 c.in_ok-sizes.ensures.count c.in_ok-sizes.ensures.within in
-        let third = c.in_err-slices.ensures.bytes (λ k. subst (λ zs. sum zs ≤ length t2.bytes) (sym same) e2) in
-        let failed = third.answer (second.told (first.told h)) in
-        slices-fails F hd s r t1 head sizes t2 table fault
+          let head = first.answer h in
+          let e1 = enough-table F s t1 r (enough h) c.in_ok-picture.ensures.within (picture-rest F hd s r t1 head).1 in
+          let second = c.in_ok-sizes.ensures.bytes (λ k. e1) in
+          let table0 = second.answer (first.told h) in
+          let table = subst (λ n. table_at r n t1 ≡ Ok (sizes, t2)) count table0 in
+          let e2 : sum sizes ≤ length t2.bytes = enough-slices r t1 t2 sizes c.slices.result e1 (table-rest r c.slices.result t1 sizes t2 table0).1 c.in_ok-sizes.ensures.count c.in_ok-sizes.ensures.within in
+          let third = c.in_err-slices.ensures.bytes (λ k. subst (λ zs. sum zs ≤ length t2.bytes) (sym same) e2) in
+          let failed = third.answer (second.told (first.told h)) in
+          slices-fails F hd s r t1 head sizes t2 table fault
           (subst (λ zs. Fails told_fault fault (coded_slices_at hd (places_in hd r.log2) zs t2)) same (subst (λ ps. Fails told_fault fault (coded_slices_at hd ps c.deref.result.now t2)) (layout-places l hd r.log2 is) failed));
     })
 
@@ -95,16 +94,16 @@ returns-clause-bytes g c = λ enough.
     record {
       told = λ h. c.in_ok-pass_to.ensures.told ((c.in_ok-slices.ensures.bytes (λ k. e3 h)).told (told2 h));
       answer = λ h.
-        let head = first.answer h in
-        let third = c.in_ok-slices.ensures.bytes (λ k. e3 h) in
-        let table = subst (λ n. table_at r n t1 ≡ Ok (sizes, t2)) count (table0 h) in
-        let read : coded_slices_at hd (places_in hd r.log2) sizes t2 ≡ Ok (xs, t3) =
+          let head = first.answer h in
+          let third = c.in_ok-slices.ensures.bytes (λ k. e3 h) in
+          let table = subst (λ n. table_at r n t1 ≡ Ok (sizes, t2)) count (table0 h) in
+          let read : coded_slices_at hd (places_in hd r.log2) sizes t2 ≡ Ok (xs, t3) =
           subst (λ zs. coded_slices_at hd (places_in hd r.log2) zs t2 ≡ Ok (xs, t3)) same (subst (λ ps. coded_slices_at hd ps c.deref.result.now t2 ≡ Ok (xs, t3)) (layout-places l hd r.log2 is) (third.answer (told2 h))) in
-        let size : length sizes ≡ length (places_in hd r.log2) = c.in_ok-sizes.ensures.count ∙ c.slices.ensures.value ∙ ap length (layout-places l hd r.log2 is) in
-        let rest = slices-rest hd (places_in hd r.log2) sizes t2 xs t3 c.requires.alpha size read
+          let size : length sizes ≡ length (places_in hd r.log2) = c.in_ok-sizes.ensures.count ∙ c.slices.ensures.value ∙ ap length (layout-places l hd r.log2 is) in
+          let rest = slices-rest hd (places_in hd r.log2) sizes t2 xs t3 c.requires.alpha size read
           ∙ ap (ahead (sum sizes)) (behind-table F hd s r t1 head sizes t2 table) ∙ ahead-ahead (sum sizes) (r.header + 2 * slices_in hd r) s in
-        let end = picture-end s t3 (r.header + 2 * slices_in hd r + sum sizes) r.size c.read_slices.new.place (g.S.ByteSource.left c.read_slices.new.source) new rest refl
+          let end = picture-end s t3 (r.header + 2 * slices_in hd r + sum sizes) r.size c.read_slices.new.place (g.S.ByteSource.left c.read_slices.new.source) new rest refl
           (omega (arith, c.in_ok-sizes.ensures.within, c.in_ok-sizes.ensures.count, count)) (subst (λ z. bytes_of new ≡ drop (c.args.place.now + z - c.read_slices.new.place) (bytes_of (g.S.ByteSource.left c.read_slices.new.source))) c.from.ensures (c.in_ok-pass_to.ensures.bytes (third.told (told2 h)))) in
-        let place : c.pass_to.new.place ≡ c.args.place.now + r.size = c.in_ok-pass_to.ensures.place ∙ ap (λ n. c.args.place.now + n) c.from.ensures in
-        picture-value F hd s r t1 head sizes t2 table xs t3 read ∙ ap (λ (t : Rest). Ok (record { log2 = r.log2; slices = xs }, t)) (sym end ∙ ap (λ n. rest_of n new) (sym place));
+          let place : c.pass_to.new.place ≡ c.args.place.now + r.size = c.in_ok-pass_to.ensures.place ∙ ap (λ n. c.args.place.now + n) c.from.ensures in
+          picture-value F hd s r t1 head sizes t2 table xs t3 read ∙ ap (λ (t : Rest). Ok (record { log2 = r.log2; slices = xs }, t)) (sym end ∙ ap (λ n. rest_of n new) (sym place));
     }

@@ -41,8 +41,8 @@ loop-preserved g c =
       place = c.in_ok-picture.ensures.place;
       told = λ e h. (c.in_ok-picture.ensures.bytes (λ k. i.more e h)).told (i.told e h);
       more = λ e h.
-        let a = picture-ahead F hd s x t ((c.in_ok-picture.ensures.bytes (λ k. i.more e h)).answer (i.told e h)) in
-        end-kept F a.0 s t a.1 (i.more e h);
+          let a = picture-ahead F hd s x t ((c.in_ok-picture.ensures.bytes (λ k. i.more e h)).answer (i.told e h)) in
+          end-kept F a.0 s t a.1 (i.more e h);
       bytes = λ e h. pictures-more F hd c.args.count c.loop.counter s _ c.loop.pictures.items x t c.loop-test.true ((c.in_ok-picture.ensures.bytes (λ k. i.more e h)).answer (i.told e h)) (i.bytes e h);
       pictures = All-append (IsCodedPicture hd) c.loop.pictures.items (x ∷ []) i.pictures (All-cons (IsCodedPicture hd) x [] c.in_ok-picture.ensures.picture (All-nil (IsCodedPicture hd)));
       becomes = λ first h. c.in_ok-picture.ensures.becomes first (i.becomes first h);

@@ -17,7 +17,7 @@ returns-clause-bytes g c = λ enough.
     record {
       told = (c.in_ok-sizes.ensures.bytes enough).told;
       answer = λ h.
-        let a = (c.in_ok-sizes.ensures.bytes enough).answer h in
-        let e : table_at r c.args.slices s ≡ Ok (sizes, rest_of a.0 new) = subst (λ at. table_at r c.args.slices (rest_of at left) ≡ Ok (sizes, rest_of a.0 new)) place a.1 in
-        value-at (table_at r c.args.slices s) sizes a.0 (2 * c.args.slices) _ new s e (table-rest r c.args.slices s sizes (rest_of a.0 new) e).1 (ap (λ n. c.args.place.now + 2 * n) (sym c.from-2.ensures));
+          let a = (c.in_ok-sizes.ensures.bytes enough).answer h in
+          let e : table_at r c.args.slices s ≡ Ok (sizes, rest_of a.0 new) = subst (λ at. table_at r c.args.slices (rest_of at left) ≡ Ok (sizes, rest_of a.0 new)) place a.1 in
+          value-at (table_at r c.args.slices s) sizes a.0 (2 * c.args.slices) _ new s e (table-rest r c.args.slices s sizes (rest_of a.0 new) e).1 (ap (λ n. c.args.place.now + 2 * n) (sym c.from-2.ensures));
     }

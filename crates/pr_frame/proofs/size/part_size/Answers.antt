@@ -1,5 +1,4 @@
 use Rattle.std.proofs.Common.{arith}
-use Rattle.pr_frame.specs.Written.{component_bytes}
 use Rattle.pr_frame.proofs.Short.{writable-blocks, part-short, scan-same}
 use Rattle.pr_frame.proofs.size.part_size.Goals as goal
 

@@ -1,11 +1,10 @@
-use Rattle.std.proofs.Common.{◌≡◌, ◌+◌, ◌<◌, ◌≤◌, ◌∷◌, [], refl, sym, ap, ◌∙◌, subst, arith, length, take, drop, sum, get_or, length-drop}
+use Rattle.std.proofs.Common.{◌<◌, refl, ◌∙◌, subst, arith, length, get_or}
 use Rattle.std.proofs.lemmas.Result.{err_from_is_err_and}
 use Rattle.std.proofs.lemmas.List.{take_all}
-use Rattle.pw_outside.specs.Reading.{Rest, rest_of, bytes_of}
+use Rattle.pw_outside.specs.Reading.{rest_of}
 use Rattle.pw_outside.proofs.Chains.{with_front_nil}
 use Rattle.pr_geom.specs.Layout.{slices_of}
 use Rattle.pr_frame.specs.Coded.{AreCodedSlices}
-use Rattle.pr_frame.specs.Reading.{coded_slices_at}
 use Rattle.pr_frame.proofs.Rests.{coded-rest}
 use Rattle.pr_frame.proofs.SliceLoop.{sum-drop, slices-more, slices-end, slices-all, coded-more, ahead-length}
 use Rattle.pr_frame.proofs.slices.read_slices.Goals as goal

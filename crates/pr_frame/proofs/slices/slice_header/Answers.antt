@@ -11,8 +11,8 @@ returns-clause-bytes g c = λ enough.
     record {
       told = (c.in_ok-header.ensures.bytes enough).told;
       answer = λ h.
-        let s = rest_of c.args.place.now (g.S.ByteSource.left c.args.source.now) in
-        let new = g.S.ByteSource.left c.read_slice_header.new.source in
-        let a = (c.in_ok-header.ensures.bytes enough).answer h in
-        value-at (slice_at c.args.size false s) r a.0 r.header _ new s a.1 (head-found c.args.size s (rest_of a.0 new) r a.1).rest (ap (λ n. c.args.place.now + n) (sym c.from.ensures));
+          let s = rest_of c.args.place.now (g.S.ByteSource.left c.args.source.now) in
+          let new = g.S.ByteSource.left c.read_slice_header.new.source in
+          let a = (c.in_ok-header.ensures.bytes enough).answer h in
+          value-at (slice_at c.args.size false s) r a.0 r.header _ new s a.1 (head-found c.args.size s (rest_of a.0 new) r a.1).rest (ap (λ n. c.args.place.now + n) (sym c.from.ensures));
     }

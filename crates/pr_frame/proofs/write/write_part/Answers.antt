@@ -1,4 +1,3 @@
-use Rattle.std.proofs.Common.{ap}
 use Rattle.pr_frame.proofs.Short.{writable-blocks}
 use Rattle.pr_frame.proofs.write.write_part.Goals as goal
 

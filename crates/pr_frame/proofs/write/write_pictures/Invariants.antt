@@ -1,8 +1,7 @@
-use Rattle.std.proofs.Common.{◌≡◌, ◌≤◌, map, take}
+use Rattle.std.proofs.Common.{◌≡◌, ◌≤◌, take}
 use Rattle.std.specs.List.{flat_map}
 use Rattle.pw_outside.specs.Writing.{sink_state, Puts}
 use Rattle.pw_planes.specs.declared.kinds.AlphaKind.TheVariants.{Absent}
-use Rattle.pr_head.specs.Laws.{sizes_bytes}
 use Rattle.pr_frame.specs.Written.{picture_bytes}
 use Rattle.pr_frame.proofs.write.write_pictures.Given as goal
 
