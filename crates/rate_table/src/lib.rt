@@ -8,11 +8,11 @@ mod laws;
 mod reading;
 mod sums;
 mod table;
+#[cfg(test)]
+mod tests;
 mod writing;
 #[cfg(test)]
 mod writing_tests;
-#[cfg(test)]
-mod tests;
 
 pub use entry::{Entry, Pair};
 pub use fault::{ProofKind, TableFault};
