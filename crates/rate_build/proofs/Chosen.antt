@@ -70,16 +70,18 @@ are_coded h (p ∷ places) (s ∷ slices) [] zip e each = absurd (omega (arith, 
 are_coded h (p ∷ places) (s ∷ slices) (i ∷ choice) zip e each =
     let index = All-head IsIndex i choice each in
     let at = zip.0 in
-    let q = λ (weights : List ℕ) (blocks : List (List ℤ)). length-map blocks (quantised_block (multipliers weights i)) in
-    (record {
-      index_from = index.least;
-      index_to = index.most;
-      y = q h.luma s.y ∙ at.y;
-      cb = q h.chroma_weights s.cb ∙ at.cb;
-      cr = q h.chroma_weights s.cr ∙ at.cr;
-      alpha = at.values;
-      values = at.alpha_range;
-    }, are_coded h places slices choice zip.1 (omega (arith, e)) (All-tail IsIndex i choice each))
+    let q = λ (weights : List ℕ) (blocks : List (List ℤ)). length-map blocks (quantised_block (multipliers weights i)) in (
+      record {
+        index_from = index.least;
+        index_to = index.most;
+        y = q h.luma s.y ∙ at.y;
+        cb = q h.chroma_weights s.cb ∙ at.cb;
+        cr = q h.chroma_weights s.cr ∙ at.cr;
+        alpha = at.values;
+        values = at.alpha_range;
+      },
+      are_coded h places slices choice zip.1 (omega (arith, e)) (All-tail IsIndex i choice each),
+    )
 
 -- ---- a progressive frame
 
@@ -130,7 +132,7 @@ module _ (c : FrameCoefficients) (h : FrameHeader) (choice : List ℕ) (are : Ar
     at_places : AllZip (IsSliceAt h.chroma h.alpha) (places_in h c.layout.log2) c.slices
     at_places =
         let places : frame_places c.layout ≡ places_in h c.layout.log2 =
-            one_picture c.layout c.layout.interlace progressive ∙ sym (λ j. picture_slices (macroblocks (is.width j)) (macroblocks (is.height j / pictures_of (is.interlace j))) c.layout.log2) in
+        one_picture c.layout c.layout.interlace progressive ∙ sym (λ j. picture_slices (macroblocks (is.width j)) (macroblocks (is.height j / pictures_of (is.interlace j))) c.layout.log2) in
         subst (λ chroma. AllZip (IsSliceAt chroma h.alpha) (places_in h c.layout.log2) c.slices) (sym is.chroma)
         (subst (λ alpha. AllZip (IsSliceAt c.layout.chroma alpha) (places_in h c.layout.log2) c.slices) (sym is.alpha)
         (subst (λ p. AllZip (IsSliceAt c.layout.chroma c.alpha) p c.slices) places are))

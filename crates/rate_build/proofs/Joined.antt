@@ -46,7 +46,7 @@ joined_is mode w lo hi s y cb cr y_is cb_is cr_is =
     let b = measure_is (scan_of mode) w.chroma s.cb lo hi cb k cb_is h in
     let d = measure_is (scan_of mode) w.chroma s.cr lo hi cr k cr_is h in
     let e : joined_entry y cb cr lo k ≡ entry_of mode Absent w s (lo + k) =
-        λ j. record { index = lo + k; size = 6 + (a j).bytes + (b j).bytes + (d j).bytes; error = (a j).error + (b j).error + (d j).error } in
+    λ j. record { index = lo + k; size = 6 + (a j).bytes + (b j).bytes + (d j).bytes; error = (a j).error + (b j).error + (d j).error } in
     get_or-map-range_with_len (joined_entry y cb cr lo) 0 n k k none h (omega arith) ∙ e ∙ sym (get_or-map-range_with_len (entry_of mode Absent w s) lo n k (lo + k) none h refl))
 
 pub measures_told : (scan other weights : List ℕ) (blocks seen : List (List ℤ)) (lo hi : ℕ) (measures : List Measure) → other ≡ scan → seen ≡ blocks

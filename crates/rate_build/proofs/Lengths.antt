@@ -38,9 +38,13 @@ chosen_sizes mode alpha w lo hi (s ∷ slices) [] h = absurd h
 chosen_sizes mode alpha w lo hi (s ∷ slices) (e ∷ choice) h =
     let one = entry_size mode alpha w lo hi s e h.0 in
     let more = chosen_sizes mode alpha w lo hi slices choice h.1 in
-    omega (arith, one, more,
-    sum_by-cons (λ (n : ℕ). n) (slice_length mode alpha (coded_slice w e.index s)) (map (slice_length mode alpha) (coded_slices w slices (indices choice))),
-    sum_by-cons (λ (x : Entry). x.size) e choice)
+    omega (
+      arith,
+      one,
+      more,
+      sum_by-cons (λ (n : ℕ). n) (slice_length mode alpha (coded_slice w e.index s)) (map (slice_length mode alpha) (coded_slices w slices (indices choice))),
+      sum_by-cons (λ (x : Entry). x.size) e choice,
+    )
 
 pub coded_number : (w : Weights) (slices : List SliceCoefficients) (choice : List ℕ) → length choice ≡ length slices → length (coded_slices w slices choice) ≡ length slices
 coded_number w [] choice e = refl
@@ -73,8 +77,14 @@ module _ (mode : Interlace) (alpha : AlphaKind) (log2 n : ℕ) (all : List Coded
       let left : length (drop (n * (a + 1)) all) ≡ p * n = omega (arith, e, ap length same, length-drop n rest) in
       let more = pictures_length (a + 1) p left in
       let first : picture_length mode alpha (part a) ≡ 8 + 2 * n + sizes (take n rest) = omega (arith, whole) in
-      omega (arith, more, first, ap sizes same, sizes_parts rest,
-      sum_by-cons (λ (k : ℕ). k) (picture_length mode alpha (part a)) (map (picture_length mode alpha) (map part (range_with_len (a + 1) p))))
+      omega (
+        arith,
+        more,
+        first,
+        ap sizes same,
+        sizes_parts rest,
+        sum_by-cons (λ (k : ℕ). k) (picture_length mode alpha (part a)) (map (picture_length mode alpha) (map part (range_with_len (a + 1) p))),
+      )
 
 pub frame_size : FrameHasTableSize
 frame_size c h lo hi budget choice are is chosen =
@@ -83,10 +93,10 @@ frame_size c h lo hi budget choice are is chosen =
     let p = pictures_of c.layout.interlace in
     let all = coded_slices w c.slices (indices choice) in
     let picked : IsChoice (map (entries_of h.interlace h.alpha w lo hi) c.slices) choice =
-        subst (λ mode. IsChoice (map (entries_of mode h.alpha w lo hi) c.slices) choice) (sym is.interlace)
-        (subst (λ alpha. IsChoice (map (entries_of c.layout.interlace alpha w lo hi) c.slices) choice) (sym is.alpha) chosen) in
+    subst (λ mode. IsChoice (map (entries_of mode h.alpha w lo hi) c.slices) choice) (sym is.interlace)
+    (subst (λ alpha. IsChoice (map (entries_of c.layout.interlace alpha w lo hi) c.slices) choice) (sym is.alpha) chosen) in
     let number : length (indices choice) ≡ length c.slices =
-        length-map choice (λ (x : Entry). x.index) ∙ AllZip-long Contains (map (entries_of h.interlace h.alpha w lo hi) c.slices) choice picked ∙ length-map c.slices (entries_of h.interlace h.alpha w lo hi) in
+    length-map choice (λ (x : Entry). x.index) ∙ AllZip-long Contains (map (entries_of h.interlace h.alpha w lo hi) c.slices) choice picked ∙ length-map c.slices (entries_of h.interlace h.alpha w lo hi) in
     let long : length all ≡ p * n = coded_number w c.slices (indices choice) number ∙ slices_number c are in
     let none : n * 0 ≡ 0 = omega arith in
     let whole : drop (n * 0) all ≡ all = ap (λ k. drop k all) none in

@@ -127,8 +127,8 @@ pub measures_small : (scan weights : List ℕ) (blocks : List (List ℤ)) (lo hi
 measures_small scan weights blocks lo hi measures is whole range are from to e k h =
     let n = hi + 1 - lo in
     let at : get_or measures k no_measure ≡ measured scan weights blocks (lo + k) =
-        sym (get_or-take n measures k no_measure h) ∙ ap (λ ms. get_or ms k no_measure) e
-        ∙ get_or-map-range_with_len (measured scan weights blocks) lo n k (lo + k) no_measure h refl in
+    sym (get_or-take n measures k no_measure h) ∙ ap (λ ms. get_or ms k no_measure) e
+    ∙ get_or-map-range_with_len (measured scan weights blocks) lo n k (lo + k) no_measure h refl in
     subst IsSmall (sym at) (record {
       bytes = part_short weights (lo + k) whole range (omega arith) (omega arith) scan is blocks are;
       error = part_error_small weights (lo + k) whole range (omega arith) (omega arith) blocks are;

@@ -26,13 +26,7 @@ fn limit(depth: Depth) -> u16
 }
 
 /// A plane of samples of two bytes each, the low byte first.
-fn plane(
-    rt: &impl Abort,
-    alloc: Global,
-    bytes: &[u8],
-    size: (u32, u32),
-    depth: Depth,
-) -> Plane
+fn plane(rt: &impl Abort, alloc: Global, bytes: &[u8], size: (u32, u32), depth: Depth) -> Plane
     ensures { HasDepth result depth }
 {
     let (width, height) = size;
@@ -49,13 +43,7 @@ fn plane(
 }
 
 /// A picture of so many columns and rows, plane behind plane.
-fn picture(
-    rt: &impl Abort,
-    alloc: Global,
-    bytes: &[u8],
-    size: (u32, u32),
-    depth: Depth,
-) -> Picture
+fn picture(rt: &impl Abort, alloc: Global, bytes: &[u8], size: (u32, u32), depth: Depth) -> Picture
     ensures depth { (result.depth ≡ depth) × HasDepth result.y depth × HasDepth result.cb depth × HasDepth result.cr depth }
     ensures form { (result.chroma ≡ C422) × (result.alpha ≡ None) }
 {
@@ -93,7 +81,9 @@ fn coefficients(
     assert!(rt; log2 <= 3);
     assert!(rt; picture.has_size(u32::from(width), u32::from(height)));
     match Layout::new(width, height, log2, Interlace::Progressive, Chroma::C422) {
-        Ok(layout) => coefficients_of(alloc, picture, &layout, AlphaKind::Absent).expect(rt, "memory"),
+        Ok(layout) => coefficients_of(alloc, picture, &layout, AlphaKind::Absent).expect(
+            rt, "memory",
+        ),
         Err(_) => rt.abort(),
     }
 }
@@ -107,7 +97,13 @@ fn table(
     (depth, log2, matrix): (Depth, u8, Matrix),
     (lo, hi): (u8, u8),
 ) -> FrameTable {
-    let picture = picture(rt, alloc, bytes, (u32::from(width), u32::from(height)), depth);
+    let picture = picture(
+        rt,
+        alloc,
+        bytes,
+        (u32::from(width), u32::from(height)),
+        depth,
+    );
     let coefficients = coefficients(rt, alloc, &picture, (width, height), log2);
     assert!(rt; 1 <= lo && lo <= hi && hi <= 224);
     named_weights_are_in_range();
@@ -122,7 +118,14 @@ fn has_entries(rt: &impl Abort, table: &FrameTable, slice: usize, lo: u8, want: 
     assert_eq!(rt; entries.len(), want.len());
     let mut index = lo;
     for (entry, (size, error)) in entries.iter().zip(want) {
-        assert_eq!(rt; *entry, Entry { index, size: *size, error: *error });
+        assert_eq!(rt;
+            *entry,
+            Entry {
+                index,
+                size: *size,
+                error: *error
+            }
+        );
         assert!(rt; index < 255);
         index += 1;
     }
@@ -163,7 +166,13 @@ fn builds_the_table_of_1_by_2(rt: HostRuntime) {
     let table = table(&rt, rt.alloc(), bytes, size, form, (1, 4));
     assert_eq!(rt; table.fixed, 166);
     assert_eq!(rt; table.slices.as_slice().len(), 1);
-    has_entries(&rt, &table, 0, 1, &[(68, 28), (62, 156), (59, 332), (56, 940)]);
+    has_entries(
+        &rt,
+        &table,
+        0,
+        1,
+        &[(68, 28), (62, 156), (59, 332), (56, 940)],
+    );
 }
 
 #[test]
@@ -177,7 +186,30 @@ fn builds_the_table_of_4_by_4(rt: HostRuntime) {
     let table = table(&rt, rt.alloc(), bytes, size, form, (200, 215));
     assert_eq!(rt; table.fixed, 166);
     assert_eq!(rt; table.slices.as_slice().len(), 1);
-    has_entries(&rt, &table, 0, 200, &[(12, 925826), (12, 749250), (12, 713986), (12, 820034), (12, 1067394), (12, 1456066), (12, 1986050), (12, 2657346), (12, 3469954), (12, 4423874), (12, 5161602), (12, 4805250), (12, 4324994), (12, 3954306), (12, 3693186), (12, 3541634)]);
+    has_entries(
+        &rt,
+        &table,
+        0,
+        200,
+        &[
+            (12, 925826),
+            (12, 749250),
+            (12, 713986),
+            (12, 820034),
+            (12, 1067394),
+            (12, 1456066),
+            (12, 1986050),
+            (12, 2657346),
+            (12, 3469954),
+            (12, 4423874),
+            (12, 5161602),
+            (12, 4805250),
+            (12, 4324994),
+            (12, 3954306),
+            (12, 3693186),
+            (12, 3541634),
+        ],
+    );
 }
 
 #[test]
@@ -205,7 +237,21 @@ fn builds_the_table_of_1_by_9(rt: HostRuntime) {
     let table = table(&rt, rt.alloc(), bytes, size, form, (126, 132));
     assert_eq!(rt; table.fixed, 166);
     assert_eq!(rt; table.slices.as_slice().len(), 1);
-    has_entries(&rt, &table, 0, 126, &[(19, 1677608), (17, 1686844), (17, 1696448), (16, 1644512), (16, 1657152), (16, 1596128), (16, 1504448)]);
+    has_entries(
+        &rt,
+        &table,
+        0,
+        126,
+        &[
+            (19, 1677608),
+            (17, 1686844),
+            (17, 1696448),
+            (16, 1644512),
+            (16, 1657152),
+            (16, 1596128),
+            (16, 1504448),
+        ],
+    );
 }
 
 #[test]
@@ -216,5 +262,19 @@ fn builds_the_table_of_2_by_1(rt: HostRuntime) {
     let table = table(&rt, rt.alloc(), bytes, size, form, (1, 7));
     assert_eq!(rt; table.fixed, 166);
     assert_eq!(rt; table.slices.as_slice().len(), 1);
-    has_entries(&rt, &table, 0, 1, &[(21, 22), (15, 166), (13, 214), (13, 390), (13, 486), (13, 838), (13, 662)]);
+    has_entries(
+        &rt,
+        &table,
+        0,
+        1,
+        &[
+            (21, 22),
+            (15, 166),
+            (13, 214),
+            (13, 390),
+            (13, 486),
+            (13, 838),
+            (13, 662),
+        ],
+    );
 }

@@ -107,10 +107,7 @@ fn all_slices_of(
     Ok(slices)
 }
 
-fn whole_of(
-    layout: &Layout,
-    slices: Vec<SliceCoefficients>,
-) -> Coefficients
+fn whole_of(layout: &Layout, slices: Vec<SliceCoefficients>) -> Coefficients
     requires progressive { layout.now.interlace ≡ Progressive }
     requires slices { AllZip (IsSliceAt layout.now.chroma Absent) (slices_of layout.now) slices.items }
     ensures layout { result.layout ≡ layout.now }

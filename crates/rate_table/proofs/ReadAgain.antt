@@ -91,9 +91,9 @@ unfolding entries_at
 entries-again [] low place behind are rises above = same_rest [] _ _ behind (omega arith)
 entries-again (x ∷ xs) low place behind are rises above =
     let split : flat_map entry_bytes (x ∷ xs) ++ behind ≡ entry_bytes x ++ (flat_map entry_bytes xs ++ behind) =
-        ap (λ l. l ++ behind) (flat_map-cons entry_bytes x xs) ∙ append_assoc (entry_bytes x) (flat_map entry_bytes xs) behind in
+    ap (λ l. l ++ behind) (flat_map-cons entry_bytes x xs) ∙ append_assoc (entry_bytes x) (flat_map entry_bytes xs) behind in
     let long : place + 11 + length (flat_map entry_bytes xs) ≡ place + length (flat_map entry_bytes (x ∷ xs)) =
-        omega (arith, ap length (flat_map-cons entry_bytes x xs), length-append (entry_bytes x) (flat_map entry_bytes xs)) in
+    omega (arith, ap length (flat_map-cons entry_bytes x xs), length-append (entry_bytes x) (flat_map entry_bytes xs)) in
     ap (λ l. entries_at (length (x ∷ xs)) low (record { place = place; bytes = l })) split
     ∙ bind-step _ _ (entry-again x low place (flat_map entry_bytes xs ++ behind) (All-head IsEntry x xs are) above)
     ∙ bind-step _ _ (entries-again xs x.index (place + 11) behind (All-tail IsEntry x xs are) (rest_rises x xs rises) (next-above x xs rises))
@@ -118,9 +118,9 @@ unfolding slices_at
 slices-again [] place behind are = same_rest [] _ _ behind (omega arith)
 slices-again (x ∷ xs) place behind are =
     let split : flat_map slice_bytes (x ∷ xs) ++ behind ≡ slice_bytes x ++ (flat_map slice_bytes xs ++ behind) =
-        ap (λ l. l ++ behind) (flat_map-cons slice_bytes x xs) ∙ append_assoc (slice_bytes x) (flat_map slice_bytes xs) behind in
+    ap (λ l. l ++ behind) (flat_map-cons slice_bytes x xs) ∙ append_assoc (slice_bytes x) (flat_map slice_bytes xs) behind in
     let long : place + length (slice_bytes x) + length (flat_map slice_bytes xs) ≡ place + length (flat_map slice_bytes (x ∷ xs)) =
-        omega (arith, ap length (flat_map-cons slice_bytes x xs), length-append (slice_bytes x) (flat_map slice_bytes xs)) in
+    omega (arith, ap length (flat_map-cons slice_bytes x xs), length-append (slice_bytes x) (flat_map slice_bytes xs)) in
     ap (λ l. slices_at (length (x ∷ xs)) (record { place = place; bytes = l })) split
     ∙ bind-step _ _ (slice-again x place (flat_map slice_bytes xs ++ behind) (All-head IsSlice x xs are))
     ∙ bind-step _ _ (slices-again xs (place + length (slice_bytes x)) behind (All-tail IsSlice x xs are))

@@ -9,11 +9,11 @@ mod reading;
 mod small;
 mod sums;
 mod table;
+#[cfg(test)]
+mod tests;
 mod writing;
 #[cfg(test)]
 mod writing_tests;
-#[cfg(test)]
-mod tests;
 
 pub use entry::{Entry, Pair};
 pub use fault::{ProofKind, TableFault};

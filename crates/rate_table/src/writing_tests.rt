@@ -1,6 +1,6 @@
 //! Tables written and read again.
 
-use crate::{Entry, FrameTable, SliceTable, Slices, read_body, write_body};
+use crate::{Entry, FrameTable, SliceTable, Slices, read_body, total, write_body};
 use pw_outside::{MemSink, MemSource};
 use std::alloc::Global;
 use std::process::Abort;
@@ -42,12 +42,13 @@ fn writes_a_body_that_is_read_again(rt: HostRuntime) {
         let fails = Vec::new(rt.alloc());
         let mut sink = MemSink::new(rt.alloc(), 58, step, fails).expect(&rt, "memory");
         write_body(&table, &mut sink).expect(&rt, "a sink");
-        assert_eq!(rt; sink.bytes(), &BODY);
+        assert_eq!(rt; sink.bytes(), BODY.as_slice());
         let bytes = Vec::from_slice(rt.alloc(), sink.bytes()).expect(&rt, "memory");
         let mut source = MemSource::new(bytes, step, Vec::new(rt.alloc()));
         let read = read_body(rt.alloc(), &mut source, 0).expect(&rt, "a table");
         assert_eq!(rt; (read.budget, read.fixed), (13, 0));
-        assert_eq!(rt; read.slices.as_slice()[1].entries(), table.slices.as_slice()[1].entries());
+        assert_eq!(rt; total(&read, &[2, 1]), Some((13, 10)));
+        assert_eq!(rt; total(&read, &[1, 2]), Some((15, 6)));
     }
 }
 
