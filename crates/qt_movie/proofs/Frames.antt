@@ -27,9 +27,9 @@ frames-from (frame ∷ frames) front behind =
     let len : length (front ++ A) ≡ length front + (8 + length frame) = omega (arith, length-append front A) in
     let first : bytes_in (length frame) F (length front + 8) ≡ frame = ap (λ f. bytes_in (length frame) f (length front + 8)) e0 ∙ frame-here front frame (rest ++ behind) in
     let others : map (λ (x : Extent). bytes_in x.size F x.at) (extents_from (length front + (8 + length frame)) (map length frames)) ≡ frames =
-      ap (λ f. map (λ (x : Extent). bytes_in x.size f x.at) (extents_from (length front + (8 + length frame)) (map length frames))) e
-      ∙ ap (λ p. map (λ (x : Extent). bytes_in x.size G x.at) (extents_from p (map length frames))) (sym len)
-      ∙ frames-from frames (front ++ A) behind in
+    ap (λ f. map (λ (x : Extent). bytes_in x.size f x.at) (extents_from (length front + (8 + length frame)) (map length frames))) e
+    ∙ ap (λ p. map (λ (x : Extent). bytes_in x.size G x.at) (extents_from p (map length frames))) (sym len)
+    ∙ frames-from frames (front ++ A) behind in
     ap (λ b. b ∷ map (λ (x : Extent). bytes_in x.size F x.at) (extents_from (length front + (8 + length frame)) (map length frames))) first ∙ ap (λ l. frame ∷ l) others
 
 pub frames_lie : (head : Head) (frames : List (List ℕ)) → map (λ (e : Extent). bytes_in e.size (movie_bytes head frames) e.at) (extents (map length frames)) ≡ frames

@@ -391,6 +391,15 @@ fn tells_samples_outside(rt: HostRuntime) {
     let near = far(&rt, rt.alloc(), b"\x3f\xff\xff\xff\xff\xff\xff\xff");
     let mut store = store(rt.alloc(), near);
     let movie = MovieReader::start(rt.alloc(), &mut store).expect(&rt, "a movie");
+    let track = Track {
+        number: 1,
+        timescale: 25,
+        kind: *b"apch",
+        width: 16,
+        height: 16,
+        samples: 1,
+    };
+    assert_eq!(rt; movie.track(), track);
     let place = (1 << 62) - 1;
     assert_eq!(rt;
         movie.sample(0),
@@ -486,13 +495,16 @@ fn places_two_frames(rt: HostRuntime) {
         ..HEAD
     };
     let mut movie = MovieWriter::begin(rt.alloc(), &mut sink, &head).expect(&rt, "a head");
-    for _ in 0..2 {
-        movie.reserve().expect(&rt, "memory");
-        movie
-            .frame_head(&mut sink, 178)
-            .expect(&rt, "a frame's head");
-        put(&mut sink, &[0; 178]).expect(&rt, "a frame");
-    }
+    movie.reserve().expect(&rt, "memory");
+    movie
+        .frame_head(&mut sink, 178)
+        .expect(&rt, "a frame's head");
+    put(&mut sink, &[0; 178]).expect(&rt, "a frame");
+    movie.reserve().expect(&rt, "memory");
+    movie
+        .frame_head(&mut sink, 178)
+        .expect(&rt, "a frame's head");
+    put(&mut sink, &[0; 178]).expect(&rt, "a frame");
     assert_eq!(rt; movie.finish(rt.alloc(), &mut sink), Ok(()));
     let bytes = Vec::from_slice(rt.alloc(), sink.bytes()).expect(&rt, "memory");
     let movie = MovieReader::start(rt.alloc(), &mut store(rt.alloc(), bytes)).expect(
