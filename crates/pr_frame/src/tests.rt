@@ -170,7 +170,7 @@ fn faults_have_their_places(rt: HostRuntime) {
             0,
             Some((FrameKind::Codeword, 176)),
         ),
-        (&[(17, 32)], 178, 0, Some((FrameKind::SliceTable, 164))),
+        (&[(17, 33)], 178, 0, Some((FrameKind::SliceTable, 164))),
     ];
     for (changes, kept, more, wanted) in cases {
         let bytes = frame(&rt, rt.alloc(), changes, kept, more);
