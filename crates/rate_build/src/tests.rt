@@ -4,12 +4,19 @@ ghost use Rattle.std.specs.Prelude.{◌≡◌, ◌^◌, None};
 ghost use Rattle.pw_planes.specs.declared.kinds.Chroma.TheVariants.{C422};
 ghost use Rattle.pw_planes.specs.declared.kinds.AlphaKind.TheVariants.{Absent};
 ghost use Rattle.pw_planes.specs.Samples.{bits_of};
+ghost use Rattle.std.specs.List.{All};
+ghost use Rattle.pw_planes.specs.declared.kinds.Interlace.TheVariants.{Progressive};
+ghost use Rattle.pr_geom.specs.Layout.{IsLayoutOf};
+ghost use Rattle.rate_build.specs.Coding.{IsIndex};
 ghost use Rattle.rate_build.specs.Coefficients.{HasDepth};
 
 use super::*;
+use pr_frame::{frame_length, write_frame};
 use pr_geom::Layout;
+use pr_head::own_header;
 use pr_quant::laws::named_weights_are_in_range;
 use pr_quant::{Matrix, Weights};
+use pw_outside::MemSink;
 use pw_planes::{AlphaKind, Chroma, Depth, Interlace, Picture, Plane};
 use rate_table::{Entry, FrameTable};
 use std::alloc::Global;
@@ -75,7 +82,8 @@ fn coefficients(
 ) -> Coefficients
     requires form { (picture.now.chroma ≡ C422) × (picture.now.alpha ≡ None) }
     requires depth { HasDepth picture.now.y picture.now.depth × HasDepth picture.now.cb picture.now.depth × HasDepth picture.now.cr picture.now.depth }
-    ensures { result.alpha ≡ Absent }
+    ensures alpha { result.alpha ≡ Absent }
+    ensures layout { IsLayoutOf result.layout size.0 size.1 log2 Progressive C422 }
 {
     let (width, height) = size;
     assert!(rt; log2 <= 3);
@@ -277,4 +285,72 @@ fn builds_the_table_of_2_by_1(rt: HostRuntime) {
             (13, 662),
         ],
     );
+}
+
+/// The indices are from 1 to 224.
+fn assert_indices(rt: &impl Abort, choice: &[u8])
+    ensures { All IsIndex choice.now }
+{
+    for index in choice {
+        assert!(rt; 1 <= *index && *index <= 224);
+    }
+}
+
+/// The frame of a picture, each slice quantised at its own index.
+fn frame(
+    rt: &impl Abort,
+    alloc: Global,
+    bytes: &[u8],
+    (width, height): (u16, u16),
+    (depth, log2, matrix): (Depth, u8, Matrix),
+    choice: &[u8],
+) -> (u64, MemSink) {
+    let size = (u32::from(width), u32::from(height));
+    let picture = picture(rt, alloc, bytes, size, depth);
+    let coefficients = coefficients(rt, alloc, &picture, (width, height), log2);
+    named_weights_are_in_range();
+    let weights = Weights::named(matrix);
+    let header = own_header(
+        width,
+        height,
+        Chroma::C422,
+        Interlace::Progressive,
+        AlphaKind::Absent,
+        &weights,
+    );
+    assert!(rt; choice.len() == coefficients.slices.as_slice().len());
+    assert_indices(rt, choice);
+    let frame = coded(alloc, &coefficients, &header, choice).expect(rt, "memory");
+    let length = frame_length(&frame);
+    assert!(rt; length < 1000);
+    let mut sink = MemSink::new(alloc, 1000, 4096, Vec::new(alloc)).expect(rt, "memory");
+    assert!(rt; write_frame(&frame, &mut sink).is_ok());
+    (length, sink)
+}
+
+#[test]
+fn writes_the_frame_of_a_grey_picture(rt: HostRuntime) {
+    let mut bytes = [0; 1024];
+    for i in 0..512 {
+        bytes[2 * i + 1] = 2;
+    }
+    let form = (Depth::D10, 3, Matrix::Flat);
+    let (length, sink) = frame(&rt, rt.alloc(), &bytes, (16, 16), form, &[1]);
+    assert_eq!(rt; length, 178);
+    let mut want = [4; 178];
+    want[..28].copy_from_slice(b"\0\0\0\xb2icpf\0\x94\0\0pwk0\0\x10\0\x10\x80\0\x02\x02\x02\0\0\x03");
+    want[156..].copy_from_slice(b"\x40\0\0\0\x16\0\x01\x30\0\x0c\x30\x01\0\x02\0\x02\x82\x30\x82\0\x82\0");
+    assert_eq!(rt; sink.bytes(), want.as_slice());
+}
+
+#[test]
+fn codes_each_slice_at_its_own_index(rt: HostRuntime) {
+    let bytes = b"\x29\x08\xba\x08\x4b\x09\xdc\x09\x6d\x0a\xfe\x0a\x8f\x0b\x20\x0c\xb1\x0c\x42\x0d\
+        \xd3\x0d\x64\x0e\xf5\x0e\x86\x0f\xff\x0f\xff\x0f\xff\x0f\xff\x0f\xff\x0f\xff\x0f\
+        \xce\x08\x64\x08\xfa\x07\x90\x07\x26\x07\xbc\x06\x52\x06\xe8\x05\x7e\x05\x14\x05\
+        \x1e\x09\x9d\x08\x1c\x08\x9b\x07\x1a\x07\x99\x06\x18\x06\x97\x05\x16\x05\x95\x04";
+    let form = (Depth::D12, 0, Matrix::Flat);
+    let (length, sink) = frame(&rt, rt.alloc(), bytes, (20, 1), form, &[2, 2]);
+    assert_eq!(rt; length, 168 + 77 + 51);
+    assert_eq!(rt; sink.bytes().len(), 168 + 77 + 51);
 }
