@@ -4,6 +4,8 @@
 mod end;
 mod lines;
 mod listing;
+#[cfg(test)]
+mod tests;
 
 pub use end::LookEnd;
 pub use listing::list_run;

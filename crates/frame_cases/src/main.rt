@@ -1,0 +1,262 @@
+//! Reads frames in memory, one a line of standard input in hexadecimal, and prints for each its size, its form, its
+//! indices and a hash of all that it stands for, or its first fault: the cases of an independent reference are compared
+//! with it.
+#![tactic(auto)]
+
+ghost use Rattle.std.specs.Prelude.{◌<◌, IfSome};
+
+use pr_coeff::Block;
+use pr_frame::{CodedFrame, CodedSlice, read_frame};
+use pr_head::{FrameFault, FrameHeader};
+use pw_outside::{MemSource, NoMemory};
+use pw_planes::{AlphaKind, Chroma, Interlace};
+use pw_text::{put_decimal, put_words};
+use std::io;
+
+/// The value of a hexadecimal digit in lower case.
+fn digit_of(byte: u8) -> Option<u8>
+    ensures { IfSome result (λ n. n < 16) }
+{
+    match byte {
+        b'0'..=b'9' => Some(byte - b'0'),
+        b'a'..=b'f' => Some(byte - b'a' + 10),
+        _ => None,
+    }
+}
+
+/// The bytes that a line stands for; a lone dash stands for none.
+fn bytes_of(rt: &HostRuntime, line: &str) -> io::Result<Option<Vec<u8>>> {
+    let mut bytes = Vec::new(rt.alloc());
+    if line == "-" {
+        return Ok(Some(bytes));
+    }
+    for pair in line.as_bytes().chunks_exact(2) {
+        match (digit_of(pair[0]), digit_of(pair[1])) {
+            (Some(high), Some(low)) => bytes.push(high * 16 + low)?,
+            _ => return Ok(None),
+        }
+    }
+    Ok(Some(bytes))
+}
+
+/// Appends a byte in hexadecimal.
+fn put_byte(text: &mut Vec<u8>, byte: u8) -> Result<(), NoMemory> {
+    let digits = b"0123456789abcdef";
+    match text.extend_from_slice(&[digits[usize::from(byte / 16)], digits[usize::from(byte % 16)]]) {
+        Ok(()) => Ok(()),
+        Err(_) => Err(NoMemory),
+    }
+}
+
+/// Appends words and a number.
+fn put_pair(text: &mut Vec<u8>, words: &str, number: u64) -> Result<(), NoMemory> {
+    put_words(text, words)?;
+    put_decimal(text, number)
+}
+
+/// Appends weights: one for all, or all 64.
+fn put_weights(text: &mut Vec<u8>, weights: &[u8; 64]) -> Result<(), NoMemory> {
+    let first = weights[0];
+    if weights.iter().all(|weight| *weight == first) {
+        put_decimal(text, u64::from(first))?;
+        return put_words(text, "*64");
+    }
+    for weight in weights {
+        put_byte(text, *weight)?;
+    }
+    Ok(())
+}
+
+/// Appends size and form.
+fn put_form(text: &mut Vec<u8>, header: &FrameHeader) -> Result<(), NoMemory> {
+    put_decimal(text, u64::from(header.width))?;
+    put_pair(text, "x", u64::from(header.height))?;
+    put_words(text, chroma_name(header.chroma))?;
+    put_words(text, mode_name(header.interlace))?;
+    put_pair(text, " alpha ", alpha_bits(header.alpha))
+}
+
+fn chroma_name(chroma: Chroma) -> &'static str {
+    match chroma {
+        Chroma::C422 => " 422 ",
+        Chroma::C444 => " 444 ",
+    }
+}
+
+fn mode_name(interlace: Interlace) -> &'static str {
+    match interlace {
+        Interlace::Progressive => "p",
+        Interlace::TopFirst => "t",
+        Interlace::BottomFirst => "b",
+    }
+}
+
+fn alpha_bits(alpha: AlphaKind) -> u64 {
+    match alpha {
+        AlphaKind::Absent => 0,
+        AlphaKind::Eight => 8,
+        AlphaKind::Sixteen => 16,
+    }
+}
+
+/// Appends the line of the header's version, encoder, size and form.
+fn put_shape(text: &mut Vec<u8>, header: &FrameHeader) -> Result<(), NoMemory> {
+    put_pair(text, "version ", u64::from(header.version))?;
+    put_words(text, " encoder ")?;
+    for byte in header.encoder {
+        put_byte(text, byte)?;
+    }
+    put_pair(text, " width ", u64::from(header.width))?;
+    put_pair(text, " height ", u64::from(header.height))?;
+    put_words(text, " chroma")?;
+    put_words(text, chroma_name(header.chroma))?;
+    put_words(text, "interlace ")?;
+    put_words(text, mode_name(header.interlace))
+}
+
+/// Appends the line of the header.
+fn put_header(text: &mut Vec<u8>, header: &FrameHeader) -> Result<(), NoMemory> {
+    put_shape(text, header)?;
+    put_pair(text, " aspect ", u64::from(header.aspect))?;
+    put_pair(text, " rate ", u64::from(header.rate))?;
+    put_pair(text, " primaries ", u64::from(header.primaries))?;
+    put_pair(text, " transfer ", u64::from(header.transfer))?;
+    put_pair(text, " matrix ", u64::from(header.matrix))?;
+    put_pair(text, " alpha ", alpha_bits(header.alpha))?;
+    put_words(text, " luma ")?;
+    put_weights(text, &header.luma)?;
+    put_words(text, " chromaweights ")?;
+    put_weights(text, &header.chroma_weights)?;
+    put_words(text, "\n")
+}
+
+/// Appends the values of a block that aren't 0, each behind its place.
+fn put_block(text: &mut Vec<u8>, block: &Block) -> Result<(), NoMemory> {
+    let mut separator = "";
+    for place in 0..64 {
+        let value = block[place];
+        if value != 0 {
+            put_words(text, separator)?;
+            put_decimal(text, place as u64)?;
+            put_words(text, if value < 0 { "=-" } else { "=" })?;
+            put_decimal(text, u64::from(value.unsigned_abs()))?;
+            separator = ",";
+        }
+    }
+    if separator == "" {
+        put_words(text, "-")?;
+    }
+    Ok(())
+}
+
+/// Appends the line of a component.
+fn put_blocks(text: &mut Vec<u8>, name: &str, blocks: &[Block]) -> Result<(), NoMemory> {
+    put_words(text, name)?;
+    let mut separator = " ";
+    for block in blocks {
+        put_words(text, separator)?;
+        put_block(text, block)?;
+        separator = "/";
+    }
+    put_words(text, "\n")
+}
+
+/// Appends the lines of a slice.
+fn put_slice(text: &mut Vec<u8>, slice: &CodedSlice) -> Result<(), NoMemory> {
+    put_pair(text, "slice index ", u64::from(slice.index))?;
+    put_words(text, "\n")?;
+    put_blocks(text, "Y", slice.y.as_slice())?;
+    put_blocks(text, "Cb", slice.cb.as_slice())?;
+    put_blocks(text, "Cr", slice.cr.as_slice())
+}
+
+/// Appends all that a frame stands for.
+fn put_frame(text: &mut Vec<u8>, frame: &CodedFrame) -> Result<(), NoMemory> {
+    put_header(text, &frame.header)?;
+    for picture in frame.pictures.as_slice() {
+        put_pair(text, "picture log2 ", u64::from(picture.log2))?;
+        put_pair(text, " slices ", picture.slices.as_slice().len() as u64)?;
+        put_words(text, "\n")?;
+        for slice in picture.slices.as_slice() {
+            put_slice(text, slice)?;
+        }
+    }
+    Ok(())
+}
+
+/// Appends the indices of all slices.
+fn put_indices(text: &mut Vec<u8>, frame: &CodedFrame) -> Result<(), NoMemory> {
+    let mut separator = " indices ";
+    for picture in frame.pictures.as_slice() {
+        for slice in picture.slices.as_slice() {
+            put_words(text, separator)?;
+            put_decimal(text, u64::from(slice.index))?;
+            separator = ",";
+        }
+    }
+    Ok(())
+}
+
+/// The FNV-1a hash of 64 bits.
+fn hash_of(bytes: &[u8]) -> u64 {
+    let mut hash: u64 = 0xcbf2_9ce4_8422_2325;
+    for byte in bytes {
+        hash = (hash ^ u64::from(*byte)).wrapping_mul(0x100_0000_01b3);
+    }
+    hash
+}
+
+/// Appends what is printed of a frame.
+fn put_answer(text: &mut Vec<u8>, whole: &[u8], frame: &CodedFrame) -> Result<(), NoMemory> {
+    put_words(text, "ok ")?;
+    put_form(text, &frame.header)?;
+    put_indices(text, frame)?;
+    put_words(text, " dump ")?;
+    for byte in hash_of(whole).to_be_bytes() {
+        put_byte(text, byte)?;
+    }
+    Ok(())
+}
+
+/// The line of a sample.
+fn line_of(rt: &HostRuntime, sample: Vec<u8>) -> io::Result<Result<Vec<u8>, FrameFault>> {
+    let alloc = rt.alloc();
+    let size = match u32::try_from(sample.len()) {
+        Ok(size) => size,
+        Err(_) => return Ok(Err(FrameFault::NoMemory)),
+    };
+    let mut source = MemSource::new(sample, 7, Vec::new(alloc));
+    let frame = match read_frame(alloc, &mut source, size) {
+        Ok(frame) => frame,
+        Err(fault) => return Ok(Err(fault)),
+    };
+    let mut whole = Vec::new(alloc);
+    let mut line = Vec::new(alloc);
+    if put_frame(&mut whole, &frame).is_err() || put_answer(&mut line, &whole, &frame).is_err() {
+        return Ok(Err(FrameFault::NoMemory));
+    }
+    Ok(Ok(line))
+}
+
+fn print(rt: &HostRuntime, answer: Result<Vec<u8>, FrameFault>) -> io::Result<()> {
+    match answer {
+        Ok(line) => println!(rt; "{}", String::from_utf8_lossy(rt.alloc(), &line)?),
+        Err(FrameFault::Bad { kind, place }) => println!(rt; "fault {kind:?} {place}"),
+        Err(FrameFault::Failed) => println!(rt; "failed"),
+        Err(FrameFault::NoMemory) => println!(rt; "no memory"),
+    }
+}
+
+fn main(rt: HostRuntime) -> io::Result<()> {
+    for line in rt.lines(rt.alloc()) {
+        let line = line?;
+        match bytes_of(&rt, line.as_str())? {
+            Some(sample) => {
+                let answer = line_of(&rt, sample)?;
+                print(&rt, answer)?;
+            }
+            None => println!(&rt; "no hexadecimal")?,
+        }
+    }
+    Ok(())
+}
