@@ -42,7 +42,10 @@ fn bytes_of(rt: &HostRuntime, line: &str) -> io::Result<Option<Vec<u8>>> {
 /// Appends a byte in hexadecimal.
 fn put_byte(text: &mut Vec<u8>, byte: u8) -> Result<(), NoMemory> {
     let digits = b"0123456789abcdef";
-    match text.extend_from_slice(&[digits[usize::from(byte / 16)], digits[usize::from(byte % 16)]]) {
+    match text.extend_from_slice(&[
+        digits[usize::from(byte / 16)],
+        digits[usize::from(byte % 16)],
+    ]) {
         Ok(()) => Ok(()),
         Err(_) => Err(NoMemory),
     }

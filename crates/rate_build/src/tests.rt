@@ -338,8 +338,12 @@ fn writes_the_frame_of_a_grey_picture(rt: HostRuntime) {
     let (length, sink) = frame(&rt, rt.alloc(), &bytes, (16, 16), form, &[1]);
     assert_eq!(rt; length, 178);
     let mut want = [4; 178];
-    want[..28].copy_from_slice(b"\0\0\0\xb2icpf\0\x94\0\0pwk0\0\x10\0\x10\x80\0\x02\x02\x02\0\0\x03");
-    want[156..].copy_from_slice(b"\x40\0\0\0\x16\0\x01\x30\0\x0c\x30\x01\0\x02\0\x02\x82\x30\x82\0\x82\0");
+    want[..28].copy_from_slice(
+        b"\0\0\0\xb2icpf\0\x94\0\0pwk0\0\x10\0\x10\x80\0\x02\x02\x02\0\0\x03",
+    );
+    want[156..].copy_from_slice(
+        b"\x40\0\0\0\x16\0\x01\x30\0\x0c\x30\x01\0\x02\0\x02\x82\x30\x82\0\x82\0",
+    );
     assert_eq!(rt; sink.bytes(), want.as_slice());
 }
 

@@ -30,8 +30,14 @@ few_samples [] sizes durations = omega arith
 few_samples (c ∷ cs) sizes durations =
     let here = samples_at c.description c.at (take c.samples sizes) durations in
     let there = samples_in cs (drop c.samples sizes) (drop c.samples durations) in
-    omega (arith, length-append here there, at-most c.description c.at (take c.samples sizes) durations,
-      few_samples cs (drop c.samples sizes) (drop c.samples durations), length-take c.samples sizes, length-drop c.samples sizes)
+    omega (
+      arith,
+      length-append here there,
+      at-most c.description c.at (take c.samples sizes) durations,
+      few_samples cs (drop c.samples sizes) (drop c.samples durations),
+      length-take c.samples sizes,
+      length-drop c.samples sizes,
+    )
 
 -- one sample more
 pub one_more : (ss : List Sample) (from number : ℕ) (s : Sample) → from ≤ number → slice_get ss number ≡ Some s
@@ -43,9 +49,9 @@ one_more ss from number s le e =
     let at : from + (number - from) ≡ number = omega (arith, le) in
     let taken : length (take (number - from) (drop from ss)) ≡ number - from = length-take-le (number - from) (drop from ss) (omega (arith, here)) in
     let is : get_or (drop from ss) (number - from) s ≡ s =
-      get_or-drop from ss (number - from) s ∙ ap (λ n. get_or ss n s) at ∙ ap (λ o. unwrap_or o s) (sym (slice_get-get_or ss number s there) ∙ e) in
+    get_or-drop from ss (number - from) s ∙ ap (λ n. get_or ss n s) at ∙ ap (λ o. unwrap_or o s) (sym (slice_get-get_or ss number s there) ∙ e) in
     let more : take (number + 1 - from) (drop from ss) ≡ take (number - from) (drop from ss) ++ s ∷ [] =
-      ap (λ n. take n (drop from ss)) k ∙ take-suc (drop from ss) (number - from) s here ∙ ap (λ x. take (number - from) (drop from ss) ++ x ∷ []) is in
+    ap (λ n. take n (drop from ss)) k ∙ take-suc (drop from ss) (number - from) s here ∙ ap (λ x. take (number - from) (drop from ss) ++ x ∷ []) is in
     ap (sample_lines from) more
     ∙ lines_of_both from (take (number - from) (drop from ss)) (s ∷ [])
     ∙ ap (λ n. sample_lines from (take (number - from) (drop from ss)) ++ sample_lines n (s ∷ [])) (ap (λ n. from + n) taken ∙ at)

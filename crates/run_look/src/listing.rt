@@ -62,7 +62,11 @@ fn put_lines<K: ByteSink>(sink: &mut K, lines: &[u8]) -> Result<(), Failed>
 }
 
 /// Writes the lines of all samples.
-fn put_all_samples<K: ByteSink>(alloc: Global, reader: &MovieReader, sink: &mut K) -> Result<(), Stop>
+fn put_all_samples<K: ByteSink>(
+    alloc: Global,
+    reader: &MovieReader,
+    sink: &mut K,
+) -> Result<(), Stop>
     ensures ok { OnOk result (Puts (sink_state (K.held sink.old) (K.taken sink.old)) (sink_state (K.held sink.new) (K.taken sink.new)) (sample_lines 0 (samples reader.now.tables))) }
     ensures err { OnErr result (PutsFront (sink_state (K.held sink.old) (K.taken sink.old)) (sink_state (K.held sink.new) (K.taken sink.new)) (sample_lines 0 (samples reader.now.tables))) }
     ensures cause { CountsFault (K.faults sink.old) (K.faults sink.new) (is_stopped_by_sink result) }

@@ -11,7 +11,8 @@ use qt_tables::MovieKind;
 use std::test::Fail;
 
 /// The text of a movie of one frame of 178 bytes.
-const GREY: &[u8] = b"track 1 timescale 25 kind apch width 16 height 16 samples 1\nsample 0 at 28 size 178 duration 1\n";
+const GREY: &[u8] =
+    b"track 1 timescale 25 kind apch width 16 height 16 samples 1\nsample 0 at 28 size 178 duration 1\n";
 
 /// A movie of so many frames of so many bytes.
 fn movie_of(rt: &HostRuntime, frames: u32, size: u32) -> Result<Vec<u8>, Fail>
@@ -77,7 +78,11 @@ fn more_lines_than_are_written_at_once(rt: HostRuntime) -> Result<(), Fail> {
     let file = movie_of(&rt, 600, 1)?;
     let (end, text) = listed(&rt, &file, 4096, &[], &[])?;
     assert_eq!(rt; end, LookEnd::Done);
-    assert!(rt; text.starts_with(b"track 1 timescale 25 kind apch width 16 height 16 samples 600\nsample 0 at 28 size 1 duration 1\nsample 1 at 37 "));
+    assert!(rt;
+        text.starts_with(
+            b"track 1 timescale 25 kind apch width 16 height 16 samples 600\nsample 0 at 28 size 1 duration 1\nsample 1 at 37 "
+        )
+    );
     assert!(rt; text.ends_with(b"\nsample 599 at 5419 size 1 duration 1\n"));
     let mut lines = 0;
     for byte in &text {

@@ -44,9 +44,9 @@ fn bytes_of(
     head: (u32, u32),
     slices: &[&[(u8, u16, u64)]],
 ) -> Result<Vec<u8>, AllocError> {
-    let mut bytes = put_head(alloc, head, slices.len() as u32)?;
+    let mut bytes = put_head(alloc, head, u32::try_from(slices.len()).unwrap_or(0))?;
     for slice in slices {
-        bytes.push(slice.len() as u8)?;
+        bytes.push(u8::try_from(slice.len()).unwrap_or(0))?;
         for entry in *slice {
             put_entry(&mut bytes, *entry)?;
         }

@@ -17,7 +17,7 @@ loop-number-preserved c =
       there = search rules;
       within = λ _. let h : number + 1 ≤ length ss = omega (arith, there) in h;
       text = c.in_ok-put_sample.ensures
-        ∙ ap (λ l. l ++ sample_line number c.sample.result) c.loop-number.invariant.text
-        ∙ append_assoc c.args.text.now.items before (sample_line number c.sample.result)
-        ∙ ap (λ l. c.args.text.now.items ++ l) (sym (one_more ss from number c.sample.result c.loop-number.invariant.order c.sample.ensures.value));
+          ∙ ap (λ l. l ++ sample_line number c.sample.result) c.loop-number.invariant.text
+          ∙ append_assoc c.args.text.now.items before (sample_line number c.sample.result)
+          ∙ ap (λ l. c.args.text.now.items ++ l) (sym (one_more ss from number c.sample.result c.loop-number.invariant.order c.sample.ensures.value));
     }

@@ -31,8 +31,8 @@ loop-next-preserved g c =
       order = search rules;
       within = c.in_ok-put_samples.ensures.within lt;
       text = further ss next end le c.loop-next.invariant.within c.loop-next.invariant.text
-        (subst (λ l. Puts (sink_state (g.K.ByteSink.held c.loop-next.sink) (g.K.ByteSink.taken c.loop-next.sink)) (sink_state (g.K.ByteSink.held c.put_lines.new.sink) (g.K.ByteSink.taken c.put_lines.new.sink)) l)
-        piece c.in_ok-put_lines.ensures.ok);
+          (subst (λ l. Puts (sink_state (g.K.ByteSink.held c.loop-next.sink) (g.K.ByteSink.taken c.loop-next.sink)) (sink_state (g.K.ByteSink.held c.put_lines.new.sink) (g.K.ByteSink.taken c.put_lines.new.sink)) l)
+          piece c.in_ok-put_lines.ensures.ok);
       cause = search rules;
     }
 

@@ -18,12 +18,12 @@ pub returns-clause-ok : goal.returns-clause-ok
 returns-clause-ok g c =
     let piece : c.deref.result.now ≡ track_line c.args.reader.now = search rules in
     let first = subst (λ l. Puts (sink_state (g.K.ByteSink.held c.args.sink.now) (g.K.ByteSink.taken c.args.sink.now)) (sink_state (g.K.ByteSink.held c.put_lines.new.sink) (g.K.ByteSink.taken c.put_lines.new.sink)) l)
-      piece c.in_ok-put_lines.ensures.ok in
+    piece c.in_ok-put_lines.ensures.ok in
     on_ok_weaker c.put_all_samples.result (λ p. puts_then first p) c.put_all_samples.ensures.ok
 
 pub returns-clause-err : goal.returns-clause-err
 returns-clause-err g c =
     let piece : c.deref.result.now ≡ track_line c.args.reader.now = search rules in
     let first = subst (λ l. Puts (sink_state (g.K.ByteSink.held c.args.sink.now) (g.K.ByteSink.taken c.args.sink.now)) (sink_state (g.K.ByteSink.held c.put_lines.new.sink) (g.K.ByteSink.taken c.put_lines.new.sink)) l)
-      piece c.in_ok-put_lines.ensures.ok in
+    piece c.in_ok-put_lines.ensures.ok in
     on_err_weaker c.put_all_samples.result (λ p. then_front first p) c.put_all_samples.ensures.err
