@@ -2,3 +2,4 @@ mod InOrder
 mod Contained
 mod Lengths
 mod Frames
+mod Stands
