@@ -3,3 +3,4 @@ mod Contained
 mod Lengths
 mod Frames
 mod Stands
+mod Nodes
