@@ -4,3 +4,4 @@ mod Lengths
 mod Frames
 mod Stands
 mod Nodes
+mod TopLevel
