@@ -5,3 +5,4 @@ mod Frames
 mod Stands
 mod Nodes
 mod TopLevel
+mod WrittenFields
