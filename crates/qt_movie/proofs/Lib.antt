@@ -6,3 +6,4 @@ mod Stands
 mod Nodes
 mod TopLevel
 mod WrittenFields
+mod WrittenParts
