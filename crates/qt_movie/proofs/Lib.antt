@@ -7,3 +7,4 @@ mod Nodes
 mod TopLevel
 mod WrittenFields
 mod WrittenParts
+mod WrittenMovie
