@@ -1,12 +1,12 @@
 -- The atoms of a written movie have sizes of 32 bits.
-use Rattle.std.proofs.Common.{◌≡◌, ℕ, ◌+◌, ◌*◌, ◌≤◌, ◌<◌, ◌^◌, Bool, true, false, List, [], ◌∷◌, ◌++◌, length, refl, ap, ◌∙◌, arith, length-append}
+use Rattle.std.proofs.Common.{◌≡◌, ℕ, ◌+◌, ◌*◌, ◌≤◌, Bool, true, false, List, [], ◌∷◌, ◌++◌, length, refl, ap, ◌∙◌, arith, length-append}
 use Rattle.std.specs.Prelude.{codes, if◌then◌else◌}
 use Rattle.std.specs.List.{AllByRecursion}
 use Rattle.pic_y4m.specs.declared.head.Head.{Head}
 use Rattle.qt_atoms.specs.Written.{Node, atom, IsNode}
 use Rattle.qt_tables.specs.declared.writer.Extent.{Extent}
 use Rattle.qt_tables.specs.Writing.{tables_bytes}
-use Rattle.qt_movie.specs.MovieBytes.{be16, be32, zeros, bits_of, node, nodes_bytes, mvhd_body, tkhd_body, mdhd_body, hdlr_body, vmhd_body, dref_body, is_422, kind_of, description_bytes, stsd_body, dinf_nodes, stbl_nodes, minf_nodes, duration_of, mdia_nodes, trak_nodes, moov_nodes}
+use Rattle.qt_movie.specs.MovieBytes.{be16, be32, zeros, bits_of, node, nodes_bytes, mvhd_body, tkhd_body, mdhd_body, hdlr_body, vmhd_body, dref_body, is_422, description_bytes, stsd_body, dinf_nodes, stbl_nodes, minf_nodes, duration_of, mdia_nodes, trak_nodes, moov_nodes}
 use Rattle.qt_movie.proofs.Lengths.{length-atom, tables_few}
 
 pub length-mvhd : (timescale duration : ℕ) → length (mvhd_body timescale duration) ≡ 100
@@ -75,16 +75,32 @@ length-minf head es =
     let dinf = node (codes "dinf") (nodes_bytes dinf_nodes) in
     let hdlr = node (codes "hdlr") (hdlr_body (codes "dhlr") (codes "alis")) in
     let vmhd = node (codes "vmhd") vmhd_body in
-    omega (arith, length-nodes vmhd (hdlr ∷ dinf ∷ stbl ∷ []) refl, length-nodes hdlr (dinf ∷ stbl ∷ []) refl, length-nodes dinf (stbl ∷ []) refl, length-nodes stbl [] refl,
-    length-vmhd, length-data_handler, length-dinf, length-stbl head es)
+    omega (
+      arith,
+      length-nodes vmhd (hdlr ∷ dinf ∷ stbl ∷ []) refl,
+      length-nodes hdlr (dinf ∷ stbl ∷ []) refl,
+      length-nodes dinf (stbl ∷ []) refl,
+      length-nodes stbl [] refl,
+      length-vmhd,
+      length-data_handler,
+      length-dinf,
+      length-stbl head es,
+    )
 
 pub length-mdia : (head : Head) (es : List Extent) → length (nodes_bytes (mdia_nodes head es)) ≤ 360 + 12 * length es
 length-mdia head es =
     let minf = node (codes "minf") (nodes_bytes (minf_nodes head es)) in
     let hdlr = node (codes "hdlr") (hdlr_body (codes "mhlr") (codes "vide")) in
     let mdhd = node (codes "mdhd") (mdhd_body head.num (duration_of head es)) in
-    omega (arith, length-nodes mdhd (hdlr ∷ minf ∷ []) refl, length-nodes hdlr (minf ∷ []) refl, length-nodes minf [] refl,
-    length-mdhd head.num (duration_of head es), length-handler, length-minf head es)
+    omega (
+      arith,
+      length-nodes mdhd (hdlr ∷ minf ∷ []) refl,
+      length-nodes hdlr (minf ∷ []) refl,
+      length-nodes minf [] refl,
+      length-mdhd head.num (duration_of head es),
+      length-handler,
+      length-minf head es,
+    )
 
 pub length-trak : (head : Head) (es : List Extent) → length (nodes_bytes (trak_nodes head es)) ≤ 460 + 12 * length es
 length-trak head es =
@@ -102,26 +118,36 @@ length-moov head es =
 
 pub are-minf : (head : Head) (es : List Extent) → length es ≤ 1000000 → AllByRecursion IsNode (minf_nodes head es)
 are-minf head es few = (
-    record { kind = refl; size = omega (arith, length-vmhd) },
-    (record { kind = refl; size = omega (arith, length-data_handler) },
-    (record { kind = refl; size = omega (arith, length-dinf) },
-    (record { kind = refl; size = omega (arith, length-stbl head es) }, tt))))
+  record { kind = refl; size = omega (arith, length-vmhd) },
+  (
+    record { kind = refl; size = omega (arith, length-data_handler) },
+    (
+      record { kind = refl; size = omega (arith, length-dinf) },
+      (record { kind = refl; size = omega (arith, length-stbl head es) }, tt),
+    ),
+  ),
+)
 
 pub are-dinf : AllByRecursion IsNode dinf_nodes
 are-dinf = (record { kind = refl; size = omega (arith, length-dref) }, tt)
 
 pub are-mdia : (head : Head) (es : List Extent) → length es ≤ 1000000 → AllByRecursion IsNode (mdia_nodes head es)
 are-mdia head es few = (
-    record { kind = refl; size = omega (arith, length-mdhd head.num (duration_of head es)) },
-    (record { kind = refl; size = omega (arith, length-handler) },
-    (record { kind = refl; size = omega (arith, length-minf head es) }, tt)))
+  record { kind = refl; size = omega (arith, length-mdhd head.num (duration_of head es)) },
+  (
+    record { kind = refl; size = omega (arith, length-handler) },
+    (record { kind = refl; size = omega (arith, length-minf head es) }, tt),
+  ),
+)
 
 pub are-trak : (head : Head) (es : List Extent) → length es ≤ 1000000 → AllByRecursion IsNode (trak_nodes head es)
 are-trak head es few = (
-    record { kind = refl; size = omega (arith, length-tkhd (duration_of head es) head.width head.height) },
-    (record { kind = refl; size = omega (arith, length-mdia head es) }, tt))
+  record { kind = refl; size = omega (arith, length-tkhd (duration_of head es) head.width head.height) },
+  (record { kind = refl; size = omega (arith, length-mdia head es) }, tt),
+)
 
 pub are-moov : (head : Head) (es : List Extent) → length es ≤ 1000000 → AllByRecursion IsNode (moov_nodes head es)
 are-moov head es few = (
-    record { kind = refl; size = omega (arith, length-mvhd head.num (duration_of head es)) },
-    (record { kind = refl; size = omega (arith, length-trak head es) }, tt))
+  record { kind = refl; size = omega (arith, length-mvhd head.num (duration_of head es)) },
+  (record { kind = refl; size = omega (arith, length-trak head es) }, tt),
+)

@@ -1,11 +1,11 @@
 -- Atoms that stand in a file, one inside the other.
-use Rattle.std.proofs.Common.{◌≡◌, ℕ, ◌+◌, ◌<◌, ◌^◌, ◌≤◌, Bool, false, List, [], ◌∷◌, ◌++◌, length, take, drop, None, refl, sym, ap, ◌∙◌, arith, append_assoc, length-append}
+use Rattle.std.proofs.Common.{◌≡◌, ℕ, ◌+◌, Bool, false, List, ◌∷◌, ◌++◌, length, take, drop, None, sym, ap, ◌∙◌, arith, append_assoc, length-append}
 use Rattle.std.specs.List.{AllByRecursion}
 use Rattle.std.specs.Int.{w32, to_be_bytes}
 use Rattle.std.proofs.lemmas.List.{drop_at, drop-drop}
 use Rattle.qt_atoms.specs.declared.atom.Atom.{Atom}
 use Rattle.qt_atoms.specs.Atoms.{Walk, walk, children, bytes_in}
-use Rattle.qt_atoms.specs.Written.{Node, atom, atom_of, IsNode, placed}
+use Rattle.qt_atoms.specs.Written.{Node, atom_of, IsNode, placed}
 use Rattle.qt_atoms.proofs.WrittenAtoms.{walk_written}
 use Rattle.qt_movie.specs.MovieBytes.{node, nodes_bytes}
 
@@ -32,7 +32,7 @@ first_stands file at n nodes s = record {
   front = s.front;
   behind = nodes_bytes nodes ++ s.behind;
   whole = s.whole ∙ ap (λ l. s.front ++ l) (append_assoc (atom_of n) (nodes_bytes nodes) s.behind);
-  place = s.place
+  place = s.place;
 }
 
 pub others_stand : (file : List ℕ) (at : ℕ) (n : Node) (nodes : List Node) → length n.kind ≡ 4 → StandAll file at (n ∷ nodes) → StandAll file (at + (length n.body + 8)) nodes
@@ -43,7 +43,7 @@ others_stand file at n nodes four s =
       front = s.front ++ A;
       behind = s.behind;
       whole = s.whole ∙ ap (λ l. s.front ++ l) (append_assoc A rest s.behind) ∙ sym (append_assoc s.front A (rest ++ s.behind));
-      place = omega (arith, length-append s.front A, length-append n.kind n.body, four, s.place)
+      place = omega (arith, length-append s.front A, length-append n.kind n.body, four, s.place);
     }
 
 -- what is inside an atom stands behind its head
@@ -55,7 +55,7 @@ inside file at kind nodes four s =
       front = s.front ++ H;
       behind = s.behind;
       whole = s.whole ∙ ap (λ l. s.front ++ (to_be_bytes w32 (length body + 8) ++ l)) (append_assoc kind body s.behind) ∙ sym (append_assoc s.front H (body ++ s.behind));
-      place = omega (arith, length-append s.front H, four, s.place)
+      place = omega (arith, length-append s.front H, four, s.place);
     }
 
 -- the bytes behind the head of an atom
@@ -64,7 +64,7 @@ body_here file at n four s =
     let H = to_be_bytes w32 (length n.body + 8) ++ n.kind in
     let len : length (s.front ++ H) ≡ at + 8 = omega (arith, length-append s.front H, four, s.place) in
     let whole : file ≡ (s.front ++ H) ++ (n.body ++ s.behind) =
-      s.whole ∙ ap (λ l. s.front ++ (to_be_bytes w32 (length n.body + 8) ++ l)) (append_assoc n.kind n.body s.behind) ∙ sym (append_assoc s.front H (n.body ++ s.behind)) in
+    s.whole ∙ ap (λ l. s.front ++ (to_be_bytes w32 (length n.body + 8) ++ l)) (append_assoc n.kind n.body s.behind) ∙ sym (append_assoc s.front H (n.body ++ s.behind)) in
     ap (drop (at + 8)) whole ∙ drop_at (s.front ++ H) (n.body ++ s.behind) (at + 8) len
 
 -- the bytes of a field of it

@@ -1,14 +1,13 @@
 -- The top level of a written movie: the file type, the data of each frame, and the movie atom.
-use Rattle.std.proofs.Common.{◌≡◌, ℕ, ◌+◌, ◌≤◌, ◌<◌, ◌^◌, Bool, true, false, List, [], ◌∷◌, ◌++◌, length, map, Some, None, Ok, refl, sym, ap, ◌∙◌, arith, append_assoc, length-append}
+use Rattle.std.proofs.Common.{◌≡◌, ℕ, ◌+◌, ◌≤◌, Bool, true, false, List, [], ◌∷◌, ◌++◌, length, map, Some, None, Ok, refl, sym, ap, ◌∙◌, arith, append_assoc}
 use Rattle.std.specs.Prelude.{codes}
 use Rattle.std.specs.List.{flat_map, find, AllByRecursion}
-use Rattle.std.specs.Int.{w32, to_be_bytes}
 use Rattle.std.proofs.lemmas.List.{append-nil}
 use Rattle.pw_outside.specs.Reading.{bind}
 use Rattle.pic_y4m.specs.declared.head.Head.{Head}
 use Rattle.qt_atoms.specs.declared.atom.Atom.{Atom}
 use Rattle.qt_atoms.specs.Atoms.{Walk, top_level, first_in, first_at_top, is_one_of, found_or}
-use Rattle.qt_atoms.specs.Written.{Node, atom, atom_of, IsNode, placed}
+use Rattle.qt_atoms.specs.Written.{Node, atom_of, IsNode, placed}
 use Rattle.qt_tables.specs.declared.writer.Extent.{Extent}
 use Rattle.qt_movie.specs.Movie.{moov_in}
 use Rattle.qt_movie.specs.MovieBytes.{be32, node, nodes_bytes, moov_nodes, moov_bytes, frame_bytes, extents, movie_bytes}
@@ -65,7 +64,7 @@ all-stand head frames = record {
   front = [];
   behind = [];
   whole = movie-is head frames ∙ sym (append-nil (nodes_bytes (ftyp_node ∷ then_last frames (moov_node head (extents (map length frames))))));
-  place = refl
+  place = refl;
 }
 
 pub moov_stands : (head : Head) (frames : List (List ℕ)) → Stands (movie_bytes head frames) (moov_place frames) (moov_node head (extents (map length frames)))

@@ -1,14 +1,14 @@
 -- The fields of a written movie are read.
-use Rattle.std.proofs.Common.{◌≡◌, ℕ, ◌+◌, ◌-◌, ◌*◌, ◌≤◌, ◌<◌, ◌^◌, Bool, true, false, nat_lt, nat_le, List, [], ◌∷◌, ◌++◌, length, take, drop, Some, Ok, refl, sym, ap, ◌∙◌, arith}
+use Rattle.std.proofs.Common.{◌≡◌, ℕ, ◌+◌, ◌-◌, ◌≤◌, ◌<◌, ◌^◌, Bool, true, false, nat_le, List, [], ◌∷◌, ◌++◌, length, take, drop, Ok, refl, sym, ap, ◌∙◌, arith}
 use Rattle.std.specs.Prelude.{codes, ◌==◌}
-use Rattle.std.specs.Int.{w8, w16, w32, to_be_bytes, from_be_bytes}
+use Rattle.std.specs.Int.{w8, w16, w32, from_be_bytes}
 use Rattle.std.proofs.lemmas.Bool.Decides.{nat_tests}
 use Rattle.std.proofs.lemmas.List.{drop-drop}
 use Rattle.std.proofs.lemmas.Nat.{from_be_bytes-to_be_bytes_2, from_be_bytes-to_be_bytes_4}
 use Rattle.pw_outside.specs.Reading.{bind}
 use Rattle.pic_y4m.specs.declared.head.Head.{Head}
 use Rattle.qt_atoms.specs.declared.atom.Atom.{Atom}
-use Rattle.qt_atoms.specs.Atoms.{number_in, bytes_in, kind_in}
+use Rattle.qt_atoms.specs.Atoms.{number_in, kind_in}
 use Rattle.qt_tables.specs.Tables.{body_length, timescale_in}
 use Rattle.qt_movie.specs.declared.description.Description.{Description}
 use Rattle.qt_movie.specs.Movie.{is_video, is_prores, description_in, descriptions_in, described, reference_at, references_of}
@@ -150,11 +150,11 @@ stsd-read file at head wide high s =
     let left : (at + (length (stsd_body head) + 8)) - ((at + 8) + 8) ≡ 86 = omega (arith, length-stsd head) in
     record {
       descriptions = one-description file (atom_here at n) (kind_of head) (body-of at (length (stsd_body head)) ∙ length-stsd head) left
-      (ap (from_be_bytes w32) (field_here file rest (at + 8) 4 4 there))
-      (ap (from_be_bytes w32) (field_here file rest (at + 8) 4 8 there))
-      (field_here file (drop 8 rest) ((at + 8) + 8) 4 4 entry ∙ stsd-kind b head s.behind)
-      (ap (from_be_bytes w16) (field_here file (drop 8 rest) ((at + 8) + 8) 2 14 entry ∙ stsd-reference b head s.behind))
-      (is-prores head);
+          (ap (from_be_bytes w32) (field_here file rest (at + 8) 4 4 there))
+          (ap (from_be_bytes w32) (field_here file rest (at + 8) 4 8 there))
+          (field_here file (drop 8 rest) ((at + 8) + 8) 4 4 entry ∙ stsd-kind b head s.behind)
+          (ap (from_be_bytes w16) (field_here file (drop 8 rest) ((at + 8) + 8) 2 14 entry ∙ stsd-reference b head s.behind))
+          (is-prores head);
       width = ap (from_be_bytes w16) (field_here file (drop 8 rest) ((at + 8) + 8) 2 32 entry ∙ stsd-width b head s.behind) ∙ from_be_bytes-to_be_bytes_2 head.width wide;
       height = ap (from_be_bytes w16) (field_here file (drop 8 rest) ((at + 8) + 8) 2 34 entry ∙ stsd-height b head s.behind) ∙ from_be_bytes-to_be_bytes_2 head.height high;
     }

@@ -1,35 +1,35 @@
 -- A written movie is read.
-use Rattle.std.proofs.Common.{◌≡◌, ℕ, ◌+◌, ◌*◌, ◌≤◌, ◌<◌, ◌^◌, Bool, true, false, List, [], ◌∷◌, ◌++◌, length, map, Option, None, Some, Result, Ok, refl, sym, ap, ◌∙◌, arith, length-append}
+use Rattle.std.proofs.Common.{◌≡◌, ℕ, ◌+◌, ◌*◌, ◌≤◌, ◌<◌, ◌^◌, List, [], ◌∷◌, ◌++◌, length, map, None, Some, Result, Ok, refl, sym, ap, ◌∙◌, arith}
 use Rattle.std.specs.Prelude.{codes}
 use Rattle.std.specs.List.{All, AllByRecursion, filter}
-use Rattle.std.specs.Int.{w16, w32}
+use Rattle.std.specs.Int.{w16}
 use Rattle.std.proofs.lemmas.List.{length-map}
 use Rattle.std.proofs.lemmas.List.Elements.{All-from_recursion, recursion_from_All}
 use Rattle.pw_outside.specs.Reading.{bind}
 use Rattle.pic_y4m.specs.declared.head.Head.{Head}
 use Rattle.pic_y4m.specs.HeadLine.{IsHead}
 use Rattle.qt_atoms.specs.declared.atom.Atom.{Atom}
-use Rattle.qt_atoms.specs.Atoms.{bytes_in, Walk, children, child, child_of, first_in, is_one_of, number_in}
-use Rattle.qt_atoms.specs.Written.{Node, atom, IsNode, placed}
+use Rattle.qt_atoms.specs.Atoms.{bytes_in, Walk, child, child_of, first_in, is_one_of, number_in}
+use Rattle.qt_atoms.specs.Written.{atom, IsNode}
 use Rattle.qt_tables.specs.declared.writer.Extent.{Extent}
 use Rattle.qt_tables.specs.Laws.{AreExtents}
 use Rattle.qt_tables.specs.declared.runs.Sample.{Sample}
 use Rattle.qt_tables.specs.Samples.{Tables, samples}
-use Rattle.qt_tables.specs.Tables.{table_in, timescale_in, tables_in}
+use Rattle.qt_tables.specs.Tables.{table_in, tables_in}
 use Rattle.qt_tables.specs.Writing.{table_nodes, tables_bytes, written_tables, written_samples}
 use Rattle.qt_tables.proofs.Again.{written_given}
 use Rattle.qt_tables.proofs.Assembled.{written_read}
 use Rattle.qt_movie.specs.declared.parts.Parts.{Parts}
 use Rattle.qt_movie.specs.declared.description.Description.{Description}
-use Rattle.qt_movie.specs.Movie.{is_trak, traks_of, whole_in, parts_in, VideoTrack, track_in, data_in, moov_in, taken_in, Movie, movie_in}
+use Rattle.qt_movie.specs.Movie.{is_trak, traks_of, VideoTrack, moov_in, taken_in, Movie, movie_in}
 use Rattle.qt_movie.specs.MovieBytes.{nodes_bytes, stsd_body, kind_of, duration_of, dinf_nodes, stbl_nodes, minf_nodes, mdia_nodes, trak_nodes, moov_nodes, extents_from, extents, movie_bytes}
 use Rattle.qt_movie.specs.Laws.{written_movie}
 use Rattle.qt_movie.proofs.Frames.{frames_lie}
-use Rattle.qt_movie.proofs.Stands.{Stands, StandAll, atom_here, inside, first_stands, children_met}
+use Rattle.qt_movie.proofs.Stands.{Stands, atom_here, inside, first_stands, children_met}
 use Rattle.qt_movie.proofs.Nodes.{length-stsd, length-moov, are-moov, are-trak, are-mdia, are-minf, are-dinf}
 use Rattle.qt_movie.proofs.TopLevel.{moov_node, moov_place, moov_stands, moov_found}
-use Rattle.qt_movie.proofs.WrittenFields.{description_here, is-prores, is-video, timescale-read, references-read, StsdIsRead, stsd-read, described-once}
-use Rattle.qt_movie.proofs.WrittenParts.{first_child, mvhd_node, trak_node, tkhd_node, mdia_node, mdhd_node, hdlr_node, minf_node, dinf_node, dref_node, stbl_node, stsd_node, trak_place, mdia_place, hdlr_place, minf_place, dinf_place, stbl_place, trak_stands, mdia_stands, mdhd_stands, hdlr_stands, minf_stands, dinf_stands, stbl_stands, dref_stands, whole_read, parts_read, track_read, data_read, taken_read}
+use Rattle.qt_movie.proofs.WrittenFields.{description_here, is-prores, is-video, timescale-read, references-read, stsd-read, described-once}
+use Rattle.qt_movie.proofs.WrittenParts.{first_child, trak_node, mdia_node, mdhd_node, hdlr_node, minf_node, dinf_node, dref_node, stbl_node, stsd_node, trak_place, mdia_place, hdlr_place, minf_place, dinf_place, stbl_place, trak_stands, mdia_stands, mdhd_stands, hdlr_stands, minf_stands, dinf_stands, stbl_stands, dref_stands, whole_read, parts_read, track_read, data_read, taken_read}
 
 -- ---- where the frames lie
 
@@ -53,7 +53,7 @@ are-extents-of : (sizes : List ℕ) → length sizes ≤ 1000000 → AllByRecurs
 are-extents-of sizes few h = record {
   few = omega (arith, length-extents 20 sizes);
   near = All-from_recursion (λ (e : Extent). e.at < 2 ^ 62) (extents sizes) (extents-near 20 sizes h (omega (arith, few)));
-  sized = All-from_recursion (λ (e : Extent). e.size < 2 ^ 32) (extents sizes) (extents-sized 20 sizes h)
+  sized = All-from_recursion (λ (e : Extent). e.size < 2 ^ 32) (extents sizes) (extents-sized 20 sizes h);
 }
 
 pub are-extents : (frames : List (List ℕ)) → length frames ≤ 1000000 → AllByRecursion (λ frame. length frame ≤ 4294967286) frames → AreExtents (extents (map length frames))
@@ -166,8 +166,8 @@ with-moov file at head es is are s found =
     let stsd_s = stsd-stands file stbl_at head es stbl_s in
     let described = stsd-read file (stbl_at + 8) head (omega (arith, is.columns)) (omega (arith, is.rows)) stsd_s in
     let p = parts_read file trak mdia hdlr minf stbl stsd
-      (mdia-found file trak_at head es few trak_s) (hdlr-found file mdia_at head es few mdia_s) (minf-found file mdia_at head es few mdia_s)
-      (stbl-found file minf_at head es few minf_s) (stsd-found file stbl_at head es stbl_s) in
+    (mdia-found file trak_at head es few trak_s) (hdlr-found file mdia_at head es few mdia_s) (minf-found file mdia_at head es few mdia_s)
+    (stbl-found file minf_at head es few minf_s) (stsd-found file stbl_at head es stbl_s) in
     let track = track_read file 1 trak parts d p (is-video file hdlr_at hdlr_s) described.descriptions (is-prores head) in
     let lies = data_read file minf dinf dref d (dinf-found file minf_at head es few minf_s) (dref-found file dinf_at dinf_s) (references-read file (dinf_at + 8) (dref_stands file dinf_at dinf_s)) refl in
     let taken = taken_read file moov trak t found (whole_read file moov (none-unread file at head es few s)) (traks-are file at head es few s) track lies in

@@ -1,25 +1,21 @@
 -- The atoms inside the movie atom of a written movie are found.
-use Rattle.std.proofs.Common.{◌≡◌, ℕ, ◌+◌, ◌*◌, ◌≤◌, ◌<◌, ◌^◌, Bool, true, false, List, [], ◌∷◌, ◌++◌, length, Option, None, Some, Ok, refl, sym, ap, ◌∙◌, arith, length-append}
+use Rattle.std.proofs.Common.{◌≡◌, ℕ, ◌+◌, true, false, List, [], ◌∷◌, ◌++◌, length, None, Some, Ok, refl, sym, ap, ◌∙◌, arith, length-append}
 use Rattle.std.specs.Prelude.{codes}
-use Rattle.std.specs.List.{filter}
 use Rattle.pw_outside.specs.Reading.{bind}
 use Rattle.pic_y4m.specs.declared.head.Head.{Head}
 use Rattle.qt_atoms.specs.declared.atom.Atom.{Atom}
 use Rattle.qt_atoms.specs.declared.atom.Step.TheVariants as steps
-use Rattle.qt_atoms.specs.Atoms.{Walk, walk, children, child, child_of, first_in, is_kind, is_one_of, atom_at}
-use Rattle.qt_atoms.specs.Written.{Node, atom, IsNode, placed}
+use Rattle.qt_atoms.specs.Atoms.{child, child_of, is_kind, is_one_of, atom_at}
+use Rattle.qt_atoms.specs.Written.{Node, atom, IsNode}
 use Rattle.qt_atoms.proofs.Walks.{first-hit}
 use Rattle.qt_atoms.proofs.WrittenAtoms.{atom_stands}
 use Rattle.qt_tables.specs.declared.writer.Extent.{Extent}
-use Rattle.qt_tables.specs.Tables.{table_in}
 use Rattle.qt_movie.specs.declared.parts.Parts.{Parts}
 use Rattle.qt_movie.specs.declared.description.Description.{Description}
-use Rattle.qt_movie.specs.Movie.{is_trak, traks_of, whole_in, parts_in, is_video, is_prores, descriptions_in, prores_track, VideoTrack, track_in, first_track, dref_in, references_of, data_in, moov_in, taken_in}
-use Rattle.qt_movie.specs.MovieBytes.{node, nodes_bytes, mvhd_body, tkhd_body, mdhd_body, hdlr_body, vmhd_body, dref_body, stsd_body, kind_of, duration_of, dinf_nodes, stbl_nodes, minf_nodes, mdia_nodes, trak_nodes, moov_nodes}
-use Rattle.qt_movie.proofs.Stands.{Stands, StandAll, atom_here, first_stands, others_stand, inside, children_met}
-use Rattle.qt_movie.proofs.Nodes.{length-stsd, are-moov, are-trak, are-mdia, are-minf, are-dinf}
+use Rattle.qt_movie.specs.Movie.{traks_of, whole_in, parts_in, is_video, is_prores, descriptions_in, VideoTrack, track_in, first_track, dref_in, references_of, data_in, moov_in, taken_in}
+use Rattle.qt_movie.specs.MovieBytes.{node, nodes_bytes, mvhd_body, tkhd_body, mdhd_body, hdlr_body, vmhd_body, dref_body, stsd_body, duration_of, dinf_nodes, stbl_nodes, minf_nodes, mdia_nodes, trak_nodes, moov_nodes}
+use Rattle.qt_movie.proofs.Stands.{Stands, StandAll, atom_here, first_stands, others_stand, inside}
 use Rattle.qt_movie.proofs.TopLevel.{moov_node}
-use Rattle.qt_movie.proofs.WrittenFields.{description_here, is-prores, is-video, references-read, StsdIsRead, stsd-read}
 
 -- ---- the first child
 

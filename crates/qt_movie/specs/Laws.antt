@@ -1,6 +1,6 @@
 -- Laws of movies that were written.
-use Rattle.std.specs.Prelude.{◌≡◌, ℕ, ◌≤◌, List, ◌++◌, length, map, Ok}
-use Rattle.std.specs.List.{flat_map, All}
+use Rattle.std.specs.Prelude.{◌≡◌, ℕ, ◌≤◌, List, length, map, Ok}
+use Rattle.std.specs.List.{All}
 use Rattle.pic_y4m.specs.declared.head.Head.{Head}
 use Rattle.pic_y4m.specs.HeadLine.{IsHead}
 use Rattle.qt_atoms.specs.Atoms.{bytes_in}
