@@ -5,7 +5,7 @@ use Rattle.std.specs.List.{flat_map}
 use Rattle.pic_y4m.specs.declared.head.Head.{Head}
 use Rattle.qt_atoms.specs.Atoms.{bytes_in}
 use Rattle.qt_tables.specs.declared.writer.Extent.{Extent}
-use Rattle.qt_movie.specs.MovieBytes.{ftyp_bytes, frame_head_bytes, frame_bytes, extents_from, extents, moov_bytes, movie_bytes}
+use Rattle.qt_movie.specs.MovieBytes.{ftyp_bytes, frame_bytes, extents_from, extents, moov_bytes, movie_bytes}
 
 -- the first frame behind some bytes
 frame-here : (front frame rest : List ℕ) → bytes_in (length frame) (front ++ (frame_bytes frame ++ rest)) (length front + 8) ≡ frame

@@ -1,9 +1,9 @@
 -- Reading descriptions, references and tracks one after the other, as a loop does.
-use Rattle.std.proofs.Common.{◌≡◌, ℕ, suc, ◌-◌, ◌+◌, ◌≤◌, ◌<◌, Bool, true, false, List, [], ◌∷◌, ◌++◌, Option, None, Some, Result, Ok, Err, refl, sym, ap, ◌∙◌, arith, append_assoc}
+use Rattle.std.proofs.Common.{◌≡◌, ℕ, suc, ◌-◌, ◌+◌, ◌≤◌, ◌<◌, Bool, true, false, List, [], ◌∷◌, ◌++◌, Option, None, Some, Ok, Err, refl, sym, ap, ◌∙◌, arith, append_assoc}
 use Rattle.std.specs.Prelude.{IfSome, ◌&&◌, if◌then◌else◌}
 use Rattle.std.specs.List.{All, list_all, filter}
 use Rattle.std.proofs.lemmas.List.{append-nil}
-use Rattle.pw_outside.specs.Reading.{Fault, bind, ◌>>=◌, Fails}
+use Rattle.pw_outside.specs.Reading.{bind, ◌>>=◌, Fails}
 use Rattle.pw_outside.proofs.Chains.{fails-whole}
 use Rattle.qt_atoms.specs.declared.atom.Atom.{Atom}
 use Rattle.qt_atoms.specs.declared.atom.Step.TheVariants as steps
@@ -15,7 +15,7 @@ use Rattle.qt_tables.specs.declared.fault.MovieFault.{MovieFault}
 use Rattle.qt_tables.specs.Faults.{Found, told_fault, lifted}
 use Rattle.qt_movie.specs.declared.description.Description.{Description}
 use Rattle.qt_movie.specs.declared.external.Reference.{Reference}
-use Rattle.qt_movie.specs.Movie.{description_in, described, reference_at, and_others, references, is_prores, VideoTrack, prores_track, is_trak, track_in, first_track, or_else}
+use Rattle.qt_movie.specs.Movie.{description_in, described, reference_at, references, is_prores, VideoTrack, prores_track, is_trak, track_in, first_track, or_else}
 use Rattle.qt_movie.specs.declared.parts.Parts.{Parts}
 use Rattle.qt_movie.specs.Ranges.{HasSize}
 

@@ -2,3 +2,9 @@ mod InOrder
 mod Contained
 mod Lengths
 mod Frames
+mod Stands
+mod Nodes
+mod TopLevel
+mod WrittenFields
+mod WrittenParts
+mod WrittenMovie

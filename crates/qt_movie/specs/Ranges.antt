@@ -1,7 +1,5 @@
 -- What holds of what is read whether the store tells its bytes or not.
-use Rattle.std.specs.Prelude.{◌≡◌, ℕ, ◌+◌, ◌≤◌, List, Option, Some, None, true, length}
-use Rattle.pw_outside.specs.Reading.{Told}
-use Rattle.qt_atoms.specs.declared.atom.Atom.{Atom}
+use Rattle.std.specs.Prelude.{◌≡◌, ℕ, ◌+◌, ◌≤◌, true}
 use Rattle.qt_atoms.specs.Atoms.{LiesIn}
 use Rattle.qt_movie.specs.declared.parts.Parts.{Parts}
 use Rattle.qt_movie.specs.declared.description.Description.{Description}

@@ -16,7 +16,10 @@ mod track;
 mod writer;
 
 pub use description::Description;
-pub use laws::frames_lie_at_their_places;
+pub use laws::{
+    frames_lie_at_their_places, written_frames_are_read, written_movie_is_read,
+    written_samples_are_read,
+};
 pub use parts::Parts;
 pub use qt_tables::{MovieFault, MovieKind, Sample};
 pub use reader::{MovieReader, Track};

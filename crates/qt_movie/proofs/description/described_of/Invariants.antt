@@ -1,4 +1,4 @@
-use Rattle.std.proofs.Common.{◌≡◌, ◌+◌, ◌-◌, ◌≤◌}
+use Rattle.std.proofs.Common.{◌≡◌, ◌-◌, ◌≤◌}
 use Rattle.std.specs.List.{All}
 use Rattle.pw_outside.specs.Reading.{Told}
 use Rattle.qt_movie.specs.Movie.{described}

@@ -1,4 +1,4 @@
-use Rattle.std.proofs.Common.{◌≡◌, ◌+◌, ◌-◌, ◌≤◌, ◌++◌}
+use Rattle.std.proofs.Common.{◌≡◌, ◌-◌, ◌≤◌, ◌++◌}
 use Rattle.pw_outside.specs.Reading.{Told}
 use Rattle.qt_movie.specs.Movie.{references}
 use Rattle.qt_movie.proofs.external.references_from.Given as goal
