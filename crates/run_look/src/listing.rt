@@ -75,7 +75,7 @@ fn put_all_samples<K: ByteSink>(
     let count = reader.track().samples;
     let mut next = 0;
     while next < count {
-        let end = count.min(next + LINES);
+        let end = count.min(next.saturating_add(LINES));
         lines.clear();
         put_samples(&mut lines, reader, next, end)?;
         put_lines(sink, &lines)?;
