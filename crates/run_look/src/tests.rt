@@ -84,10 +84,10 @@ fn more_lines_than_are_written_at_once(rt: HostRuntime) -> Result<(), Fail> {
         )
     );
     assert!(rt; text.ends_with(b"\nsample 599 at 5419 size 1 duration 1\n"));
-    let mut lines = 0;
+    let mut lines: u32 = 0;
     for byte in &text {
         if *byte == b'\n' {
-            lines += 1;
+            lines = lines.saturating_add(1);
         }
     }
     assert_eq!(rt; lines, 601);
@@ -125,11 +125,11 @@ fn the_first_fault_of_a_file_is_told(rt: HostRuntime) -> Result<(), Fail> {
 #[test]
 fn each_fault_of_a_port_is_told(rt: HostRuntime) -> Result<(), Fail> {
     let file = movie_of(&rt, 1, 178)?;
-    let mut read_faults = 0;
+    let mut read_faults: u32 = 0;
     for call in 0..200 {
         let (end, text) = listed(&rt, &file, 4096, &[call], &[])?;
         if end == LookEnd::ReadFault {
-            read_faults += 1;
+            read_faults = read_faults.saturating_add(1);
             assert_eq!(rt; text.len(), 0, "call {call}");
         } else {
             assert_eq!(rt; end, LookEnd::Done, "call {call}");
