@@ -1,5 +1,5 @@
 -- Lines of samples one behind the other.
-use Rattle.std.proofs.Common.{◌≡◌, ℕ, zero, suc, ◌+◌, ◌-◌, ◌<◌, ◌≤◌, List, [], ◌∷◌, ◌++◌, Option, Some, None, Result, Ok, Err, OnErr, arith, refl, length, take, drop, ap, sym, subst, append_assoc, append-nil, take-append-drop, ◌∙◌}
+use Rattle.std.proofs.Common.{◌≡◌, ℕ, suc, ◌+◌, ◌-◌, ◌<◌, ◌≤◌, List, [], ◌∷◌, ◌++◌, Some, Result, Ok, Err, OnErr, arith, length, take, drop, ap, sym, subst, append_assoc, append-nil, take-append-drop, ◌∙◌}
 use Rattle.std.specs.Prelude.{slice_get, get_or, unwrap_or}
 use Rattle.std.proofs.lemmas.Option.{slice_get_within, slice_get-get_or}
 use Rattle.std.proofs.Math.Seq.{take-suc}

@@ -1,5 +1,5 @@
 -- The text of an outcome is that of the table's best choice, or of none.
-use Rattle.std.proofs.Common.{◌≡◌, ℕ, List, Bool, true, false, Result, Ok, Err, ap, sym, subst, inl, inr}
+use Rattle.std.proofs.Common.{◌≡◌, ℕ, List, Bool, true, false, Result, Ok, ap, sym, subst, inl, inr}
 use Rattle.std.specs.Bool.{OnTrue}
 use Rattle.pw_outside.specs.Reading.{Fault}
 use Rattle.pw_outside.specs.Writing.{SinkState, Puts, PutsFront}
@@ -7,7 +7,6 @@ use Rattle.rate_table.specs.declared.fault.ProofKind.{ProofKind}
 use Rattle.rate_table.specs.Table.{Table, HasNoFit}
 use Rattle.rate_table.specs.Records.{SaysNone}
 use Rattle.rate_layers.specs.Best.{OnFits, OnNone, TellsBest}
-use Rattle.rate_layers.specs.declared.fault.BestFault.{BestFault}
 use Rattle.rate_layers.specs.declared.outcome.Outcome.{Outcome}
 use Rattle.rate_layers.specs.declared.outcome.Outcome.TheVariants as outcomes
 use Rattle.workshop.specs.Plan.{fits_text, none_text, outcome_text, IsPlanText, PrintsPlan, PrintsPart}

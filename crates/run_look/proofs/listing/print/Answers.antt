@@ -1,4 +1,4 @@
-use Rattle.std.proofs.Common.{rules, ◌∙◌}
+use Rattle.std.proofs.Common.{◌∙◌}
 use Rattle.std.proofs.KnownBytes.{Appends-kept}
 use Rattle.pw_outside.proofs.Puts.{puts_front}
 use Rattle.run_look.proofs.listing.print.Goals as goal

@@ -1,4 +1,4 @@
-use Rattle.std.proofs.Common.{rules, ◌≡◌, ◌+◌, ◌-◌, ◌<◌, ◌≤◌, length, take, drop, arith, subst, ap, ◌∙◌}
+use Rattle.std.proofs.Common.{rules, ◌≡◌, ◌-◌, ◌<◌, ◌≤◌, length, take, drop, arith, subst}
 use Rattle.pw_outside.specs.Writing.{sink_state, Puts, PutsFront}
 use Rattle.qt_tables.specs.Samples.{samples, chunks, durations}
 use Rattle.run_look.specs.Listing.{sample_lines}

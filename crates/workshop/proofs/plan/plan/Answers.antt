@@ -1,6 +1,5 @@
 use Rattle.std.proofs.Common.{rules, ◌≡◌, Ok}
 use Rattle.pw_outside.specs.Reading.{bytes_of}
-use Rattle.pw_outside.specs.Writing.{sink_state}
 use Rattle.rate_table.specs.Reading.{tabled}
 use Rattle.workshop.specs.Status.{is_done, is_write_fault}
 use Rattle.workshop.specs.Plan.{outcome_text}
