@@ -18,33 +18,36 @@ use rate_build::{build_table, coefficients_of};
 use rate_table::FrameTable;
 use std::alloc::Global;
 use std::io;
-use std::process::Abort;
 
 /// The value of a hexadecimal digit in lower case.
-fn digit_of(rt: &impl Abort, byte: u8) -> u8
-    ensures { result < 16 }
+fn digit_of(byte: u8) -> Option<u8>
+    ensures { IfSome result (λ n. n < 16) }
 {
     match byte {
-        b'0'..=b'9' => byte - b'0',
-        b'a'..=b'f' => byte - b'a' + 10,
-        _ => rt.abort(),
+        b'0'..=b'9' => Some(byte - b'0'),
+        b'a'..=b'f' => Some(byte - b'a' + 10),
+        _ => None,
     }
 }
 
 /// The bytes that hexadecimal digits stand for.
-fn bytes_of(rt: &impl Abort, alloc: Global, digits: &[u8]) -> Vec<u8> {
+fn bytes_of(alloc: Global, digits: &[u8]) -> Option<Vec<u8>> {
     let mut bytes = Vec::new(alloc);
     for pair in digits.chunks_exact(2) {
-        let byte = digit_of(rt, pair[0]) * 16 + digit_of(rt, pair[1]);
-        bytes.push(byte).expect(rt, "memory");
+        let byte = digit_of(pair[0])? * 16 + digit_of(pair[1])?;
+        bytes.push(byte).ok()?;
     }
-    bytes
+    Some(bytes)
 }
 
 /// A number of a line.
-fn number(rt: &impl Abort, word: &str) -> u16 {
-    let value = read_decimal(word.as_bytes()).expect(rt, "a number");
-    u16::try_from(value).expect(rt, "a small number")
+fn number(word: &str) -> Option<u16> {
+    let value = read_decimal(word.as_bytes()).ok()?;
+    u16::try_from(value).ok()
+}
+
+fn small(word: &str) -> Option<u8> {
+    u8::try_from(number(word)?).ok()
 }
 
 fn limit(depth: Depth) -> u16
@@ -58,108 +61,122 @@ fn limit(depth: Depth) -> u16
 }
 
 /// A plane of samples of two bytes each, the low byte first.
-fn plane(rt: &impl Abort, alloc: Global, bytes: &[u8], size: (u16, u16), depth: Depth) -> Plane
-    ensures { HasDepth result depth }
+fn plane(alloc: Global, bytes: &[u8], size: (u16, u16), depth: Depth) -> Option<Plane>
+    ensures { IfSome result (λ p. HasDepth p depth) }
 {
     let (width, height) = (u32::from(size.0), u32::from(size.1));
-    assert!(rt; 1 <= width && width <= 64 && 1 <= height && height <= 64);
+    if width == 0 || 64 < width || height == 0 || 64 < height {
+        return None;
+    }
     let limit = limit(depth);
     let mut samples = Vec::new(alloc);
     for i in 0..bytes.len() / 2 {
         let sample = u16::from(bytes[2 * i]) + 256 * u16::from(bytes[2 * i + 1]);
-        assert!(rt; sample < limit);
-        samples.push(sample).expect(rt, "memory");
+        if sample >= limit {
+            return None;
+        }
+        samples.push(sample).ok()?;
     }
-    assert!(rt; samples.len() == (height * width) as usize);
-    Plane::from_samples(width, height, samples)
+    if samples.len() == (height * width) as usize {
+        Some(Plane::from_samples(width, height, samples))
+    } else {
+        None
+    }
 }
 
 /// A picture of so many columns and rows, plane behind plane.
-fn picture(rt: &impl Abort, alloc: Global, bytes: &[u8], size: (u16, u16), depth: Depth) -> Picture
-    ensures depth { (result.depth ≡ depth) × HasDepth result.y depth × HasDepth result.cb depth × HasDepth result.cr depth }
-    ensures form { (result.chroma ≡ C422) × (result.alpha ≡ None) }
+fn picture(alloc: Global, bytes: &[u8], size: (u16, u16), depth: Depth) -> Option<Picture>
+    ensures depth { IfSome result (λ p. (p.depth ≡ depth) × HasDepth p.y depth × HasDepth p.cb depth × HasDepth p.cr depth) }
+    ensures form { IfSome result (λ p. (p.chroma ≡ C422) × (p.alpha ≡ None)) }
 {
     let (width, height) = size;
-    assert!(rt; width <= 64 && height <= 64);
+    if 64 < width || 64 < height {
+        return None;
+    }
     let narrow = width.div_ceil(2);
     let luma = 2 * usize::from(width * height);
     let chroma = 2 * usize::from(narrow * height);
-    let y = bytes.get(..luma).unwrap_or(&[]);
-    let cb = bytes.get(luma..luma + chroma).unwrap_or(&[]);
-    let cr = bytes.get(luma + chroma..).unwrap_or(&[]);
-    Picture {
-        y: plane(rt, alloc, y, (width, height), depth),
-        cb: plane(rt, alloc, cb, (narrow, height), depth),
-        cr: plane(rt, alloc, cr, (narrow, height), depth),
+    let y = plane(alloc, bytes.get(..luma)?, (width, height), depth)?;
+    let cb = plane(
+        alloc,
+        bytes.get(luma..luma + chroma)?,
+        (narrow, height),
+        depth,
+    )?;
+    let cr = plane(alloc, bytes.get(luma + chroma..)?, (narrow, height), depth)?;
+    Some(Picture {
+        y,
+        cb,
+        cr,
         alpha: None,
         chroma: Chroma::C422,
         depth,
-    }
+    })
 }
 
 /// The table of a picture.
 fn table_of(
-    rt: &impl Abort,
     alloc: Global,
     picture: &Picture,
     size: (u16, u16),
     form: (u8, Matrix),
     range: (u8, u8),
-) -> FrameTable
+) -> Option<FrameTable>
     requires form { (picture.now.chroma ≡ C422) × (picture.now.alpha ≡ None) }
     requires depth { HasDepth picture.now.y picture.now.depth × HasDepth picture.now.cb picture.now.depth × HasDepth picture.now.cr picture.now.depth }
 {
     let (width, height) = size;
     let (log2, matrix) = form;
     let (lo, hi) = range;
-    assert!(rt; log2 <= 3 && 1 <= lo && lo <= hi && hi <= 224);
-    assert!(rt; picture.has_size(u32::from(width), u32::from(height)));
+    if 3 < log2 || lo == 0 || hi < lo || 224 < hi {
+        return None;
+    }
+    if !picture.has_size(u32::from(width), u32::from(height)) {
+        return None;
+    }
     let Ok(layout) = Layout::new(width, height, log2, Interlace::Progressive, Chroma::C422) else {
-        rt.abort()
+        return None;
     };
-    let coefficients = coefficients_of(alloc, picture, &layout, AlphaKind::Absent).expect(
-        rt, "memory",
-    );
+    let Ok(coefficients) = coefficients_of(alloc, picture, &layout, AlphaKind::Absent) else {
+        return None;
+    };
     named_weights_are_in_range();
     let weights = Weights::named(matrix);
-    build_table(alloc, &coefficients, &weights, lo, hi, 1000).expect(rt, "memory")
+    build_table(alloc, &coefficients, &weights, lo, hi, 1000).ok()
 }
 
-fn depth_of(rt: &impl Abort, word: &str) -> Depth {
+fn depth_of(word: &str) -> Option<Depth> {
     match word {
-        "8" => Depth::D8,
-        "10" => Depth::D10,
-        "12" => Depth::D12,
-        _ => rt.abort(),
+        "8" => Some(Depth::D8),
+        "10" => Some(Depth::D10),
+        "12" => Some(Depth::D12),
+        _ => None,
     }
 }
 
-fn matrix_of(rt: &impl Abort, word: &str) -> Matrix {
+fn matrix_of(word: &str) -> Option<Matrix> {
     match word {
-        "flat" => Matrix::Flat,
-        "steep" => Matrix::Steep,
-        _ => rt.abort(),
+        "flat" => Some(Matrix::Flat),
+        "steep" => Some(Matrix::Steep),
+        _ => None,
     }
-}
-
-fn small(rt: &impl Abort, word: &str) -> u8 {
-    u8::try_from(number(rt, word)).expect(rt, "a number below 256")
 }
 
 /// The table that a line asks for.
-fn asked(rt: &impl Abort, alloc: Global, words: &[&str]) -> FrameTable {
-    assert!(rt; words.len() == 8);
-    let size = (number(rt, words[0]), number(rt, words[1]));
-    let bytes = bytes_of(rt, alloc, words[7].as_bytes());
-    let picture = picture(rt, alloc, &bytes, size, depth_of(rt, words[2]));
-    let form = (small(rt, words[5]), matrix_of(rt, words[6]));
+fn asked(alloc: Global, words: &[&str]) -> Option<FrameTable> {
+    if words.len() != 8 {
+        return None;
+    }
+    let size = (number(words[0])?, number(words[1])?);
+    let bytes = bytes_of(alloc, words[7].as_bytes())?;
+    let picture = picture(alloc, &bytes, size, depth_of(words[2])?)?;
+    let form = (small(words[5])?, matrix_of(words[6])?);
     table_of(
-        rt,
         alloc,
         &picture,
         size,
         form,
-        (small(rt, words[3]), small(rt, words[4])),
+        (small(words[3])?, small(words[4])?),
     )
 }
 
@@ -184,7 +201,10 @@ fn main(rt: HostRuntime) -> io::Result<()> {
         for word in line.as_str().split(' ') {
             words.push(word)?;
         }
-        print(&rt, &asked(&rt, rt.alloc(), &words))?;
+        match asked(rt.alloc(), &words) {
+            Some(table) => print(&rt, &table)?,
+            None => println!(&rt; "no table")?,
+        }
     }
     Ok(())
 }
