@@ -10,3 +10,5 @@ pub mod Numbered
 pub mod Behind
 pub mod ReadAgain
 pub mod Parts
+pub mod Taken
+pub mod Spelled

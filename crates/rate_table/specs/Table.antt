@@ -1,6 +1,6 @@
 -- Tables of entries, choices of one entry a slice, and the best choice. Our own definitions.
 use Rattle.std.specs.Prelude.{◌≡◌, ℕ, ◌+◌, ◌<◌, ◌≤◌, ◌^◌, ◌⊎◌, min, List, [], ◌∷◌, length, map}
-use Rattle.std.specs.List.{sum_by, All, AllZip, Contains}
+use Rattle.std.specs.List.{sum_by, flat_map, All, AllZip, Contains}
 use Rattle.rate_table.specs.declared.entry.Entry.{Entry}
 use Rattle.rate_table.specs.declared.entry.Pair.{Pair}
 
@@ -39,6 +39,10 @@ pub record IsTable (t : Table) : Type 0 where
   pub some : 1 ≤ length t.slices
   pub few : length t.slices ≤ 131070
   pub each : All IsSlice t.slices
+
+-- the table of several frames together: budgets and fixed bytes add up, and slices follow each other
+abbrev pub group_table : List Table → Table
+group_table tables = record { budget = sum_by (λ t. t.budget) tables; fixed = sum_by (λ t. t.fixed) tables; slices = flat_map (λ t. t.slices) tables }
 
 -- ---- choices
 

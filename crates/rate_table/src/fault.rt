@@ -46,7 +46,8 @@ pub enum TableFault {
     NoMemory,
 }
 
-pub(crate) fn bad(kind: ProofKind, place: u64) -> TableFault
+/// The fault of this kind at this place.
+pub fn bad(kind: ProofKind, place: u64) -> TableFault
     ensures { result ≡ faults.Bad kind place }
 {
     TableFault::Bad { kind, place }

@@ -1,22 +1,25 @@
-//! One field of a table: a number of one, two, four or eight bytes, the most significant byte first.
+//! One field of a file: a number of one, two, four or eight bytes, the most significant byte first.
+//!
+//! Each call reads the number that begins at `place` of its file, and moves `place` behind it. The error is `Bad` with
+//! the kind `short` at the number's place where bytes of it are wanting, or `Failed` where a call of the source failed.
 
 ghost use Rattle.std.specs.Prelude.{◌+◌, ◌<◌, ◌≤◌, ◌^◌};
 ghost use Rattle.std.specs.Int.{w8, w16, w32, w64};
 ghost use Rattle.pw_outside.specs.Ports.{CountsFault, GoesOn};
 ghost use Rattle.pw_outside.specs.Reading.{Gives, bytes_at, number_at};
-ghost use Rattle.rate_table.specs.declared.fault.ProofKind.TheVariants.{TableShort};
 ghost use Rattle.rate_table.specs.Reading.{told_fault, is_failed};
 
 use crate::fault::{ProofKind, TableFault, bad};
 use pw_outside::{ByteSource, fill};
 
-/// The next `N` bytes, which begin at this place of the file.
+/// The next `N` bytes.
 fn field<S: ByteSource, const N: usize>(
     source: &mut S,
     place: &mut u64,
+    short: ProofKind,
 ) -> Result<[u8; N], TableFault>
     requires { place.old + N < 2 ^ 64 }
-    ensures bytes { Gives told_fault (λ x. x) (S.left source.old) (S.left source.new) place.old place.new result (bytes_at TableShort N) }
+    ensures bytes { Gives told_fault (λ x. x) (S.left source.old) (S.left source.new) place.old place.new result (bytes_at short N) }
     ensures place { place.new ≤ place.old + N }
     ensures becomes { GoesOn S.becomes source.old source.new }
     ensures cause { CountsFault (S.faults source.old) (S.faults source.new) (is_failed result) }
@@ -24,52 +27,72 @@ fn field<S: ByteSource, const N: usize>(
     let mut piece = [0u8; N];
     let count = fill(source, &mut piece)?;
     if count < N {
-        return Err(bad(ProofKind::TableShort, *place));
+        return Err(bad(short, *place));
     }
     *place += N as u64;
     Ok(piece)
 }
 
-pub(crate) fn u8_of<S: ByteSource>(source: &mut S, place: &mut u64) -> Result<u8, TableFault>
+/// A number of one byte.
+pub fn read_u8<S: ByteSource>(
+    source: &mut S,
+    place: &mut u64,
+    short: ProofKind,
+) -> Result<u8, TableFault>
     requires { place.old + 1 < 2 ^ 64 }
-    ensures bytes { Gives told_fault (λ x. x) (S.left source.old) (S.left source.new) place.old place.new result (number_at TableShort w8) }
+    ensures bytes { Gives told_fault (λ x. x) (S.left source.old) (S.left source.new) place.old place.new result (number_at short w8) }
     ensures place { place.new ≤ place.old + 1 }
     ensures becomes { GoesOn S.becomes source.old source.new }
     ensures cause { CountsFault (S.faults source.old) (S.faults source.new) (is_failed result) }
 {
-    let piece = field::<S, 1>(source, place)?;
+    let piece = field::<S, 1>(source, place, short)?;
     Ok(u8::from_be_bytes(piece))
 }
 
-pub(crate) fn u16_of<S: ByteSource>(source: &mut S, place: &mut u64) -> Result<u16, TableFault>
+/// A number of two bytes.
+pub fn read_u16<S: ByteSource>(
+    source: &mut S,
+    place: &mut u64,
+    short: ProofKind,
+) -> Result<u16, TableFault>
     requires { place.old + 2 < 2 ^ 64 }
-    ensures bytes { Gives told_fault (λ x. x) (S.left source.old) (S.left source.new) place.old place.new result (number_at TableShort w16) }
+    ensures bytes { Gives told_fault (λ x. x) (S.left source.old) (S.left source.new) place.old place.new result (number_at short w16) }
     ensures place { place.new ≤ place.old + 2 }
     ensures becomes { GoesOn S.becomes source.old source.new }
     ensures cause { CountsFault (S.faults source.old) (S.faults source.new) (is_failed result) }
 {
-    let piece = field::<S, 2>(source, place)?;
+    let piece = field::<S, 2>(source, place, short)?;
     Ok(u16::from_be_bytes(piece))
 }
 
-pub(crate) fn u32_of<S: ByteSource>(source: &mut S, place: &mut u64) -> Result<u32, TableFault>
+/// A number of four bytes.
+pub fn read_u32<S: ByteSource>(
+    source: &mut S,
+    place: &mut u64,
+    short: ProofKind,
+) -> Result<u32, TableFault>
     requires { place.old + 4 < 2 ^ 64 }
-    ensures bytes { Gives told_fault (λ x. x) (S.left source.old) (S.left source.new) place.old place.new result (number_at TableShort w32) }
+    ensures bytes { Gives told_fault (λ x. x) (S.left source.old) (S.left source.new) place.old place.new result (number_at short w32) }
     ensures place { place.new ≤ place.old + 4 }
     ensures becomes { GoesOn S.becomes source.old source.new }
     ensures cause { CountsFault (S.faults source.old) (S.faults source.new) (is_failed result) }
 {
-    let piece = field::<S, 4>(source, place)?;
+    let piece = field::<S, 4>(source, place, short)?;
     Ok(u32::from_be_bytes(piece))
 }
 
-pub(crate) fn u64_of<S: ByteSource>(source: &mut S, place: &mut u64) -> Result<u64, TableFault>
+/// A number of eight bytes.
+pub fn read_u64<S: ByteSource>(
+    source: &mut S,
+    place: &mut u64,
+    short: ProofKind,
+) -> Result<u64, TableFault>
     requires { place.old + 8 < 2 ^ 64 }
-    ensures bytes { Gives told_fault (λ x. x) (S.left source.old) (S.left source.new) place.old place.new result (number_at TableShort w64) }
+    ensures bytes { Gives told_fault (λ x. x) (S.left source.old) (S.left source.new) place.old place.new result (number_at short w64) }
     ensures place { place.new ≤ place.old + 8 }
     ensures becomes { GoesOn S.becomes source.old source.new }
     ensures cause { CountsFault (S.faults source.old) (S.faults source.new) (is_failed result) }
 {
-    let piece = field::<S, 8>(source, place)?;
+    let piece = field::<S, 8>(source, place, short)?;
     Ok(u64::from_be_bytes(piece))
 }

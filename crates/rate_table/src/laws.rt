@@ -2,6 +2,7 @@
 
 ghost use Rattle.rate_table.specs.Laws.{BestExists, BestIsOne, NoneFitsBelowLeast, AllChoicesAreChoices, AllChoicesCount, IndicesTellChoice, GoodIsLeast, GoodNoneFits};
 ghost use Rattle.rate_table.specs.Body.{BodyIsReadAgain};
+ghost use Rattle.rate_table.specs.Spelled.{BodyIsSpelled};
 
 /// Where a choice fits there is a best one.
 pub fn best_exists()
@@ -46,4 +47,10 @@ pub fn good_none_fits()
 /// The body of a table that was written is read again, whatever stands behind it.
 pub fn body_is_read_again()
     ensures { BodyIsReadAgain }
+{}
+
+/// Where bytes stand for a table, it is within the limits, they are the body that is written of it, and the rest begins
+/// behind that.
+pub fn body_is_spelled()
+    ensures { BodyIsSpelled }
 {}

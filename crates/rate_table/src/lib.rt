@@ -4,7 +4,9 @@
 mod entry;
 mod fault;
 mod field;
+mod joining;
 mod laws;
+mod priced;
 mod reading;
 mod small;
 mod sums;
@@ -16,13 +18,16 @@ mod writing;
 mod writing_tests;
 
 pub use entry::{Entry, Pair};
-pub use fault::{ProofKind, TableFault};
+pub use fault::{ProofKind, TableFault, bad};
+pub use field::{read_u8, read_u16, read_u32, read_u64};
+pub use joining::join;
 pub use laws::{
     all_choices_are_choices, all_choices_count, best_exists, best_is_one, body_is_read_again,
-    good_is_least, good_none_fits, indices_tell_choice, none_fits_below_least,
+    body_is_spelled, good_is_least, good_none_fits, indices_tell_choice, none_fits_below_least,
 };
-pub use reading::{read_body, read_file, read_table};
+pub use priced::{cost_of, least_cost, least_costs, least_size};
+pub use reading::{read_body, read_body_on, read_file, read_table};
 pub use small::{SmallFault, SmallOutcome, best_small};
-pub use sums::{least, total};
+pub use sums::{least, part_total, total};
 pub use table::{FrameTable, SliceTable, Slices};
 pub use writing::write_body;

@@ -10,7 +10,7 @@ ghost use Rattle.rate_table.specs.Table.{IsEntry, IndicesRise, IsSlice, IsTable}
 
 use crate::entry::Entry;
 use crate::fault::{ProofKind, TableFault, bad};
-use crate::field::{u8_of, u16_of, u32_of, u64_of};
+use crate::field::{read_u8, read_u16, read_u32, read_u64};
 use crate::table::{FrameTable, SliceTable, Slices};
 use arrayvec::ArrayVec;
 use pw_outside::{ByteSource, fill};
@@ -18,6 +18,9 @@ use std::alloc::Global;
 
 // `PWTB`
 const MAGIC: u32 = 0x5057_5442;
+
+// the fault of a field of a table whose bytes are wanting
+const SHORT: ProofKind = ProofKind::TableShort;
 
 /// The next entry, whose index is above `low`.
 #[tactic(auto, unfolding(crate::specs::Reading::entry_at, pw_outside::specs::Reading::bind))]
@@ -31,16 +34,16 @@ fn entry_of<S: ByteSource>(source: &mut S, place: &mut u64, low: u8) -> Result<E
     ensures cause { CountsFault (S.faults source.old) (S.faults source.new) (is_failed result) }
 {
     let at = *place;
-    let index = u8_of(source, place)?;
+    let index = read_u8(source, place, SHORT)?;
     if index == 0 || 224 < index {
         return Err(bad(ProofKind::TableLimit, at));
     }
     if index <= low {
         return Err(bad(ProofKind::TableOrder, at));
     }
-    let size = u16_of(source, place)?;
+    let size = read_u16(source, place, SHORT)?;
     let at = *place;
-    let error = u64_of(source, place)?;
+    let error = read_u64(source, place, SHORT)?;
     if error >= 1 << 43 {
         return Err(bad(ProofKind::TableLimit, at));
     }
@@ -83,7 +86,7 @@ fn slice_of<S: ByteSource>(source: &mut S, place: &mut u64) -> Result<SliceTable
     ensures cause { CountsFault (S.faults source.old) (S.faults source.new) (is_failed result) }
 {
     let at = *place;
-    let count = u8_of(source, place)?;
+    let count = read_u8(source, place, SHORT)?;
     if count == 0 {
         return Err(bad(ProofKind::TableEmpty, at));
     }
@@ -106,6 +109,7 @@ fn slices_of<S: ByteSource>(
     ensures bytes { Gives told_fault (λ v. v.items) (S.left source.old) (S.left source.new) place.old place.new result (slices_at count) }
     ensures count { IfOk result (λ v. length v.items ≡ count) }
     ensures each { IfOk result (λ v. All IsSlice v.items) }
+    ensures place { place.new ≤ place.old + 323087550 }
     ensures becomes { GoesOn S.becomes source.old source.new }
     ensures cause { CountsFault (S.faults source.old) (S.faults source.new) (is_failed result) }
 {
@@ -117,30 +121,36 @@ fn slices_of<S: ByteSource>(
     Ok(slices)
 }
 
+/// Reads the body of a table, which begins at `place` of its file, and moves `place` behind it.
+///
+/// The errors are those of [`read_body`]. A body has at most 323,087,562 bytes.
 #[tactic(auto, unfolding(crate::specs::Reading::body_at, pw_outside::specs::Reading::bind))]
-fn body_of<S: ByteSource>(
+pub fn read_body_on<S: ByteSource>(
     alloc: Global,
     source: &mut S,
     place: &mut u64,
 ) -> Result<FrameTable, TableFault>
     requires { place.old < 2 ^ 63 + 50 }
+    // Where the source tells its bytes, the answer is the body that stands there, or its first fault.
     ensures bytes { Gives told_fault (λ t. t) (S.left source.old) (S.left source.new) place.old place.new result body_at }
     ensures table { IfOk result IsTable }
+    ensures place { place.new ≤ place.old + 323087562 }
     ensures becomes { GoesOn S.becomes source.old source.new }
+    // The error is `Failed` only where a call of the source failed, and each such call is answered by it.
     ensures cause { CountsFault (S.faults source.old) (S.faults source.new) (is_failed result) }
 {
     let at = *place;
-    let budget = u32_of(source, place)?;
+    let budget = read_u32(source, place, SHORT)?;
     if budget == 0 || budget >= 1 << 31 {
         return Err(bad(ProofKind::TableLimit, at));
     }
     let at = *place;
-    let fixed = u32_of(source, place)?;
+    let fixed = read_u32(source, place, SHORT)?;
     if fixed >= 1 << 31 {
         return Err(bad(ProofKind::TableLimit, at));
     }
     let at = *place;
-    let count = u32_of(source, place)?;
+    let count = read_u32(source, place, SHORT)?;
     if count == 0 {
         return Err(bad(ProofKind::TableEmpty, at));
     }
@@ -167,16 +177,16 @@ fn table_of<S: ByteSource>(
     ensures becomes { GoesOn S.becomes source.old source.new }
     ensures cause { CountsFault (S.faults source.old) (S.faults source.new) (is_failed result) }
 {
-    let magic = u32_of(source, place)?;
+    let magic = read_u32(source, place, SHORT)?;
     if magic != MAGIC {
         return Err(bad(ProofKind::TableMagic, 0));
     }
     let at = *place;
-    let version = u8_of(source, place)?;
+    let version = read_u8(source, place, SHORT)?;
     if version != 1 {
         return Err(bad(ProofKind::TableMagic, at));
     }
-    body_of(alloc, source, place)
+    read_body_on(alloc, source, place)
 }
 
 /// Reads the body of a table, which begins at `place` of its file.
@@ -197,7 +207,7 @@ pub fn read_body<S: ByteSource>(
     ensures cause { CountsFault (S.faults source.old) (S.faults source.new) (is_failed result) }
 {
     let mut place = place;
-    body_of(alloc, source, &mut place)
+    read_body_on(alloc, source, &mut place)
 }
 
 /// Reads a table file up to the end of its body.

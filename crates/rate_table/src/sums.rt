@@ -1,11 +1,12 @@
 //! Size and error of a choice, and the least bytes of a table.
 
-ghost use Rattle.std.specs.Prelude.{◌≡◌, ◌≤◌, ◌*◌, length, sum_by, IfSome, IfNone};
+ghost use Rattle.std.specs.Prelude.{◌≡◌, ◌<◌, ◌≤◌, ◌*◌, ◌^◌, length, sum_by, IfSome, IfNone};
 ghost use Rattle.std.specs.List.{All, Contains};
 ghost use Rattle.rate_table.specs.declared.entry.Entry.{Entry};
 ghost use Rattle.rate_table.specs.Table.{IsSlice, HasSums, HasNoChoice, least, least_bytes};
 
 use crate::entry::Entry;
+use crate::priced::least_size;
 use crate::table::{FrameTable, SliceTable};
 
 /// The entry with this index.
@@ -22,19 +23,25 @@ fn entry_at(entries: &[Entry], index: u8) -> Option<Entry>
 }
 
 /// The size in bytes, without the fixed bytes, and the error of the choice with these indices, one for each
-/// slice; `None` where no choice has them. The size is below 2^33 and the error below 2^61. No memory is taken.
+/// slice; `None` where no choice has them. The size is below 2^33 and the error below 2^60. No memory is taken.
 pub fn total(table: &FrameTable, choice: &[u8]) -> Option<(u64, u64)>
     ensures some { IfSome result (λ sums. HasSums table.now.slices choice.now sums.0 sums.1) }
     ensures none { IfNone result (HasNoChoice table.now.slices choice.now) }
+    ensures size { IfSome result (λ sums. sums.0 < 2 ^ 33) }
+    ensures error { IfSome result (λ sums. sums.1 < 2 ^ 60) }
 {
-    total_of(table.slices.as_slice(), choice)
+    part_total(table.slices.as_slice(), choice)
 }
 
-fn total_of(slices: &[SliceTable], choice: &[u8]) -> Option<(u64, u64)>
+/// The size in bytes and the error of a part of a choice: these slices, at most 131,070 of them, with these indices.
+/// `None` where no choice of these slices has them. The size is below 2^33 and the error below 2^60. No memory is taken.
+pub fn part_total(slices: &[SliceTable], choice: &[u8]) -> Option<(u64, u64)>
     requires few { length slices.now ≤ 131070 }
     requires each { All IsSlice slices.now }
     ensures some { IfSome result (λ sums. HasSums slices.now choice.now sums.0 sums.1) }
     ensures none { IfNone result (HasNoChoice slices.now choice.now) }
+    ensures size { IfSome result (λ sums. sums.0 < 2 ^ 33) }
+    ensures error { IfSome result (λ sums. sums.1 < 2 ^ 60) }
 {
     if slices.len() != choice.len() {
         return None;
@@ -49,17 +56,6 @@ fn total_of(slices: &[SliceTable], choice: &[u8]) -> Option<(u64, u64)>
     Some((size, error))
 }
 
-fn least_of(entries: &[Entry]) -> u16
-    requires { 1 ≤ length entries.now }
-    ensures { result ≡ least (λ x. x.size) entries.now }
-{
-    let mut least = entries[0].size;
-    for entry in entries {
-        least = least.min(entry.size);
-    }
-    least
-}
-
 fn least_sum(slices: &[SliceTable]) -> u64
     requires { length slices.now ≤ 131070 }
     ensures value { result ≡ sum_by (least (λ x. x.size)) slices.now }
@@ -67,7 +63,7 @@ fn least_sum(slices: &[SliceTable]) -> u64
 {
     let mut bytes = 0;
     for slice in slices {
-        bytes += u64::from(least_of(slice.entries()));
+        bytes += u64::from(least_size(slice.entries()));
     }
     bytes
 }

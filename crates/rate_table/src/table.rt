@@ -98,6 +98,14 @@ impl Slices {
         Slices { slices }
     }
 
+    /// Gives the slices back.
+    pub fn into_vec(self) -> Vec<SliceTable>
+        ensures slices { result.items ≡ self }
+        ensures each { All IsSlice self }
+    {
+        self.slices
+    }
+
     /// The slices, in order.
     pub fn as_slice(&self) -> &[SliceTable]
         ensures slices { result.now ≡ self.now }

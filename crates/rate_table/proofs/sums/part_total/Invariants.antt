@@ -1,6 +1,6 @@
 use Rattle.std.proofs.Common.{◌≤◌, ◌*◌, take}
 use Rattle.rate_table.specs.Table.{HasSums}
-use Rattle.rate_table.proofs.sums.total_of.Given as goal
+use Rattle.rate_table.proofs.sums.part_total.Given as goal
 
 abbrev pub invariant-loop-i : goal.invariant-loop-i
 invariant-loop-i l = record {

@@ -6,7 +6,7 @@ use Rattle.std.proofs.lemmas.List.Elements.{All-contains}
 use Rattle.rate_table.specs.declared.entry.Entry.{Entry}
 use Rattle.rate_table.specs.Table.{IsEntry}
 use Rattle.rate_table.proofs.Chosen.{no_choice-length, no_choice-entry, sums-more}
-use Rattle.rate_table.proofs.sums.total_of.Goals as goal
+use Rattle.rate_table.proofs.sums.part_total.Goals as goal
 
 if_none : {T : Type 0} (o : Option T) (P : Type 0) → P → IfNone o P
 if_none None P p = p
