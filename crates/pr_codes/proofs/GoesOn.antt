@@ -1,9 +1,9 @@
 -- The word that goes on behind zeros and a 1.
-use Rattle.std.proofs.Common.{◌≡◌, ℕ, ◌+◌, ◌^◌, ◌<◌, ◌≤◌, inl, inr, Bool, true, List, ◌∷◌, ◌++◌, Ok, Err, sym, ap, ◌∙◌, arith, append_assoc}
+use Rattle.std.proofs.Common.{◌≡◌, ℕ, ◌^◌, ◌<◌, ◌≤◌, inl, inr, Bool, true, List, ◌∷◌, ◌++◌, Ok, Err, sym, ap, ◌∙◌, arith, append_assoc}
 use Rattle.std.proofs.lemmas.Bool.{cases_lt}
 use Rattle.pw_bits.specs.Bits.{bits_of, zeros}
 use Rattle.pr_codes.specs.declared.book.Codebook.{Codebook}
-use Rattle.pr_codes.specs.Words.{word, tail, first, after, at_end, too_large}
+use Rattle.pr_codes.specs.Words.{word, tail, after, at_end, too_large}
 use Rattle.pr_codes.proofs.WordsLemmas.{parts, spelled, same_zeros, after_again, after_large}
 
 module _ (book : Codebook) (z : ℕ) (l : List Bool) (n : ℕ) (rest : List Bool) (stands : zeros z ++ true ∷ l ≡ word book n ++ rest) where
