@@ -67,6 +67,17 @@ fn word_parts(book: Codebook, value: u32) -> WordParts
     }
 }
 
+/// A word as one number of so many bits, whose highest are the word's zeros.
+pub fn word_bits(book: Codebook, value: u32) -> (u64, u32)
+    requires { IsTrue (is_book book) }
+    ensures word { word book value ≡ bits_of result.1 result.0 }
+    ensures fits { result.0 < 2 ^ result.1 }
+    ensures some { 0 < result.1 }
+{
+    let parts = word_parts(book, value);
+    (parts.number, u32::from(parts.zeros + parts.size))
+}
+
 /// The number of bits of a number's word.
 pub fn code_length(book: Codebook, value: u32) -> u32
     requires { IsTrue (is_book book) }
@@ -101,8 +112,9 @@ pub fn put_code<K: ByteSink>(
     writer.bits(sink, number, parts.size)
 }
 
-/// How many bits stand behind so many zeros and a 1, and the least number of such a word.
-fn tail_parts(book: Codebook, zeros: u32) -> (u8, u32)
+/// How many bits stand behind so many zeros and a 1, and the least number of such a word. The zeros are at most
+/// `21 − exp + last`.
+pub fn tail_parts(book: Codebook, zeros: u32) -> (u8, u32)
     requires book { IsTrue (is_book book) }
     requires few { zeros ≤ most book }
     ensures size { (result.0 ≡ tail book zeros) × (result.0 ≤ 20) }
@@ -120,7 +132,8 @@ fn tail_parts(book: Codebook, zeros: u32) -> (u8, u32)
     }
 }
 
-/// Reads the rest of a word, whose zeros, at most `21 − exp + last`, and whose 1 were taken before.
+/// Reads the rest of a word, whose zeros, at most `21 − exp + last`, and whose 1 were taken before: the one number whose
+/// word goes on there.
 pub fn get_after<S: ByteSource>(
     reader: &mut BitReader,
     source: &mut S,

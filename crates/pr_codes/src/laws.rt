@@ -1,7 +1,8 @@
 //! Laws of codewords. The functions do nothing; their contracts are the laws.
 
-ghost use Rattle.std.specs.Prelude.{◌≡◌, ◌≢◌, ℕ, ◌+◌, ◌*◌, ◌^◌, ◌<◌, ◌≤◌, Bool, List, ◌++◌, length, Ok, IsTrue};
-ghost use Rattle.pr_codes.specs.Words.{word, code_at, is_book};
+ghost use Rattle.std.specs.Prelude.{◌≡◌, ◌≢◌, ℕ, ◌+◌, ◌*◌, ◌^◌, ◌<◌, ◌≤◌, Bool, true, List, ◌∷◌, ◌++◌, length, Ok, Err, IsTrue};
+ghost use Rattle.pw_bits.specs.Bits.{zeros};
+ghost use Rattle.pr_codes.specs.Words.{word, after, code_at, is_book, at_end, too_large};
 ghost use Rattle.pr_codes.specs.declared.book.Codebook.{Codebook};
 
 /// Of two different numbers neither one's word in a book begins with the other's: the words at the
@@ -16,6 +17,15 @@ pub fn words_are_prefix_free()
 pub fn words_are_read()
     ensures found { (book : Codebook) (l : List Bool) (n : ℕ) (rest : List Bool) → code_at book l ≡ Ok (n, rest) → (n ≤ 2 ^ 20) × (l ≡ word book n ++ rest) }
     ensures again { (book : Codebook) (n : ℕ) (rest : List Bool) → IsTrue (is_book book) → n ≤ 2 ^ 20 → code_at book (word book n ++ rest) ≡ Ok (n, rest) }
+{}
+
+/// What is read behind so many zeros and a 1 is the one number, at most 2^20, whose word goes on there. Where a larger
+/// number's word goes on there, the answer is that it is too large; where the bits end, no number's word does.
+pub fn words_go_on()
+    ensures found { (book : Codebook) (z : ℕ) (l : List Bool) (n : ℕ) (rest : List Bool) → after book z l ≡ Ok (n, rest) → (n ≤ 2 ^ 20) × (zeros z ++ true ∷ l ≡ word book n ++ rest) }
+    ensures again { (book : Codebook) (z : ℕ) (l : List Bool) (n : ℕ) (rest : List Bool) → n ≤ 2 ^ 20 → zeros z ++ true ∷ l ≡ word book n ++ rest → after book z l ≡ Ok (n, rest) }
+    ensures large { (book : Codebook) (z : ℕ) (l : List Bool) (n : ℕ) (rest : List Bool) → 2 ^ 20 < n → zeros z ++ true ∷ l ≡ word book n ++ rest → after book z l ≡ Err too_large }
+    ensures wanting { (book : Codebook) (z : ℕ) (l : List Bool) (n : ℕ) (rest : List Bool) → after book z l ≡ Err at_end → zeros z ++ true ∷ l ≢ word book n ++ rest }
 {}
 
 /// How long a word of a book is at most.

@@ -8,5 +8,5 @@ mod laws;
 mod tests;
 
 pub use book::Codebook;
-pub use codes::{CodeFault, code_length, get_after, get_code, put_code};
-pub use laws::{words_are_prefix_free, words_are_read, words_are_short};
+pub use codes::{CodeFault, code_length, get_after, get_code, put_code, tail_parts, word_bits};
+pub use laws::{words_are_prefix_free, words_are_read, words_are_short, words_go_on};

@@ -24,7 +24,7 @@ use Rattle.pr_head.specs.Picture.{slices_in, picture_of, picture_fault, picture_
 use Rattle.pr_head.specs.Slice.{least_slice_header, slice_size, stated_of, with_last, slice_fault, slice_at, slice_header_bytes}
 use Rattle.pr_head.specs.Laws.{FrameHeaderIsReadAgain, PictureHeaderIsReadAgain, sizes_bytes, SliceSizesAreReadAgain, SliceHeaderIsReadAgain}
 use Rattle.pr_head.proofs.Places.{take_front, drop_front}
-use Rattle.pr_head.proofs.Chain.{bind-step, refuse-step}
+use Rattle.pw_outside.proofs.Steps.{bind-step, refuse-step}
 
 -- ---- the codes
 

@@ -16,7 +16,7 @@ use Rattle.pr_head.specs.Slice.{least_slice_header, stated_of, slice_fault, with
 use Rattle.pr_head.specs.Steps.{piece_at, matrix_in, start_in, matrices_in, header_in, picture_in, size_in, sizes_in, table_in, stated_in, cr_in, slice_in}
 use Rattle.pr_head.proofs.Places.{front_piece, number16-front, number32-front, number16-drop}
 use Rattle.pr_head.proofs.Passing.{ahead, same_rest, ahead-ahead, ahead-none, passed-whole}
-use Rattle.pr_head.proofs.Chain.{bind-step, bind-first, bind-same, bind-ok, bind-bind, refuse-ok}
+use Rattle.pw_outside.proofs.Steps.{bind-step, bind-first, bind-same, bind-ok, bind-bind, refuse-ok}
 
 piece-whole : (kind : FrameKind) (at n : ℕ) (s : Rest) → n ≤ length s.bytes → piece_at kind at n s ≡ Ok (take n s.bytes, ahead n s)
 piece-whole kind at n s h = rw (le-ltb (length s.bytes) n h) refl

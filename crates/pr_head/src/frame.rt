@@ -1,9 +1,9 @@
 //! The header of a frame.
 
-ghost use Rattle.std.specs.Prelude.{◌≡◌, ◌+◌, ◌<◌, ◌≤◌, ◌^◌, length, IfOk, replicate};
-ghost use Rattle.pw_outside.specs.Ports.{CountsFault, GoesOn};
+ghost use Rattle.std.specs.Prelude.{◌≡◌, ◌+◌, ◌<◌, ◌≤◌, ◌^◌, length, IfOk, replicate, false};
+ghost use Rattle.pw_outside.specs.Ports.{CountsFault, Lowers, GoesOn};
 ghost use Rattle.pw_outside.specs.Reading.{Gives, GivesValue, Told};
-ghost use Rattle.pr_head.specs.Faults.{told_fault, is_failed};
+ghost use Rattle.pr_head.specs.Faults.{told_fault, is_failed, is_out_of_memory};
 ghost use Rattle.pr_head.specs.Header.{matrices_size, header_at, IsHeader, HasSizes, HasForm};
 ghost use Rattle.pr_head.specs.Steps.{matrix_in, start_in, matrices_in, header_in};
 
@@ -47,7 +47,7 @@ pub struct FrameHeader {
 }
 
 /// The next matrix where it is loaded, and the other one else.
-#[tactic(auto, unfolding(crate::specs::Steps::matrix_in))]
+#[tactic(auto, using(crate::proofs::Bounds::lowers_same), unfolding(crate::specs::Steps::matrix_in))]
 fn matrix_of<S: ByteSource>(
     source: &mut S,
     place: &mut u64,
@@ -57,8 +57,10 @@ fn matrix_of<S: ByteSource>(
     requires { place.old + 64 < 2 ^ 64 }
     ensures bytes { Gives told_fault (λ x. x) (S.left source.old) (S.left source.new) place.old place.new result (matrix_in loaded other) }
     ensures place { place.new ≤ place.old + 64 }
+    ensures most { Lowers (S.most source.old) (S.most source.new) 0 }
     ensures becomes { GoesOn S.becomes source.old source.new }
     ensures cause { CountsFault (S.faults source.old) (S.faults source.new) (is_failed result) }
+    ensures memory { is_out_of_memory result ≡ false }
 {
     let mut matrix = other;
     if loaded {
@@ -68,15 +70,17 @@ fn matrix_of<S: ByteSource>(
 }
 
 /// The fields of the first 28 bytes of a sample of `size` bytes.
-#[tactic(auto, unfolding(crate::specs::Steps::start_in, pw_outside::specs::Reading::bind))]
+#[tactic(auto, using(crate::proofs::Bounds::lowers_same), unfolding(crate::specs::Steps::start_in, pw_outside::specs::Reading::bind))]
 fn start_of<S: ByteSource>(source: &mut S, place: &mut u64, size: u32) -> Result<Start, FrameFault>
     requires { place.old ≡ 0 }
     ensures bytes { Gives told_fault (λ x. x) (S.left source.old) (S.left source.new) place.old place.new result (start_in size) }
     ensures sizes { IfOk result (HasSizes size) }
     ensures form { IfOk result HasForm }
     ensures place { place.new ≤ 28 }
+    ensures most { Lowers (S.most source.old) (S.most source.new) 0 }
     ensures becomes { GoesOn S.becomes source.old source.new }
     ensures cause { CountsFault (S.faults source.old) (S.faults source.new) (is_failed result) }
+    ensures memory { is_out_of_memory result ≡ false }
 {
     if size < 28 {
         return Err(bad(FrameKind::FrameShort, 0));
@@ -90,7 +94,7 @@ fn start_of<S: ByteSource>(source: &mut S, place: &mut u64, size: u32) -> Result
 }
 
 /// The matrices in use of luma and of chroma. The bytes behind them, up to the header's end, are passed over.
-#[tactic(auto, unfolding(crate::specs::Steps::matrices_in, pw_outside::specs::Reading::bind))]
+#[tactic(auto, using(crate::proofs::Bounds::lowers_then), unfolding(crate::specs::Steps::matrices_in, pw_outside::specs::Reading::bind))]
 fn matrices_of<S: ByteSource>(
     source: &mut S,
     place: &mut u64,
@@ -99,8 +103,10 @@ fn matrices_of<S: ByteSource>(
     requires room { place.old ≤ 28 }
     requires header { 20 + matrices_size start.now ≤ start.now.header }
     ensures bytes { Gives told_fault (λ t. t) (S.left source.old) (S.left source.new) place.old place.new result (matrices_in start.now) }
+    ensures most { Lowers (S.most source.old) (S.most source.new) 0 }
     ensures becomes { GoesOn S.becomes source.old source.new }
     ensures cause { CountsFault (S.faults source.old) (S.faults source.new) (is_failed result) }
+    ensures memory { is_out_of_memory result ≡ false }
 {
     let luma = matrix_of(source, place, start.loads_luma(), [4; 64])?;
     let chroma_weights = matrix_of(source, place, start.loads_chroma(), luma)?;
@@ -109,7 +115,7 @@ fn matrices_of<S: ByteSource>(
     Ok((luma, chroma_weights))
 }
 
-#[tactic(auto, unfolding(crate::specs::Steps::header_in, pw_outside::specs::Reading::bind))]
+#[tactic(auto, using(crate::proofs::Bounds::lowers_then), unfolding(crate::specs::Steps::header_in, pw_outside::specs::Reading::bind))]
 fn header_of<S: ByteSource>(
     source: &mut S,
     place: &mut u64,
@@ -120,8 +126,10 @@ fn header_of<S: ByteSource>(
     ensures header { IfOk result (λ t. IsHeader t.0) }
     ensures taken { IfOk result (λ t. (28 ≤ t.1) × (t.1 ≤ t.2)) }
     ensures size { IfOk result (λ t. t.2 ≤ size) }
+    ensures most { Lowers (S.most source.old) (S.most source.new) 0 }
     ensures becomes { GoesOn S.becomes source.old source.new }
     ensures cause { CountsFault (S.faults source.old) (S.faults source.new) (is_failed result) }
+    ensures memory { is_out_of_memory result ≡ false }
 {
     let start = start_of(source, place, size)?;
     let (luma, chroma_weights) = matrices_of(source, place, &start)?;
@@ -146,9 +154,12 @@ pub fn read_frame_header<S: ByteSource>(
     ensures header { IfOk result (λ t. IsHeader t.0) }
     ensures taken { IfOk result (λ t. (28 ≤ t.1) × (t.1 ≤ t.2)) }
     ensures size { IfOk result (λ t. t.2 ≤ size) }
+    ensures most { Lowers (S.most source.old) (S.most source.new) 0 }
     ensures becomes { GoesOn S.becomes source.old source.new }
     // The error is `Failed` only where a call of the source failed, and each such call is answered by it.
     ensures cause { CountsFault (S.faults source.old) (S.faults source.new) (is_failed result) }
+    // No memory is taken.
+    ensures memory { is_out_of_memory result ≡ false }
 {
     let mut place = 0;
     header_of(source, &mut place, size)

@@ -1,11 +1,11 @@
 //! The header of a picture, and the table of its slices' sizes.
 
 ghost use Rattle.std.specs.Prelude.{◌≡◌, ◌+◌, ◌*◌, ◌/◌, ◌%◌, ◌<◌, ◌≤◌, ◌^◌, length, sum, IfOk, OnOk, false};
-ghost use Rattle.pw_outside.specs.Ports.{CountsFault, GoesOn};
+ghost use Rattle.pw_outside.specs.Ports.{CountsFault, Lowers, GoesOn};
 ghost use Rattle.pw_outside.specs.Reading.{Answers, Gives, GivesValue, Told};
 ghost use Rattle.pr_geom.specs.Slices.{pictures_of};
 ghost use Rattle.pr_geom.specs.Layout.{IsLayoutOf};
-ghost use Rattle.pr_head.specs.Faults.{told_fault, is_failed};
+ghost use Rattle.pr_head.specs.Faults.{told_fault, is_failed, is_out_of_memory};
 ghost use Rattle.pr_head.specs.Picture.{picture_of, picture_fault, picture_at, table_at, picture_size, IsPicture};
 ghost use Rattle.pr_head.specs.Header.{HasLayoutSize};
 ghost use Rattle.pr_head.specs.Steps.{size_in, sizes_in, picture_in, table_in};
@@ -58,6 +58,7 @@ fn layout_of(
     ensures whole { OnOk result (picture.now.header ≤ picture.now.size) }
     ensures within { OnOk result (at + picture.now.size ≤ frame) }
     ensures cause { is_failed result ≡ false }
+    ensures memory { is_out_of_memory result ≡ false }
 {
     let place = u64::from(at);
     if picture.header < 8
@@ -78,7 +79,7 @@ fn layout_of(
     }
 }
 
-#[tactic(auto, unfolding(crate::specs::Steps::picture_in, pw_outside::specs::Reading::bind))]
+#[tactic(auto, using(crate::proofs::Bounds::lowers_same, crate::proofs::Bounds::lowers_then), unfolding(crate::specs::Steps::picture_in, pw_outside::specs::Reading::bind))]
 fn picture_from<S: ByteSource>(
     source: &mut S,
     place: &mut u64,
@@ -92,8 +93,10 @@ fn picture_from<S: ByteSource>(
     ensures layout { IfOk result (λ t. IsLayoutOf t.1 header.now.width header.now.height t.0.log2 header.now.interlace header.now.chroma) }
     ensures picture { IfOk result (λ t. IsPicture t.0) }
     ensures within { IfOk result (λ t. at + t.0.size ≤ frame) }
+    ensures most { Lowers (S.most source.old) (S.most source.new) 0 }
     ensures becomes { GoesOn S.becomes source.old source.new }
     ensures cause { CountsFault (S.faults source.old) (S.faults source.new) (is_failed result) }
+    ensures memory { is_out_of_memory result ≡ false }
 {
     let here = *place;
     if u64::from(frame) < here + 8 {
@@ -128,9 +131,12 @@ pub fn read_picture_header<S: ByteSource>(
     // What is answered has none of the faults.
     ensures picture { IfOk result (λ t. IsPicture t.0) }
     ensures within { IfOk result (λ t. at + t.0.size ≤ frame) }
+    ensures most { Lowers (S.most source.old) (S.most source.new) 0 }
     ensures becomes { GoesOn S.becomes source.old source.new }
     // The error is `Failed` only where a call of the source failed, and each such call is answered by it.
     ensures cause { CountsFault (S.faults source.old) (S.faults source.new) (is_failed result) }
+    // No memory is taken.
+    ensures memory { is_out_of_memory result ≡ false }
 {
     let mut place = u64::from(at);
     picture_from(source, &mut place, at, frame, header)
@@ -142,15 +148,17 @@ fn size_of<S: ByteSource>(source: &mut S, place: &mut u64, at: u64) -> Result<u1
     requires { place.old + 2 < 2 ^ 64 }
     ensures bytes { Gives told_fault (λ x. x) (S.left source.old) (S.left source.new) place.old place.new result (size_in at) }
     ensures place { place.new ≤ place.old + 2 }
+    ensures most { Lowers (S.most source.old) (S.most source.new) 0 }
     ensures becomes { GoesOn S.becomes source.old source.new }
     ensures cause { CountsFault (S.faults source.old) (S.faults source.new) (is_failed result) }
+    ensures memory { is_out_of_memory result ≡ false }
 {
     let mut bytes = [0u8; 2];
     whole(source, place, &mut bytes, FrameKind::SliceTable, at)?;
     Ok(u16_at(&bytes, 0))
 }
 
-#[tactic(auto, using(pw_outside::proofs::Chains::with_front_nil))]
+#[tactic(auto, using(pw_outside::proofs::Chains::with_front_nil, crate::proofs::Bounds::lowers_then, crate::proofs::Bounds::lowers_same))]
 fn sizes_of<S: ByteSource>(
     alloc: Global,
     source: &mut S,
@@ -161,6 +169,7 @@ fn sizes_of<S: ByteSource>(
     requires { place.old < 2 ^ 63 }
     ensures bytes { Gives told_fault (λ v. v.items) (S.left source.old) (S.left source.new) place.old place.new result (sizes_in at slices) }
     ensures count { IfOk result (λ v. length v.items ≡ slices) }
+    ensures most { Lowers (S.most source.old) (S.most source.new) 0 }
     ensures becomes { GoesOn S.becomes source.old source.new }
     ensures cause { CountsFault (S.faults source.old) (S.faults source.new) (is_failed result) }
 {
@@ -185,7 +194,7 @@ fn total(sizes: &[u16]) -> u64
     total
 }
 
-#[tactic(auto, unfolding(crate::specs::Steps::table_in, pw_outside::specs::Reading::bind))]
+#[tactic(auto, using(crate::proofs::Bounds::lowers_same), unfolding(crate::specs::Steps::table_in, pw_outside::specs::Reading::bind))]
 fn table_of<S: ByteSource>(
     alloc: Global,
     source: &mut S,
@@ -197,6 +206,7 @@ fn table_of<S: ByteSource>(
     ensures bytes { Gives told_fault (λ v. v.items) (S.left source.old) (S.left source.new) place.old place.new result (table_in picture.now slices) }
     ensures count { IfOk result (λ v. length v.items ≡ slices) }
     ensures within { IfOk result (λ v. picture_size picture.now v.items ≤ picture.now.size) }
+    ensures most { Lowers (S.most source.old) (S.most source.new) 0 }
     ensures becomes { GoesOn S.becomes source.old source.new }
     ensures cause { CountsFault (S.faults source.old) (S.faults source.new) (is_failed result) }
 {
@@ -229,6 +239,7 @@ pub fn read_slice_sizes<S: ByteSource>(
     // What is answered has none of the faults.
     ensures count { IfOk result (λ v. length v.items ≡ slices) }
     ensures within { IfOk result (λ v. picture_size picture.now v.items ≤ picture.now.size) }
+    ensures most { Lowers (S.most source.old) (S.most source.new) 0 }
     ensures becomes { GoesOn S.becomes source.old source.new }
     // The error is `Failed` only where a call of the source failed, and each such call is answered by it.
     ensures cause { CountsFault (S.faults source.old) (S.faults source.new) (is_failed result) }

@@ -1,16 +1,17 @@
 //! Bytes that come next, and numbers of them.
 
-ghost use Rattle.std.specs.Prelude.{◌≡◌, ◌+◌, ◌<◌, ◌≤◌, ◌^◌, length};
-ghost use Rattle.pw_outside.specs.Ports.{CountsFault, GoesOn};
+ghost use Rattle.std.specs.Prelude.{◌≡◌, ◌+◌, ◌<◌, ◌≤◌, ◌^◌, length, false};
+ghost use Rattle.pw_outside.specs.Ports.{CountsFault, Lowers, GoesOn};
 ghost use Rattle.pw_outside.specs.Reading.{Gives};
 ghost use Rattle.pr_head.specs.Bytes.{number16, number32};
-ghost use Rattle.pr_head.specs.Faults.{told_fault, is_failed};
+ghost use Rattle.pr_head.specs.Faults.{told_fault, is_failed, is_out_of_memory};
 ghost use Rattle.pr_head.specs.Steps.{piece_at, passed};
 
 use crate::fault::{FrameFault, FrameKind, bad};
 use pw_outside::{ByteSource, fill};
 
 /// Fills the piece with the next bytes. Where fewer are left, the fault is of this kind at `at`.
+#[tactic(auto, using(crate::proofs::Bounds::lowers_some))]
 pub(crate) fn whole<S: ByteSource>(
     source: &mut S,
     place: &mut u64,
@@ -21,8 +22,10 @@ pub(crate) fn whole<S: ByteSource>(
     requires { place.old + length piece.old < 2 ^ 64 }
     ensures bytes { Gives told_fault (λ _. piece.new) (S.left source.old) (S.left source.new) place.old place.new result (piece_at kind at (length piece.old)) }
     ensures place { place.new ≤ place.old + length piece.old }
+    ensures most { Lowers (S.most source.old) (S.most source.new) 0 }
     ensures becomes { GoesOn S.becomes source.old source.new }
     ensures cause { CountsFault (S.faults source.old) (S.faults source.new) (is_failed result) }
+    ensures memory { is_out_of_memory result ≡ false }
 {
     let count = fill(source, piece)?;
     if count < piece.len() {
@@ -45,14 +48,17 @@ fn pass_some<S: ByteSource>(
     requires room { place.old + count < 2 ^ 64 }
     ensures bytes { Gives told_fault (λ x. x) (S.left source.old) (S.left source.new) place.old place.new result (passed kind at count) }
     ensures place { place.new ≤ place.old + count }
+    ensures most { Lowers (S.most source.old) (S.most source.new) 0 }
     ensures becomes { GoesOn S.becomes source.old source.new }
     ensures cause { CountsFault (S.faults source.old) (S.faults source.new) (is_failed result) }
+    ensures memory { is_out_of_memory result ≡ false }
 {
     let mut piece = [0u8; 64];
     whole(source, place, &mut piece[..count], kind, at)
 }
 
 /// Passes over the next bytes.
+#[tactic(auto, using(crate::proofs::Bounds::lowers_then, crate::proofs::Bounds::lowers_same))]
 pub(crate) fn pass<S: ByteSource>(
     source: &mut S,
     place: &mut u64,
@@ -63,8 +69,10 @@ pub(crate) fn pass<S: ByteSource>(
     requires { place.old + count < 2 ^ 64 }
     ensures bytes { Gives told_fault (λ x. x) (S.left source.old) (S.left source.new) place.old place.new result (passed kind at count) }
     ensures place { place.new ≤ place.old + count }
+    ensures most { Lowers (S.most source.old) (S.most source.new) 0 }
     ensures becomes { GoesOn S.becomes source.old source.new }
     ensures cause { CountsFault (S.faults source.old) (S.faults source.new) (is_failed result) }
+    ensures memory { is_out_of_memory result ≡ false }
 {
     let mut left = usize::from(count);
     while 0 < left {

@@ -1,10 +1,10 @@
 //! The header of a slice.
 
 ghost use Rattle.std.specs.Prelude.{◌≡◌, ◌+◌, ◌<◌, ◌≤◌, ◌^◌, length, IfOk, OnOk, if◌then◌else◌, false};
-ghost use Rattle.pw_outside.specs.Ports.{CountsFault, GoesOn};
+ghost use Rattle.pw_outside.specs.Ports.{CountsFault, Lowers, GoesOn};
 ghost use Rattle.pw_outside.specs.Reading.{Answers, Gives, GivesValue, Told};
 ghost use Rattle.pr_head.specs.Bytes.{number16};
-ghost use Rattle.pr_head.specs.Faults.{told_fault, is_failed};
+ghost use Rattle.pr_head.specs.Faults.{told_fault, is_failed, is_out_of_memory};
 ghost use Rattle.pr_head.specs.Slice.{least_slice_header, slice_size, with_last, slice_fault, slice_at, IsSliceHeader};
 ghost use Rattle.pr_head.specs.Steps.{stated_in, cr_in, slice_in};
 
@@ -74,6 +74,7 @@ impl SliceHeader {
         ensures index_to { OnOk result (self.now.index ≤ 224) }
         ensures within { OnOk result (slice_size self.now ≤ size) }
         ensures cause { is_failed result ≡ false }
+        ensures memory { is_out_of_memory result ≡ false }
     {
         let place = u64::from(at);
         if self.header < least(alpha) || size < u16::from(self.header) {
@@ -109,7 +110,7 @@ impl SliceHeader {
 }
 
 /// The two bytes of the size of Cr where it is stated, and zeros else.
-#[tactic(auto, unfolding(crate::specs::Steps::cr_in, crate::specs::Bytes::number16))]
+#[tactic(auto, using(crate::proofs::Bounds::lowers_same), unfolding(crate::specs::Steps::cr_in, crate::specs::Bytes::number16))]
 fn cr_of<S: ByteSource>(
     source: &mut S,
     place: &mut u64,
@@ -120,8 +121,10 @@ fn cr_of<S: ByteSource>(
     ensures bytes { Gives told_fault (λ x. x) (S.left source.old) (S.left source.new) place.old place.new result (cr_in at stated) }
     ensures none { IfOk result (λ bytes. (if stated then 0 else number16 bytes 0) ≡ 0) }
     ensures place { place.new ≤ place.old + 2 }
+    ensures most { Lowers (S.most source.old) (S.most source.new) 0 }
     ensures becomes { GoesOn S.becomes source.old source.new }
     ensures cause { CountsFault (S.faults source.old) (S.faults source.new) (is_failed result) }
+    ensures memory { is_out_of_memory result ≡ false }
 {
     let mut bytes = [0u8; 2];
     if stated {
@@ -130,7 +133,7 @@ fn cr_of<S: ByteSource>(
     Ok(bytes)
 }
 
-#[tactic(auto, unfolding(crate::specs::Steps::slice_in, pw_outside::specs::Reading::bind))]
+#[tactic(auto, using(crate::proofs::Bounds::lowers_then, crate::proofs::Bounds::lowers_same), unfolding(crate::specs::Steps::slice_in, pw_outside::specs::Reading::bind))]
 fn slice_of<S: ByteSource>(
     source: &mut S,
     place: &mut u64,
@@ -141,8 +144,10 @@ fn slice_of<S: ByteSource>(
     requires { place.old ≡ at }
     ensures bytes { Gives told_fault (λ x. x) (S.left source.old) (S.left source.new) place.old place.new result (slice_in size alpha) }
     ensures slice { IfOk result (IsSliceHeader size alpha) }
+    ensures most { Lowers (S.most source.old) (S.most source.new) 0 }
     ensures becomes { GoesOn S.becomes source.old source.new }
     ensures cause { CountsFault (S.faults source.old) (S.faults source.new) (is_failed result) }
+    ensures memory { is_out_of_memory result ≡ false }
 {
     let here = *place;
     if size < u16::from(least(alpha)) {
@@ -173,9 +178,12 @@ pub fn read_slice_header<S: ByteSource>(
     ensures bytes { Told (S.left source.old) (λ bytes. size ≤ length bytes) → GivesValue told_fault (λ x. x) (S.left source.old) (S.left source.new) at result (slice_at size alpha) }
     // What is answered has none of the faults.
     ensures slice { IfOk result (IsSliceHeader size alpha) }
+    ensures most { Lowers (S.most source.old) (S.most source.new) 0 }
     ensures becomes { GoesOn S.becomes source.old source.new }
     // The error is `Failed` only where a call of the source failed, and each such call is answered by it.
     ensures cause { CountsFault (S.faults source.old) (S.faults source.new) (is_failed result) }
+    // No memory is taken.
+    ensures memory { is_out_of_memory result ≡ false }
 {
     let mut place = u64::from(at);
     slice_of(source, &mut place, at, size, alpha)

@@ -3,7 +3,7 @@
 ghost use Rattle.std.specs.Prelude.{◌≡◌, ◌+◌, ◌/◌, ◌%◌, ◌==◌, ◌<◌, ◌≤◌, length, OnOk, false};
 ghost use Rattle.pw_outside.specs.Reading.{Answers};
 ghost use Rattle.pr_geom.specs.Slices.{pictures_of};
-ghost use Rattle.pr_head.specs.Faults.{told_fault, is_failed};
+ghost use Rattle.pr_head.specs.Faults.{told_fault, is_failed, is_out_of_memory};
 ghost use Rattle.pr_head.specs.Header.{start_of, chroma_of, interlace_of, alpha_of, chroma_bits, interlace_bits, alpha_bits, loads_luma, loads_chroma, matrices_size, size_fault, form_fault, header_of, HasSizes, HasForm};
 
 use crate::fault::{FrameFault, FrameKind, bad};
@@ -129,6 +129,7 @@ impl Start {
         ensures fault { Answers told_fault (λ x. x) result (size_fault size self.now) }
         ensures sizes { OnOk result (HasSizes size self.now) }
         ensures cause { is_failed result ≡ false }
+        ensures memory { is_out_of_memory result ≡ false }
     {
         if self.mark != MARK {
             return Err(bad(FrameKind::NoIcpf, 4));
@@ -149,6 +150,7 @@ impl Start {
         ensures fault { Answers told_fault (λ x. x) result (form_fault self.now) }
         ensures form { OnOk result (HasForm self.now) }
         ensures cause { is_failed result ≡ false }
+        ensures memory { is_out_of_memory result ≡ false }
     {
         if 1 < self.version {
             return Err(bad(FrameKind::Version, 11));

@@ -11,24 +11,11 @@ use crate::frame::FrameHeader;
 use crate::slice::SliceHeader;
 use arrayvec::ArrayVec;
 use pw_fields::{be16, be32};
-use pw_outside::{ByteSink, Failed, put};
+use pw_outside::{ByteSink, Failed, put_all};
 use pw_planes::{AlphaKind, Chroma, Interlace};
 
 /// The longest header.
 const MOST: usize = 156;
-
-/// Writes the whole piece.
-fn write<K: ByteSink>(sink: &mut K, piece: &[u8]) -> Result<(), Failed>
-    ensures ok { OnOk result (Puts (sink_state (K.held sink.old) (K.taken sink.old)) (sink_state (K.held sink.new) (K.taken sink.new)) piece.now) }
-    ensures err { OnErr result (PutsPart (sink_state (K.held sink.old) (K.taken sink.old)) (sink_state (K.held sink.new) (K.taken sink.new)) piece.now) }
-    ensures settled { K.settled sink.old ≤ K.settled sink.new }
-    ensures cause { CountsFault (K.faults sink.old) (K.faults sink.new) (is_err result) }
-{
-    match put(sink, piece) {
-        Ok(()) => Ok(()),
-        Err(_) => Err(Failed),
-    }
-}
 
 /// Puts the piece behind the bytes.
 fn append(bytes: &mut ArrayVec<u8, MOST>, piece: &[u8])
@@ -122,7 +109,7 @@ pub fn write_frame_header<K: ByteSink>(
     ensures cause { CountsFault (K.faults sink.old) (K.faults sink.new) (is_err result) }
 {
     let bytes = frame_bytes(header, size);
-    write(sink, &bytes)
+    put_all(sink, &bytes)
 }
 
 /// The bytes of the header of a picture.
@@ -158,7 +145,7 @@ pub fn write_picture_header<K: ByteSink>(
     ensures cause { CountsFault (K.faults sink.old) (K.faults sink.new) (is_err result) }
 {
     let bytes = picture_bytes(size, slices, log2);
-    write(sink, &bytes)
+    put_all(sink, &bytes)
 }
 
 /// The bytes of the header of a slice.
@@ -192,5 +179,5 @@ pub fn write_slice_header<K: ByteSink>(
     ensures cause { CountsFault (K.faults sink.old) (K.faults sink.new) (is_err result) }
 {
     let bytes = slice_bytes(slice, alpha);
-    write(sink, &bytes)
+    put_all(sink, &bytes)
 }

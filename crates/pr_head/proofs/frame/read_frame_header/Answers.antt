@@ -1,7 +1,7 @@
 use Rattle.pw_outside.specs.Reading.{rest_of}
 use Rattle.std.proofs.Common.{refl}
 use Rattle.pr_head.specs.Faults.{told_fault}
-use Rattle.pr_head.proofs.Chain.{agrees-same}
+use Rattle.pw_outside.proofs.Steps.{agrees-same}
 use Rattle.pr_head.proofs.Whole.{header-same}
 use Rattle.pr_head.proofs.frame.read_frame_header.Goals as goal
 

@@ -2,7 +2,7 @@ use Rattle.std.proofs.Common.{◌≡◌, ◌+◌, ap, ◌∙◌, arith}
 use Rattle.pr_head.specs.Steps.{table_in}
 use Rattle.pw_outside.specs.Reading.{rest_of}
 use Rattle.pr_head.specs.Faults.{told_fault}
-use Rattle.pr_head.proofs.Chain.{agrees-same}
+use Rattle.pw_outside.proofs.Steps.{agrees-same}
 use Rattle.pr_head.proofs.Whole.{table-same}
 use Rattle.pr_head.proofs.picture.read_slice_sizes.Goals as goal
 

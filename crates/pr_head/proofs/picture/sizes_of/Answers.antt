@@ -1,5 +1,6 @@
 use Rattle.std.proofs.Common.{◌∷◌, [], arith, rules, length-append}
 use Rattle.std.proofs.lemmas.Result.{err_from_is_err_and}
+use Rattle.pr_head.proofs.Bounds.{lowers_then}
 use Rattle.pr_head.proofs.Sizes.{sizes-more, sizes-end, sizes-all}
 use Rattle.pr_head.proofs.picture.sizes_of.Goals as goal
 
@@ -19,6 +20,7 @@ loop-preserved g c =
       place = search rules;
       told = λ h. c.in_ok-size.ensures.bytes.told (c.loop.invariant.told h);
       bytes = λ h. sizes-more c.loop.sizes.items c.args.at c.args.slices c.loop.counter _ _ size _ c.loop-test.true (c.in_ok-size.ensures.bytes.answer (c.loop.invariant.told h)) (c.loop.invariant.bytes h);
+      most = lowers_then _ _ _ _ _ c.loop.invariant.most c.in_ok-size.ensures.most;
       becomes = λ first h. c.in_ok-size.ensures.becomes first (c.loop.invariant.becomes first h);
       cause = search rules;
     })

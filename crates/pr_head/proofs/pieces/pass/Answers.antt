@@ -1,5 +1,6 @@
 use Rattle.std.proofs.Common.{arith, rules}
 use Rattle.std.proofs.lemmas.Result.{err_from_is_err_and}
+use Rattle.pr_head.proofs.Bounds.{lowers_then}
 use Rattle.pr_head.proofs.Passing.{passed-more, passed-end, passed-all}
 use Rattle.pr_head.proofs.pieces.pass.Goals as goal
 
@@ -16,6 +17,7 @@ loop-left-preserved g c = record {
   place = search rules;
   told = λ h. c.in_ok-pass_some.ensures.bytes.told (c.loop-left.invariant.told h);
   bytes = λ h. passed-more c.args.kind c.args.at c.loop-left.left _ _ _ _ (omega arith) (c.in_ok-pass_some.ensures.bytes.answer (c.loop-left.invariant.told h)) (c.loop-left.invariant.bytes h);
+  most = lowers_then _ _ _ _ _ c.loop-left.invariant.most c.in_ok-pass_some.ensures.most;
   becomes = λ first h. c.in_ok-pass_some.ensures.becomes first (c.loop-left.invariant.becomes first h);
   cause = search rules;
 }

@@ -2,7 +2,7 @@ use Rattle.pw_outside.specs.Reading.{rest_of}
 use Rattle.std.proofs.Common.{ap, ◌∙◌}
 use Rattle.pr_head.specs.Steps.{slice_in}
 use Rattle.pr_head.specs.Faults.{told_fault}
-use Rattle.pr_head.proofs.Chain.{agrees-same}
+use Rattle.pw_outside.proofs.Steps.{agrees-same}
 use Rattle.pr_head.proofs.Whole.{slice-same}
 use Rattle.pr_head.proofs.slice.read_slice_header.Goals as goal
 
