@@ -1,0 +1,4 @@
+pub mod StepLemmas
+pub mod RowLemmas
+pub mod CodingLemmas
+pub mod ReadLemmas
