@@ -66,6 +66,8 @@ impl<S: ByteSource> ByteSource for Window<'_, S> {
 
     ghost bound = { λ w. window-bound w.left (S.left w.source.now) };
 
+    ghost faults_end = { λ w. S.faults_end w.source.now };
+
     fn read(&mut self, piece: &mut [u8]) -> Result<usize, Failed>
         ensures count { ReadsAtMost result piece.new }
         ensures bytes { ReadConsumes (first_bytes self.old.left (S.left self.old.source.now)) (first_bytes self.new.left (S.left self.new.source.now)) result piece.new }

@@ -2,9 +2,12 @@
 #![tactic(auto)]
 
 ghost use Rattle.std.specs.Prelude.{◌≡◌, ◌<◌, ◌++◌, length, IfOk, OnErr};
-ghost use Rattle.std.specs.Int.{w8, w16, w32, w64, to_be_bytes};
+ghost use Rattle.pw_fields.specs.Numbers.{number_bytes};
+
+mod laws;
 
 use byteorder::{BigEndian, ByteOrder};
+pub use laws::numbers_are_read_again;
 use std::marker::Model;
 
 /// Fewer bytes remain than were asked for.
@@ -57,7 +60,7 @@ impl<'a> Fields<'a> {
 
     /// The next byte; `Short` where none remains.
     pub fn u8(&mut self) -> Result<u8, Short>
-        ensures ok { IfOk result (λ n. self.old ≡ to_be_bytes w8 n ++ self.new) }
+        ensures ok { IfOk result (λ n. self.old ≡ number_bytes 1 n ++ self.new) }
         ensures short { OnErr result (length self.old < 1) }
         ensures same { OnErr result (self.new ≡ self.old) }
     {
@@ -67,7 +70,7 @@ impl<'a> Fields<'a> {
 
     /// The number whose two bytes come next, the most significant first; `Short` where fewer remain.
     pub fn u16(&mut self) -> Result<u16, Short>
-        ensures ok { IfOk result (λ n. self.old ≡ to_be_bytes w16 n ++ self.new) }
+        ensures ok { IfOk result (λ n. self.old ≡ number_bytes 2 n ++ self.new) }
         ensures short { OnErr result (length self.old < 2) }
         ensures same { OnErr result (self.new ≡ self.old) }
     {
@@ -77,7 +80,7 @@ impl<'a> Fields<'a> {
 
     /// The number whose four bytes come next, the most significant first; `Short` where fewer remain.
     pub fn u32(&mut self) -> Result<u32, Short>
-        ensures ok { IfOk result (λ n. self.old ≡ to_be_bytes w32 n ++ self.new) }
+        ensures ok { IfOk result (λ n. self.old ≡ number_bytes 4 n ++ self.new) }
         ensures short { OnErr result (length self.old < 4) }
         ensures same { OnErr result (self.new ≡ self.old) }
     {
@@ -87,7 +90,7 @@ impl<'a> Fields<'a> {
 
     /// The number whose eight bytes come next, the most significant first; `Short` where fewer remain.
     pub fn u64(&mut self) -> Result<u64, Short>
-        ensures ok { IfOk result (λ n. self.old ≡ to_be_bytes w64 n ++ self.new) }
+        ensures ok { IfOk result (λ n. self.old ≡ number_bytes 8 n ++ self.new) }
         ensures short { OnErr result (length self.old < 8) }
         ensures same { OnErr result (self.new ≡ self.old) }
     {
@@ -99,7 +102,7 @@ impl<'a> Fields<'a> {
 /// The number of these eight bytes, the most significant first.
 fn u64_of(bytes: &[u8]) -> u64
     requires { length bytes.now ≡ 8 }
-    ensures { to_be_bytes w64 result ≡ bytes.now }
+    ensures { number_bytes 8 result ≡ bytes.now }
 {
     u64::from_be_bytes([
         bytes[0], bytes[1], bytes[2], bytes[3], bytes[4], bytes[5], bytes[6], bytes[7],
@@ -108,7 +111,7 @@ fn u64_of(bytes: &[u8]) -> u64
 
 /// The two bytes of a number, the most significant first.
 pub fn be16(value: u16) -> [u8; 2]
-    ensures { result ≡ to_be_bytes w16 value }
+    ensures { result ≡ number_bytes 2 value }
 {
     let mut bytes = [0; 2];
     BigEndian::write_u16(&mut bytes, value);
@@ -117,7 +120,7 @@ pub fn be16(value: u16) -> [u8; 2]
 
 /// The four bytes of a number, the most significant first.
 pub fn be32(value: u32) -> [u8; 4]
-    ensures { result ≡ to_be_bytes w32 value }
+    ensures { result ≡ number_bytes 4 value }
 {
     let mut bytes = [0; 4];
     BigEndian::write_u32(&mut bytes, value);
@@ -126,7 +129,7 @@ pub fn be32(value: u32) -> [u8; 4]
 
 /// The eight bytes of a number, the most significant first.
 pub fn be64(value: u64) -> [u8; 8]
-    ensures { result ≡ to_be_bytes w64 value }
+    ensures { result ≡ number_bytes 8 value }
 {
     let mut bytes = [0; 8];
     BigEndian::write_u64(&mut bytes, value);

@@ -3,7 +3,8 @@ use Rattle.std.proofs.Common.{◌≡◌, refl, ℕ, zero, suc, ◌+◌, ◌≤�
 use Rattle.std.proofs.Math.Seq.{take-length}
 use Rattle.std.proofs.lemmas.List.{length-append, drop_at}
 use lib.Seq.{take-add}
-use Rattle.std.proofs.KnownBytes.{Appends-trans, Appends-nil}
+use Rattle.std.specs.Io.KnownBytes.{Keeps}
+use Rattle.std.proofs.KnownBytes.{Appends-trans, Appends-nil, Appends-kept}
 use Rattle.pw_outside.specs.Ports.{last}
 use Rattle.pw_outside.specs.Writing.{SinkState, Puts, PutsFront, PutsPart}
 
@@ -24,6 +25,13 @@ pub puts_none : (a : SinkState) → a.taken ≤ last → Puts a a []
 puts_none a h = record {
   bytes_held = Appends-nil a.held;
   count = omega (arith, h);
+}
+
+-- a flush writes nothing
+pub puts_flushed : {a b : SinkState} → Keeps a.held b.held → b.taken ≡ a.taken → a.taken ≤ last → Puts a b []
+puts_flushed {a} {b} kept same h = record {
+  bytes_held = Appends-kept a.held a.held b.held [] (Appends-nil a.held) kept;
+  count = omega (arith, same, h);
 }
 
 -- one thing was written, and then another

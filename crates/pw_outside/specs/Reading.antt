@@ -1,7 +1,7 @@
 -- Reading a format from left to right: a value and the rest, or the first fault and its place.
 -- Each format's own definitions are chains of these; each call that reads has one clause that says
 -- that it answers what its definition gives.
-use Rattle.std.specs.Prelude.{◌≡◌, ℕ, ◌+◌, List, [], length, take, drop, Option, Bool, Result, Ok, Err, nat_lt, if◌then◌else◌, IsSome, OnOk, IfSome, unwrap_or}
+use Rattle.std.specs.Prelude.{◌≡◌, ℕ, ◌+◌, ◌<◌, List, [], ◌++◌, length, take, drop, slice_index, Option, Bool, Result, Ok, Err, nat_lt, if◌then◌else◌, IsSome, OnOk, IfSome, unwrap_or}
 use Rattle.std.specs.Int.{Width, byte_len, from_be_bytes}
 
 -- what is wrong, and at which place of the input
@@ -44,6 +44,16 @@ bytes_at short n s = if nat_lt (length s.bytes) n then bad short s.place
 abbrev pub number_at : {Kind : Type 0} → Kind → Width → Rest → Read Kind ℕ
 number_at short w s = if nat_lt (length s.bytes) (byte_len w) then bad short s.place
     else Ok (from_be_bytes w (take (byte_len w) s.bytes), record { place = s.place + byte_len w; bytes = drop (byte_len w) s.bytes })
+
+-- each is a byte
+abbrev pub AreBytes : List ℕ → Type 0
+AreBytes bytes = (k : ℕ) → slice_index bytes k < 256
+
+-- The bytes that were read are these, and the rest stands behind them.
+pub record Took (s : Rest) (text : List ℕ) (rest : Rest) : Type 0 where
+  pub parts : s.bytes ≡ text ++ rest.bytes
+  pub place : rest.place ≡ s.place + length text
+  pub behind : AreBytes rest.bytes
 
 -- ---- what a call has to do with reading. `fault` says which errors of the call tell a fault of the bytes;
 -- ---- the others are a port's, or want of memory.

@@ -53,6 +53,8 @@ impl ByteSink for CountSink {
 
     ghost counts = { λ n. (Prim.omega arith, Prim.omega arith) };
 
+    ghost faults_end = { λ _. Prim.omega arith };
+
     fn write(&mut self, piece: &[u8]) -> Result<usize, Failed>
         ensures count { IfOk result (λ n. (n ≤ length piece.now) × (0 < length piece.now → 0 < n)) }
         ensures bytes { WriteAppends None None result piece.now }

@@ -44,6 +44,8 @@ impl<M: ByteStore> ByteSource for Span<'_, M> {
 
     ghost bound = { λ s. part-bound s.at s.end (M.bytes s.store.now) };
 
+    ghost faults_end = { λ s. M.faults_end s.store.now };
+
     fn read(&mut self, piece: &mut [u8]) -> Result<usize, Failed>
         ensures count { ReadsAtMost result piece.new }
         ensures bytes { ReadConsumes (part self.old.at self.old.end (M.bytes self.old.store.now)) (part self.new.at self.new.end (M.bytes self.new.store.now)) result piece.new }

@@ -95,6 +95,8 @@ impl<R: Files + Input + AllocGlobal + Drop> ByteSource for InputPort<R> {
 
     ghost bound = { λ _. tt };
 
+    ghost faults_end = { λ s. Prim.omega arith };
+
     fn read(&mut self, piece: &mut [u8]) -> Result<usize, Failed> {
         if self.ended {
             return Ok(0);
@@ -195,6 +197,8 @@ impl<R: Files + Drop> ByteStore for StorePort<R> {
     ghost bytes = { λ _. None };
 
     ghost faults = { λ s. min s.faults last };
+
+    ghost faults_end = { λ s. Prim.omega arith };
 
     fn length(&mut self) -> Result<u64, Failed> {
         match self.length_open() {
@@ -304,6 +308,8 @@ impl<R: Files + Print + AllocGlobal + Drop> ByteSink for OutputPort<R> {
     ghost faults = { λ s. min s.faults last };
 
     ghost counts = { λ s. (Prim.omega arith, Prim.omega arith) };
+
+    ghost faults_end = { λ s. Prim.omega arith };
 
     fn write(&mut self, piece: &[u8]) -> Result<usize, Failed> {
         match self.write_open(piece) {
