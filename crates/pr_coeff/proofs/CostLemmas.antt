@@ -19,11 +19,11 @@ under_both : (k : ℕ) (a b : List ℤ) → AllUnder k a → AllUnder k b → Al
 under_both k [] b x y = y
 under_both k (v ∷ a) b x y = (x.0, under_both k a b x.1 y)
 
-under_column : (k : ℕ) (blocks : List Block) (p : ℕ) → ((i q : ℕ) → nat_abs (get_or (get_or blocks i []) q (pos 0)) < 2 ^ k) → AllUnder k (column blocks p)
+pub under_column : (k : ℕ) (blocks : List Block) (p : ℕ) → ((i q : ℕ) → nat_abs (get_or (get_or blocks i []) q (pos 0)) < 2 ^ k) → AllUnder k (column blocks p)
 under_column k [] p h = tt
 under_column k (b ∷ bs) p h = (h 0 p, under_column k bs p (λ i q. h (suc i) q))
 
-under_listed : (k : ℕ) (places : List ℕ) (blocks : List Block) → ((i q : ℕ) → nat_abs (get_or (get_or blocks i []) q (pos 0)) < 2 ^ k) → AllUnder k (listed places blocks)
+pub under_listed : (k : ℕ) (places : List ℕ) (blocks : List Block) → ((i q : ℕ) → nat_abs (get_or (get_or blocks i []) q (pos 0)) < 2 ^ k) → AllUnder k (listed places blocks)
 under_listed k [] blocks h = tt
 under_listed k (p ∷ ps) blocks h = under_both k (column blocks p) (listed ps blocks) (under_column k blocks p h) (under_listed k ps blocks h)
 
@@ -39,20 +39,20 @@ under_blocks (b ∷ bs) h (suc i) q = under_blocks bs h.2 i q
 
 -- ---- words
 
-small_exp : (b : Codebook) → is_book b ≡ true → 2 ^ b.exp ≤ 128
+pub small_exp : (b : Codebook) → is_book b ≡ true → 2 ^ b.exp ≤ 128
 small_exp b is = let p = plain b is in omega (arith, pow_mono_at b.exp 7 (let e : b.exp ≤ 7 = omega (arith, p.exp) in e))
 
-run_cost : (run k : ℕ) → k < 2016 → length (word (run_book run) k) ≤ 25
+pub run_cost : (run k : ℕ) → k < 2016 → length (word (run_book run) k) ≤ 25
 run_cost run k h = length-word-le (run_book run) k 11 (is_book-run run) (omega arith) (omega (arith, small_exp (run_book run) (is_book-run run)))
 
-level_cost : (magnitude m k : ℕ) → 7 ≤ k → m < 2 ^ k → length (word (level_book magnitude) m) ≤ 2 * k + 3
+pub level_cost : (magnitude m k : ℕ) → 7 ≤ k → m < 2 ^ k → length (word (level_book magnitude) m) ≤ 2 * k + 3
 level_cost magnitude m k seven h =
     let two : 2 ^ (k + 1) ≡ 2 ^ k + 2 ^ k = ap (λ n. 2 ^ n) (let e : k + 1 ≡ suc k = omega arith in e) ∙ pow_suc k in
     length-word-le (level_book magnitude) m k (is_book-level magnitude) (omega arith)
     (omega (arith, small_exp (level_book magnitude) (is_book-level magnitude), pow_mono_at 7 k seven, two))
 
 -- the word of a code that is at most four times 2^k
-code_cost : (b : Codebook) (n k : ℕ) → is_book b ≡ true → 7 ≤ k → n < 2 ^ k + 2 ^ k + 2 ^ k + 2 ^ k → length (word b n) ≤ 2 * k + 7
+pub code_cost : (b : Codebook) (n k : ℕ) → is_book b ≡ true → 7 ≤ k → n < 2 ^ k + 2 ^ k + 2 ^ k + 2 ^ k → length (word b n) ≤ 2 * k + 7
 code_cost b n k is seven h =
     let one = pow_suc k in
     let two = pow_suc (suc k) in
@@ -87,7 +87,7 @@ code_more k n a b x y =
     let e : (2 * k + 29) * suc n ≡ (2 * k + 29) * n + (2 * k + 29) = omega arith in
     omega (arith, e, length-append a b)
 
-difference_under : (k : ℕ) (neg : Bool) (d last : ℤ) → nat_abs d < 2 ^ k → nat_abs last < 2 ^ k → folded (turned neg (d -ℤ last)) < 2 ^ k + 2 ^ k + 2 ^ k + 2 ^ k
+pub difference_under : (k : ℕ) (neg : Bool) (d last : ℤ) → nat_abs d < 2 ^ k → nat_abs last < 2 ^ k → folded (turned neg (d -ℤ last)) < 2 ^ k + 2 ^ k + 2 ^ k + 2 ^ k
 difference_under k neg d last x y = omega (arith, folded-le (turned neg (d -ℤ last)), abs-turned neg (d -ℤ last), abs-sub d last)
 
 dc_cost : (k : ℕ) (last : ℤ) (neg : Bool) (code : ℕ) (ds : List ℤ) → 7 ≤ k → nat_abs last < 2 ^ k → AllUnder k ds → length (dc_words last neg code ds) ≤ (2 * k + 29) * length ds
@@ -105,7 +105,7 @@ all_dc_cost k (d ∷ ds) s a =
 
 -- ---- a component
 
-length-bits : (b : List ℕ) → length (bits b) ≡ 8 * length b
+pub length-bits : (b : List ℕ) → length (bits b) ≡ 8 * length b
 length-bits [] = refl
 length-bits (x ∷ b) = omega (arith, length-append (bits_of 8 x) (bits b), length-bits_of 8 x, length-bits b)
 

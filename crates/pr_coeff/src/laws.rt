@@ -1,9 +1,12 @@
 //! Laws of components. The functions do nothing; their contracts are the laws.
 
-ghost use Rattle.std.specs.Prelude.{◌≡◌, ◌↔◌, ◌⊎◌, ℕ, ◌*◌, ◌<◌, ◌≤◌, Bool, List, [], length, get_or, Ok, Err, pos, nat_abs};
+ghost use Rattle.std.specs.Prelude.{◌≡◌, ◌↔◌, ◌⊎◌, ℕ, ◌*◌, ◌<◌, ◌≤◌, Bool, List, [], length, get_or, Ok, Err, ℤ, pos, nat_abs};
 ghost use Rattle.pr_coeff.specs.Component.{Block, IsScan, Stands, places, component};
 ghost use Rattle.pr_coeff.specs.Reading.{Fault, component_at};
 ghost use Rattle.pr_coeff.specs.declared.scan.Scan.{Scan};
+ghost use Rattle.pr_coeff.specs.Known.{KnownAtFirst, KnownBehindZero, KnownBehindValue, KnownAtLast, ComponentHasBytes};
+ghost use Rattle.pr_coeff.specs.Lengths.{ClassesNameBooks};
+ghost use Rattle.pr_coeff.specs.Triples.{HaveOneListOfTriples, StandsAreTriples, ComponentIsOfTriples, CoefficientsAreShort};
 
 /// Both scans have each place once.
 pub fn scans_have_each_place()
@@ -31,4 +34,36 @@ pub fn components_are_short()
     ensures { (scan : Scan) (blocks : List Block) → 0 < length blocks → length blocks ≤ 32 →
         ((i place : ℕ) → nat_abs (get_or (get_or blocks i []) place (pos 0)) ≤ 8191) →
         8 * length (component (places scan) blocks) < 57 * (64 * length blocks) }
+{}
+
+/// Coefficients are written out by one list of triples of a run, a level and a sign.
+pub fn one_list_of_triples()
+    ensures { (vs : List ℤ) → HaveOneListOfTriples vs }
+{}
+
+/// The words of a component are those of its DC coefficients' codes and of the triples of its other coefficients, each word
+/// in the book that the code, the run or the magnitude before it names.
+pub fn components_are_of_triples()
+    ensures stands { StandsAreTriples }
+    ensures written { ComponentIsOfTriples }
+{}
+
+/// Of magnitude at most 8,191 each coefficient costs fewer than 57 bits.
+pub fn coefficients_are_short()
+    ensures { CoefficientsAreShort }
+{}
+
+/// The class of a run, and that of a magnitude, is all that names the next book.
+pub fn classes_name_books()
+    ensures { ClassesNameBooks }
+{}
+
+/// The bits of words are counted coefficient by coefficient, of which only the number of zeros since the last that isn't 0
+/// is kept, and the classes of the run and the magnitude before them.
+pub fn bits_are_counted()
+    ensures first { KnownAtFirst }
+    ensures zero { KnownBehindZero }
+    ensures value { KnownBehindValue }
+    ensures last { KnownAtLast }
+    ensures bytes { ComponentHasBytes }
 {}

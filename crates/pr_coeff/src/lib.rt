@@ -5,6 +5,7 @@
 mod books;
 mod component;
 mod laws;
+mod lengths;
 mod read;
 mod scan;
 #[cfg(test)]
@@ -13,7 +14,12 @@ mod triple;
 mod write;
 
 pub use component::read_component;
-pub use laws::{component_is_read, components_are_short, one_list_or_fault, scans_have_each_place};
+pub use laws::{
+    bits_are_counted, classes_name_books, coefficients_are_short, component_is_read,
+    components_are_of_triples, components_are_short, one_list_of_triples, one_list_or_fault,
+    scans_have_each_place,
+};
+pub use lengths::{Cost, Lengths, firsts_length};
 pub use read::CoeffFault;
 pub use scan::{Block, Scan};
 pub use write::{component_length, write_component};

@@ -1,6 +1,6 @@
 -- Multipliers, quantised values and products. The factor of an index is that of SMPTE RDD 36, inverse quantization.
 -- The rule of the nearest multiple, the product without a division and its clipping are our own.
-use Rattle.std.specs.Prelude.{◌≡◌, ℕ, suc, ◌+◌, ◌-◌, ◌*◌, ◌/◌, ◌%◌, ◌^◌, ◌<◌, ◌≤◌, List, length, sum, All, ℤ, pos, negsuc, ◌-ℤ◌, ◌*ℤ◌, neg_ℤ, nat_abs, nat_lt, nat_le, if◌then◌else◌}
+use Rattle.std.specs.Prelude.{◌≡◌, ℕ, suc, ◌+◌, ◌-◌, ◌*◌, ◌/◌, ◌%◌, ◌^◌, ◌<◌, ◌≤◌, ℤ, pos, negsuc, ◌-ℤ◌, ◌*ℤ◌, neg_ℤ, nat_abs, nat_lt, nat_le, if◌then◌else◌}
 use Rattle.std.specs.Int.{int_max, int_min}
 
 -- the greatest magnitude of a coefficient
@@ -63,11 +63,3 @@ QuantisedIsSmall = (c : ℤ) (m : ℕ) → nat_abs c ≤ greatest_coefficient �
 -- a coefficient's squared error is below 2^28
 abbrev pub ErrorIsSmall : Type 0
 ErrorIsSmall = (c : ℤ) (m : ℕ) → 0 < m → nat_abs c ≤ greatest_coefficient → error_of c m < 2 ^ 28
-
--- The most coefficients that a slice has: eight macroblocks of twelve blocks, four of each component in 4:4:4.
-abbrev pub slice_coefficients : ℕ
-slice_coefficients = 8 * 12 * 64
-
--- the errors of a slice's coefficients add up to less than 2^43
-abbrev pub SliceErrorIsSmall : Type 0
-SliceErrorIsSmall = (errors : List ℕ) → length errors ≤ slice_coefficients → All (λ e. e < 2 ^ 28) errors → sum errors < 2 ^ 43

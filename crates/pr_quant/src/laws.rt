@@ -1,6 +1,8 @@
 //! Laws of quantised values.
 
-ghost use Rattle.pr_quant.specs.Quantised.{QuantisedIsNearest, OneIsNearest, QuantisedIsSmall, ErrorIsSmall, SliceErrorIsSmall};
+ghost use Rattle.pr_quant.specs.Quantised.{QuantisedIsNearest, OneIsNearest, QuantisedIsSmall, ErrorIsSmall};
+ghost use Rattle.pr_quant.specs.Errors.{SliceErrorIsSmall};
+ghost use Rattle.pr_quant.specs.Turns.{TurnsGiveLevels, TurnsTellZeros, ProductsAreQuotients, ErrorsAreRests};
 ghost use Rattle.pr_quant.specs.Matrices.{NamedWeightsAreInRange};
 
 /// Every coefficient has a nearest value, at every multiplier above 0.
@@ -24,7 +26,8 @@ pub fn error_is_small()
     ensures { ErrorIsSmall }
 {}
 
-/// The squared errors of a slice, which has at most 6,144 coefficients, add up to less than 2^43.
+/// The squared errors of all coefficients of a slice, which has at most 96 blocks, add up to less than
+/// 2^43, whatever its matrices and its index are.
 pub fn slice_error_is_small()
     ensures { SliceErrorIsSmall }
 {}
@@ -32,4 +35,21 @@ pub fn slice_error_is_small()
 /// The weights of each named matrix are from 2 to 63.
 pub fn named_weights_are_in_range()
     ensures { NamedWeightsAreInRange }
+{}
+
+/// The magnitude of a value follows from what the weight alone leaves of the coefficient, and it is zero exactly where that
+/// is below the scale.
+pub fn turns_give_levels()
+    ensures levels { TurnsGiveLevels }
+    ensures zeros { TurnsTellZeros }
+{}
+
+/// A product with a reciprocal is a quotient of a number below 2^15.
+pub fn products_are_quotients()
+    ensures { ProductsAreQuotients }
+{}
+
+/// A coefficient's squared error is its square without the gain.
+pub fn errors_are_rests()
+    ensures { ErrorsAreRests }
 {}
