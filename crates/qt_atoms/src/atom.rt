@@ -4,6 +4,7 @@ ghost use Rattle.std.specs.Prelude.{◌≡◌};
 ghost use Rattle.qt_atoms.specs.declared.atom.AtomFault.TheVariants as faults;
 
 use pw_outside::Failed;
+use thiserror::Error;
 
 /// An atom of a file: its kind, its place, and the places at which its body begins and ends.
 #[derive(Clone, Copy, Debug, PartialEq, Eq)]
@@ -24,11 +25,13 @@ pub enum Step {
 }
 
 /// Why no atom could be read.
-#[derive(Clone, Copy, Debug, PartialEq, Eq)]
+#[derive(Clone, Copy, Debug, PartialEq, Eq, Error)]
 pub enum AtomFault {
     /// The size of the atom at this place is bad: 2 to 7, a 64-bit size below 16 or without room, or one that passes the end.
+    #[error("Size")]
     Size(u64),
     /// The store failed.
+    #[error("Failed")]
     Failed,
 }
 

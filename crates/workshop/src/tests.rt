@@ -1,0 +1,48 @@
+//! The line and the number of each status. Whole runs are cases of `run_cases`.
+
+use crate::{Status, UsageKind};
+use qt_tables::MovieKind;
+use rate_table::ProofKind;
+use std::test::Fail;
+
+#[test]
+fn each_status_has_its_line_and_its_number(rt: HostRuntime) -> Result<(), Fail> {
+    let usage = Status::Usage {
+        kind: UsageKind::ExtraOperand,
+        word: 2,
+    };
+    let cases: [(Status, &str, u8); 8] = [
+        (Status::Done, "", 0),
+        (usage, "usage: ExtraOperand at word 2", 1),
+        (Status::NoMemory, "no memory", 2),
+        (Status::ReadFault, "read fault", 3),
+        (Status::WriteFault, "write fault", 4),
+        (
+            Status::BadProof {
+                kind: ProofKind::TableShort,
+                place: 55,
+            },
+            "proof: TableShort at 55",
+            10,
+        ),
+        (
+            Status::LayersFull { frame: 0 },
+            "frame 0: too many pairs",
+            7,
+        ),
+        (
+            Status::BadMovie {
+                kind: MovieKind::AtomSize,
+                place: 206,
+            },
+            "movie: AtomSize at 206",
+            8,
+        ),
+    ];
+    for (status, line, code) in cases {
+        let told = format!(in rt.alloc(); "{status}")?;
+        assert_eq!(rt; told.as_str(), line);
+        assert_eq!(rt; status.code(), code);
+    }
+    Ok(())
+}
