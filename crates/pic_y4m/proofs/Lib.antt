@@ -5,3 +5,4 @@ pub mod Planes
 pub mod Written
 pub mod Again
 pub mod HeadAgain
+pub mod Forms

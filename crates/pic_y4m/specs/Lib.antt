@@ -4,4 +4,5 @@ pub mod Parameters
 pub mod Line
 pub mod HeadLine
 pub mod Frames
+pub mod Forms
 pub mod Writing

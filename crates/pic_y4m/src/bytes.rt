@@ -1,6 +1,8 @@
 //! Bytes of a source, one or many at a time.
 
 ghost use Rattle.std.specs.Prelude.{◌≡◌, ◌≤◌, ◌∷◌, ◌++◌, [], List, ℕ, IfOk, is_err, MatchOption, IsSome};
+ghost use Rattle.std.specs.Io.KnownBytes.{IsAtEnd};
+ghost use Rattle.std.specs.Option.{IfNone};
 ghost use Rattle.pw_outside.specs.Ports.{CountsFault, GoesOn};
 ghost use Rattle.pw_outside.specs.Reading.{bytes_of};
 ghost use Rattle.pic_y4m.specs.Line.{NextByte};
@@ -10,6 +12,7 @@ use pw_outside::{ByteSource, Failed, fill};
 /// The next byte, or none at the end of the input.
 pub(crate) fn next_byte<S: ByteSource>(source: &mut S) -> Result<Option<u8>, Failed>
     ensures bytes { IfOk result (NextByte (S.left source.old) (S.left source.new)) }
+    ensures end { IfOk result (λ byte. IfNone byte (IsAtEnd (S.left source.new))) }
     ensures becomes { GoesOn S.becomes source.old source.new }
     ensures cause { CountsFault (S.faults source.old) (S.faults source.new) (is_err result) }
 {

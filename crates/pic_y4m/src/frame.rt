@@ -1,6 +1,7 @@
 //! The planes of a frame.
 
 ghost use Rattle.std.specs.Prelude.{◌≡◌, ◌+◌, ◌-◌, ◌*◌, ◌/◌, ◌≤◌, ◌<◌, ◌^◌, IfOk, IfSome, length, slice_index};
+ghost use Rattle.std.specs.Io.KnownBytes.{IsAtEnd};
 ghost use Rattle.std.specs.Option.{IfNone};
 ghost use Rattle.pw_outside.specs.Ports.{CountsFault, GoesOn};
 ghost use Rattle.pw_outside.specs.Reading.{Gives};
@@ -207,6 +208,7 @@ pub(crate) fn frame_of<S: ByteSource>(
     ensures form { IfOk result (λ picture. IfSome picture (HasForm form.now.head)) }
     ensures place { place.new ≤ place.old + 2 ^ 28 }
     ensures same { IfOk result (λ picture. IfNone picture (place.new ≡ place.old)) }
+    ensures end { IfOk result (λ picture. IfNone picture (IsAtEnd (S.left source.new))) }
     ensures becomes { GoesOn S.becomes source.old source.new }
     ensures cause { CountsFault (S.faults source.old) (S.faults source.new) (is_failed result) }
 {

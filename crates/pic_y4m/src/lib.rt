@@ -16,7 +16,10 @@ mod writer;
 
 pub use fault::{PictureFault, PictureKind};
 pub use head::{Head, MAX_FRAMES, MAX_RATE_DEN, MAX_RATE_NUM};
-pub use laws::{head_is_read, next_is_first, pictures_are_read, written_is_meant, written_is_read};
+pub use laws::{
+    head_is_read, left_have_form, next_is_first, pictures_are_read, pictures_have_form,
+    written_is_meant, written_is_read,
+};
 pub use reader::Y4mReader;
 pub use writer::{WriteEnd, Y4mWriter};
 

@@ -1,6 +1,7 @@
 //! One line of an input.
 
 ghost use Rattle.std.specs.Prelude.{◌≡◌, ◌+◌, ◌<◌, ◌≤◌, ◌^◌, IfOk, IfSome, length};
+ghost use Rattle.std.specs.Io.KnownBytes.{IsAtEnd};
 ghost use Rattle.std.specs.Option.{IfNone};
 ghost use Rattle.pw_outside.specs.Ports.{CountsFault, GoesOn};
 ghost use Rattle.pw_outside.specs.Reading.{Gives};
@@ -56,6 +57,7 @@ pub(crate) fn line_of<S: ByteSource>(
     ensures len { IfOk result (λ line. IfSome line (λ l. length l < most)) }
     ensures place { place.new ≤ place.old + most }
     ensures same { IfOk result (λ line. IfNone line (place.new ≡ place.old)) }
+    ensures end { IfOk result (λ line. IfNone line (IsAtEnd (S.left source.new))) }
     ensures becomes { GoesOn S.becomes source.old source.new }
     ensures cause { CountsFault (S.faults source.old) (S.faults source.new) (is_failed result) }
 {

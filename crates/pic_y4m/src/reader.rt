@@ -1,6 +1,8 @@
 //! Reading an input picture by picture.
 
 ghost use Rattle.std.specs.Prelude.{◌≡◌, IfOk, IfSome};
+ghost use Rattle.std.specs.Io.KnownBytes.{IsAtEnd};
+ghost use Rattle.std.specs.Option.{IfNone};
 ghost use Rattle.pw_outside.specs.Ports.{CountsFault, GoesOn};
 ghost use Rattle.pw_outside.specs.Reading.{Gives};
 ghost use Rattle.pw_planes.specs.declared.kinds.AlphaKind.TheVariants.{Absent};
@@ -48,6 +50,8 @@ impl Y4mReader {
         ensures bytes { Gives told_fault (λ r. r) (S.left source.old) (S.left source.new) 0 (place_after result) result start_at }
         // The head is within the limits.
         ensures reader { IfOk result IsState }
+        // No picture was read yet.
+        ensures fresh { IfOk result (λ r. r.frames ≡ 0) }
         ensures becomes { GoesOn S.becomes source.old source.new }
         // The error is `Failed` only where a call of the source failed, and each such call is answered by it.
         ensures cause { CountsFault (S.faults source.old) (S.faults source.new) (is_failed result) }
@@ -87,6 +91,8 @@ impl Y4mReader {
         // A picture is counted, and there are 1,000,000 at most.
         ensures after { IsAfter self.old self.new result }
         ensures reader { IsState self.new }
+        // There is none only where all bytes of the source were read.
+        ensures end { IfOk result (λ picture. IfNone picture (IsAtEnd (S.left source.new))) }
         ensures becomes { GoesOn S.becomes source.old source.new }
         // The error is `Failed` only where a call of the source failed, and each such call is answered by it.
         ensures cause { CountsFault (S.faults source.old) (S.faults source.new) (is_failed result) }
