@@ -2,3 +2,5 @@ pub mod BitsLemmas
 pub mod WritingLemmas
 pub mod ReadingLemmas
 pub mod WindowLemmas
+pub mod PlacesLemmas
+pub mod SpelledLemmas

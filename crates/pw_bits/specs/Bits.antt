@@ -1,6 +1,7 @@
 -- Numbers and bytes as lists of bits, the most significant first, as bit streams are written in SMPTE RDD 36.
-use Rattle.std.specs.Prelude.{ℕ, zero, suc, ◌+◌, ◌-◌, ◌/◌, ◌%◌, ◌^◌, ◌<◌, Bool, false, List, [], ◌∷◌, ◌++◌, length, replicate, get_or, nat_eq, if◌then◌else◌}
+use Rattle.std.specs.Prelude.{ℕ, zero, suc, ◌+◌, ◌-◌, ◌/◌, ◌%◌, ◌^◌, Bool, false, List, [], ◌∷◌, ◌++◌, length, replicate, nat_eq, if◌then◌else◌}
 use Rattle.std.specs.List.{flat_map}
+pub use Rattle.pw_outside.specs.Reading.{AreBytes}
 
 -- the k low bits of n, the highest first
 abbrev pub bits_of : ℕ → ℕ → List Bool
@@ -37,7 +38,3 @@ padding l = zeros ((8 - length l % 8) % 8)
 -- the bytes of a list of bits, the last one filled with zeros
 abbrev pub bytes : List Bool → List ℕ
 bytes l = whole (l ++ padding l)
-
--- all are bytes
-abbrev pub AreBytes : List ℕ → Type 0
-AreBytes b = (i : ℕ) → get_or b i 0 < 256

@@ -3,3 +3,5 @@ pub mod Bytes
 pub mod Writing
 pub mod Reading
 pub mod Window
+pub mod Places
+pub mod Spelled

@@ -2,7 +2,10 @@
 
 ghost use Rattle.std.specs.Prelude.{◌≤◌};
 
-use crate::{BitFault, BitReader, BitWriter, Window, ZeroRun};
+use crate::{
+    BitFault, BitReader, BitWriter, Cursor, Window, ZeroRun, behind_last_one, bit_at, finish,
+    front_at, put_bits,
+};
 use pw_outside::{ByteSource, CountSink, Failed, MemSink, MemSource};
 use std::test::Fail;
 
@@ -96,4 +99,17 @@ fn a_window_ends_before_its_source(rt: HostRuntime) -> Result<(), Fail> {
     assert_eq!(rt; bytes.read(&mut piece), Ok(1));
     assert_eq!(rt; piece[0], 4);
     Ok(())
+}
+
+#[test]
+fn bits_stand_at_places(rt: HostRuntime) {
+    let mut out = [0xff; 16];
+    let cursor = put_bits(&mut out, Cursor::start(), 0x9fabc, 20);
+    let cursor = put_bits(&mut out, cursor, 0b110, 3);
+    assert_eq!(rt; finish(&mut out, cursor), 3);
+    assert!(rt; out[..3] == [0x9f, 0xab, 0xcc]);
+    assert_eq!(rt; front_at(&out, 4) >> 44, 0xfabcc);
+    assert!(rt; bit_at(&out, 3) && !bit_at(&out, 1));
+    assert_eq!(rt; behind_last_one(&out, 3), 22);
+    assert_eq!(rt; behind_last_one(&out, 0), 0);
 }
