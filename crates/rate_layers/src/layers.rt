@@ -58,8 +58,8 @@ fn put_layer(
 }
 
 /// The layers that a multiplier and an error keep: after each number of slices the pairs that no other dominates,
-/// of those that can still fit and stay within the bound, by rising size. They take 16 bytes a pair, and the layer
-/// at work twice as much.
+/// of those that can still fit and stay within the bound, by rising size. They take 16 bytes a pair, and the two
+/// vectors of the layer at work up to 32 bytes for each pair of the longest half-merged layer.
 ///
 /// The errors are `LayersFull` where finished layers number more than 2^25 pairs, and `NoMemory`.
 pub fn kept_layers(

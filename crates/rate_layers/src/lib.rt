@@ -7,10 +7,13 @@ mod fault;
 mod laws;
 mod layers;
 mod live;
+mod marks;
 mod merge;
 mod multiplier;
 mod narrowed;
 mod outcome;
+mod passing;
+mod places;
 mod search;
 #[cfg(test)]
 mod tests;
