@@ -7,10 +7,9 @@ ghost use Rattle.rate_layers.specs.Layers.{IsFront, AreKept, pairs_in};
 ghost use Rattle.rate_layers.specs.Bound.{HasRoom, IsWithin};
 
 use crate::bound::{Bound, bound_of, is_within};
-use crate::costs::{least_cost, least_costs, least_size};
 use crate::fault::BestFault;
 use crate::merge::{Work, next_layer};
-use rate_table::{FrameTable, Pair, least};
+use rate_table::{FrameTable, Pair, least, least_cost, least_costs, least_size};
 use std::alloc::{AllocError, Global};
 
 /// Layers may number so many pairs.

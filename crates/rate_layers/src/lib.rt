@@ -2,7 +2,6 @@
 #![tactic(auto)]
 
 mod bound;
-mod costs;
 mod fault;
 mod laws;
 mod layers;
@@ -19,7 +18,6 @@ mod search;
 mod tests;
 mod thin;
 
-pub use costs::least_costs;
 pub use fault::BestFault;
 pub use laws::{
     best_of_full, best_of_kept, full_exists, full_is_good, full_is_merged, full_is_narrow,

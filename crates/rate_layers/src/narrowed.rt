@@ -5,8 +5,7 @@ ghost use Rattle.std.specs.List.{filter};
 ghost use Rattle.rate_layers.specs.Live.{AreFound};
 
 use crate::bound::{Bound, bound_of, is_within};
-use crate::costs::{least_cost, least_costs};
-use rate_table::{FrameTable, Pair};
+use rate_table::{FrameTable, Pair, least_cost, least_costs};
 
 /// Leaves the pairs of a layer that stay within a bound, and gives back the room of the others.
 fn keep_within(layer: &mut Vec<Pair>, bound: &Bound)

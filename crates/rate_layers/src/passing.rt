@@ -7,8 +7,7 @@ ghost use Rattle.rate_table.specs.Table.{IsEntry};
 ghost use Rattle.rate_layers.specs.Merge.{IsFloor, Passing};
 
 use crate::bound::Bound;
-use crate::costs::cost_of;
-use rate_table::{Entry, Pair};
+use rate_table::{Entry, Pair, cost_of};
 use std::alloc::AllocError;
 
 /// What each pair of the layer costs at least, by the bound's multiplier, and no more than the ceiling.

@@ -15,14 +15,13 @@ ghost use Rattle.rate_layers.specs.Best.{OnFits, OnNone, TellsBest, TellsLayers,
 #[cfg(test)]
 mod tests;
 
-use crate::costs::least_costs;
 use crate::fault::BestFault;
 use crate::layers::kept_layers;
 use crate::live::first_choice;
 use crate::multiplier::{least_multiplier, pick_sums};
 use crate::narrowed::narrow;
 use crate::outcome::Outcome;
-use rate_table::{FrameTable, Pair, least};
+use rate_table::{FrameTable, Pair, least, least_costs};
 use std::alloc::Global;
 
 /// The span to an error of too many pairs is halved so many times before the refusal stands.
