@@ -1,3 +1,4 @@
 pub mod SumLemmas
 pub mod PassLemmas
+pub mod HalfLemmas
 pub mod ShownLemmas

@@ -6,7 +6,7 @@ use Rattle.std.proofs.lemmas.Bool.{agree_below_at}
 use Rattle.std.proofs.lemmas.List.{get_or-map}
 use Rattle.std.proofs.lemmas.List.FromFn.{get_or-map-range_with_len, length-map-range_with_len, fill_by_all}
 use Rattle.pr_dct.specs.Transform.{total, cell, cosines, at, rounded, AreWithin, sample, samples}
-use Rattle.pr_dct.specs.Passes.{row_sum, row_sums}
+use Rattle.pr_dct.specs.Passes.{row_sum, row_sums, turned}
 use Rattle.pr_dct.proofs.SumLemmas.{total_same, by_rows, reach, total_within, rounded_within}
 
 -- the sum at row v and column y
@@ -55,10 +55,6 @@ passes table b =
     fill_by_all (pairs table b) (map rounded sums) 64 (pos 0) refl (λ p l.
     get_or-map rounded sums p (pos 0) (pos 0) (omega (arith, length-map-range_with_len f 0 64))
     ∙ ap rounded (get_or-map-range_with_len f 0 64 p p (pos 0) l (omega arith) ∙ two_passes table b p l))
-
--- the table with rows and columns exchanged
-abbrev pub turned : List (List ℤ)
-turned = map (λ k. map (λ n. cell cosines n k) (range_with_len 0 8)) (range_with_len 0 8)
 
 pub turned_cell : (k n : ℕ) → k < 8 → n < 8 → cell turned k n ≡ cell cosines n k
 turned_cell k n h l =

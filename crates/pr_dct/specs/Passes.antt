@@ -1,7 +1,7 @@
 -- One direction of a transform.
-use Rattle.std.specs.Prelude.{ℕ, ◌/◌, ◌%◌, ◌^◌, ◌<◌, ◌≤◌, List, map, ℤ, ◌*ℤ◌, nat_abs}
+use Rattle.std.specs.Prelude.{ℕ, ◌≡◌, ◌/◌, ◌%◌, ◌<◌, List, map, get_or, ℤ, pos, ◌*ℤ◌}
 use Rattle.std.specs.List.{range_with_len}
-use Rattle.pr_dct.specs.Transform.{total, cell, at}
+use Rattle.pr_dct.specs.Transform.{total, cosines, cell, at}
 
 -- row p % 8 of a block, weighed by row p / 8 of a table
 unfoldable pub row_sum : List (List ℤ) → List ℤ → ℕ → ℤ
@@ -11,6 +11,14 @@ row_sum table b p = total 8 (λ n. cell table (p / 8) n *ℤ at b (p % 8) n)
 abbrev pub row_sums : List (List ℤ) → List ℤ → List ℤ
 row_sums table b = map (row_sum table b) (range_with_len 0 64)
 
--- the numbers of a table of eight rows of eight are at most 2^14 in magnitude
-abbrev pub AreSmall : List (List ℤ) → Type 0
-AreSmall table = (k n : ℕ) → k < 8 → n < 8 → nat_abs (cell table k n) ≤ 2 ^ 14
+-- the table of cosines with rows and columns exchanged
+abbrev pub turned : List (List ℤ)
+turned = map (λ k. map (λ n. cell cosines n k) (range_with_len 0 8)) (range_with_len 0 8)
+
+-- the four numbers of a function at 0 to 3
+abbrev pub AreHalves : List ℤ → (ℕ → ℤ) → Type 0
+AreHalves halves f = (n : ℕ) → n < 4 → get_or halves n (pos 0) ≡ f n
+
+-- the sum at each place, where only the first number of a block is other than zero
+abbrev pub flat : ℤ → ℤ
+flat d = pos 11585 *ℤ (pos 11585 *ℤ d)

@@ -1,7 +1,7 @@
 -- From found layers to the first choice with the goal's pair.
-use Rattle.std.proofs.Common.{◌≡◌, ℕ, suc, ◌+◌, ◌-◌, ◌^◌, ◌<◌, ◌≤◌, List, [], ◌∷◌, ◌++◌, Vec, Global, length, map, get_or, drop, refl, sym, ap, ◌∙◌, subst, arith, ⊎_elim}
+use Rattle.std.proofs.Common.{◌≡◌, ℕ, suc, ◌+◌, ◌-◌, ◌^◌, ◌<◌, ◌≤◌, List, [], ◌∷◌, ◌++◌, Vec, Global, Bool, true, false, length, map, get_or, replicate, drop, refl, sym, ap, ◌∙◌, subst, arith, ⊎_elim}
 use Rattle.std.specs.List.{Contains}
-use Rattle.std.proofs.lemmas.List.{get_or_append_left, get_or_push, get_or-map, get_or_default, length_push, drop_all, map_push, append_assoc, append-nil}
+use Rattle.std.proofs.lemmas.List.{length-append, length-replicate, get_or_append_left, get_or_push, get_or-map, get_or_default, length_push, drop_all, map_push, append_assoc, append-nil}
 use Rattle.std.proofs.lemmas.Bool.{cases_lt}
 use Rattle.std.proofs.Math.Seq.{drop-cons}
 use Rattle.rate_table.specs.declared.entry.Entry.{Entry}
@@ -10,13 +10,14 @@ use Rattle.rate_table.specs.Table.{Table, IsChoice, Fits, size_of, error_of, pai
 use Rattle.rate_table.specs.Pairs.{joined}
 use Rattle.rate_layers.specs.First.{IsFirst, extended, IsFirstFrom, Leads}
 use Rattle.rate_layers.specs.Layers.{Reaches, Rises, IsFront, AreKept, pairs_in}
-use Rattle.rate_layers.specs.Live.{LeadsOn, IsFirstOn, LeadOn, LeadTo, AreFound, AreLives}
+use Rattle.rate_layers.specs.Live.{LeadsOn, IsFirstOn, LeadOn, LeadTo, marked, MarkedOn, MarkedTo, AreFound, AreMarked}
 use Rattle.rate_table.proofs.Lists.{contains_none}
 use Rattle.rate_layers.proofs.Fronts.{same_pair}
 use Rattle.rate_layers.proofs.Asked.{Stays, At, kept_test}
 use Rattle.rate_layers.proofs.Kept.{kept_front}
 use Rattle.rate_layers.proofs.Firsts.{IsOptimal, below_last, last_in, prefix_in, extended_cons, greedy_end}
 use Rattle.rate_layers.proofs.Leading.{AreLive, leads_next, live_step, walk_step, live_end, first_from_none}
+use Rattle.rate_layers.proofs.Marked.{marked_last}
 use Rattle.rate_layers.proofs.Produced.{whole}
 
 -- the pairs of each vector
@@ -27,21 +28,24 @@ items_of vs = map (λ v. v.items) vs
 pub element : (vs : List (Vec Pair Global)) (k : ℕ) (v : Vec Pair Global) (xs : List Pair) → k < length vs → v ≡ get_or vs k v → xs ≡ v.items → xs ≡ get_or (items_of vs) k []
 element vs k v xs n is e = e ∙ ap (λ (w : Vec Pair Global). w.items) is ∙ sym (get_or-map (λ (w : Vec Pair Global). w.items) vs k v [] n)
 
-pub items_push : (vs : List (Vec Pair Global)) (v : Vec Pair Global) → items_of (vs ++ v ∷ []) ≡ items_of vs ++ v.items ∷ []
-items_push vs v = map_push (λ (w : Vec Pair Global). w.items) vs v
+-- the marks of each vector
+abbrev pub marks_in : List (Vec Bool Global) → List (List Bool)
+marks_in vs = map (λ v. v.items) vs
+
+pub mark_element : (vs : List (Vec Bool Global)) (k : ℕ) (v : Vec Bool Global) (xs : List Bool) → k < length vs → v ≡ get_or vs k v → xs ≡ v.items → xs ≡ get_or (marks_in vs) k []
+mark_element vs k v xs n is e = e ∙ ap (λ (w : Vec Bool Global). w.items) is ∙ sym (get_or-map (λ (w : Vec Bool Global). w.items) vs k v [] n)
+
+pub marks_push : (vs : List (Vec Bool Global)) (v : Vec Bool Global) → marks_in (vs ++ v ∷ []) ≡ marks_in vs ++ v.items ∷ []
+marks_push vs v = map_push (λ (w : Vec Bool Global). w.items) vs v
 
 -- the entries of a slice, as an element of the table's
 pub entries_at : (t : Table) (slices : List (List Entry)) (k : ℕ) (s entries : List Entry) → slices ≡ t.slices → k < length t.slices → s ≡ get_or slices k s → entries ≡ s → entries ≡ get_or t.slices k []
 entries_at t slices k s entries same n is e = e ∙ is ∙ ap (λ l. get_or l k s) same ∙ get_or_default t.slices k s [] n
 
--- what lives of the layers from k on, the last layer's first
-pub record LivesFrom (t : Table) (goal : Pair) (layers lives : List (List Pair)) (k : ℕ) : Type 0 where
-  pub count : length lives + k ≡ suc (length t.slices)
-  pub each : (i j : ℕ) → i < length lives → i + j ≡ length t.slices → LeadTo (drop j t.slices) goal (get_or layers j []) (get_or lives i [])
-
-pub last_rises : (t : Table) (goal : Pair) (layers lives : List (List Pair)) (k : ℕ) (next : List Pair) → LivesFrom t goal layers lives k → k ≤ length t.slices → next ≡ get_or lives (length lives - 1) [] → Rises next
-last_rises t goal layers lives k next a n e =
-    subst Rises (sym e) (a.each (length lives - 1) k (omega (arith, a.count)) (omega (arith, a.count))).rises
+-- the marks of the layers from k on, the last layer's first
+pub record MarkedFrom (t : Table) (goal : Pair) (layers : List (List Pair)) (marks : List (List Bool)) (k : ℕ) : Type 0 where
+  pub count : length marks + k ≡ suc (length t.slices)
+  pub each : (i j : ℕ) → i < length marks → i + j ≡ length t.slices → MarkedTo (drop j t.slices) goal (get_or layers j []) (get_or marks i [])
 
 module _ (t : Table) (m u : ℕ) (goal : Pair) (layers : List (List Pair)) (found : AreFound t m u goal layers) where
   front_at : (k : ℕ) → k ≤ length t.slices → IsFront (At t (Stays t m u) k) (get_or layers k [])
@@ -72,12 +76,26 @@ module _ (t : Table) (m u : ℕ) (goal : Pair) (layers : List (List Pair)) (foun
 
   -- ---- from the last layer back
 
-  pub lead_end : LeadTo (drop (length t.slices) t.slices) goal (get_or layers (length t.slices) []) (goal ∷ [])
-  lead_end =
+  pub last_long : 0 < length (get_or layers (length t.slices) [])
+  last_long = omega (arith, ap length found.last.1, length-append found.last.0 (goal ∷ []))
+
+  -- the goal alone, in the last layer
+  pub lead_end : (marks : List Bool) → marks ≡ replicate (length (get_or layers (length t.slices) []) - 1) false ++ true ∷ [] → MarkedTo (drop (length t.slices) t.slices) goal (get_or layers (length t.slices) []) marks
+  lead_end marks is =
       let layer = get_or layers (length t.slices) [] in
-      let c : Contains layer goal = subst (λ l. Contains l goal) (sym found.last.1) (last_in found.last.0 goal) in
+      let front = found.last.0 in
+      let n = ap length found.last.1 in
+      let count : length layer - 1 ≡ length front = omega (arith, n, length-append front (goal ∷ [])) in
+      let is' : marks ≡ replicate (length front) false ++ true ∷ [] = is ∙ ap (λ k. replicate k false ++ true ∷ []) count in
+      let one : marked marks layer ≡ goal ∷ [] = ap (λ ms. marked ms layer) is' ∙ ap (λ l. marked (replicate (length front) false ++ true ∷ []) l) found.last.1 ∙ marked_last front goal in
+      let c : Contains layer goal = subst (λ l. Contains l goal) (sym found.last.1) (last_in front goal) in
       let a = live_end goal layer c in
-      subst (λ l. LeadTo l goal layer (goal ∷ [])) (sym (drop_all (length t.slices) t.slices (omega arith))) (record { rises = tt; some = a.some; all = a.all })
+      let l : LeadTo [] goal layer (goal ∷ []) = record { rises = tt; some = a.some; all = a.all } in
+      let l' = subst (λ y. LeadTo y goal layer (goal ∷ [])) (sym (drop_all (length t.slices) t.slices (omega arith))) l in
+      record {
+        count = omega (arith, ap length is', length-append (replicate (length front) false) (true ∷ []), length-replicate (length front) false, n, length-append front (goal ∷ []));
+        lead = subst (λ y. LeadTo (drop (length t.slices) t.slices) goal layer y) (sym one) l';
+      }
 
   as_live : (later : List (List Entry)) (layer live : List Pair) → LeadTo later goal layer live → AreLive later goal layer live
   as_live later layer live a = record { some = a.some; all = a.all }
@@ -88,52 +106,50 @@ module _ (t : Table) (m u : ℕ) (goal : Pair) (layers : List (List Pair)) (foun
       (front_at k (omega arith)) (front_at (suc k) n) (as_live _ _ live_next a) (λ p c. let s = on.some p c in (s.0, s.1.0, s.1.1, s.1.2)) (λ p c x i l. on.all p c (x, i, l)) in
       record { rises = on.rises; some = s.some; all = s.all }
 
-  pub lives_first : (lives : List (List Pair)) → lives ≡ (goal ∷ []) ∷ [] → LivesFrom t goal layers lives (length t.slices)
-  lives_first lives e =
+  pub marks_first : (marks : List (List Bool)) (last : List Bool) → marks ≡ last ∷ [] → last ≡ replicate (length (get_or layers (length t.slices) []) - 1) false ++ true ∷ [] → MarkedFrom t goal layers marks (length t.slices)
+  marks_first marks last e is =
       let n = ap length e in
       record {
         count = omega arith;
         each = λ i j l s.
             let z : 0 ≡ i = omega arith in
             let z' : length t.slices ≡ j = omega arith in
-            subst (λ i'. LeadTo (drop j t.slices) goal (get_or layers j []) (get_or lives i' [])) z
-            (subst (λ j'. LeadTo (drop j' t.slices) goal (get_or layers j' []) (get_or lives 0 [])) z'
-            (subst (λ ls. LeadTo (drop (length t.slices) t.slices) goal (get_or layers (length t.slices) []) (get_or ls 0 [])) (sym e) lead_end));
+            subst (λ i'. MarkedTo (drop j t.slices) goal (get_or layers j []) (get_or marks i' [])) z
+            (subst (λ j'. MarkedTo (drop j' t.slices) goal (get_or layers j' []) (get_or marks 0 [])) z'
+            (subst (λ ms. MarkedTo (drop (length t.slices) t.slices) goal (get_or layers (length t.slices) []) (get_or ms 0 [])) (sym e) (lead_end last is)));
       }
 
-  lives_grown : (lives : List (List Pair)) (k i : ℕ) (live : List Pair) → LivesFrom t goal layers lives (suc k) → suc i ≡ length lives → LeadOn (get_or t.slices k []) (get_or lives i []) (get_or layers k []) live → LivesFrom t goal layers (lives ++ live ∷ []) k
-  lives_grown lives k i live a e on =
-      let n : k < length t.slices = omega (arith, a.count) in
-      let before = a.each i (suc k) (omega arith) (omega (arith, a.count)) in
-      let b = lead_back k (get_or lives i []) live n before on in
+  -- the marks of the next layer, as the step before has them
+  pub marks_last : (marks : List (List Bool)) (k : ℕ) → k < length t.slices → MarkedFrom t goal layers marks (suc k) → MarkedTo (drop (suc k) t.slices) goal (get_or layers (suc k) []) (get_or marks (length marks - 1) [])
+  marks_last marks k n a = a.each (length marks - 1) (suc k) (omega (arith, a.count)) (omega (arith, a.count))
+
+  pub marks_more : (marks : List (List Bool)) (k : ℕ) (slice : List Entry) (next layer : List Pair) (next_marks before : List Bool) → MarkedFrom t goal layers marks (suc k) → k < length t.slices → slice ≡ get_or t.slices k [] → next ≡ get_or layers (suc k) [] → next_marks ≡ get_or marks (length marks - 1) [] → layer ≡ get_or layers k [] → MarkedOn slice next next_marks layer before → MarkedFrom t goal layers (marks ++ before ∷ []) k
+  marks_more marks k slice next layer next_marks before a n es en em el on =
+      let on1 = subst (λ y. MarkedOn y next next_marks layer before) es on in
+      let on2 = subst (λ y. MarkedOn (get_or t.slices k []) y next_marks layer before) en on1 in
+      let on3 = subst (λ y. MarkedOn (get_or t.slices k []) (get_or layers (suc k) []) y layer before) em on2 in
+      let on4 = subst (λ y. MarkedOn (get_or t.slices k []) (get_or layers (suc k) []) (get_or marks (length marks - 1) []) y before) el on3 in
+      let next_live = marked (get_or marks (length marks - 1) []) (get_or layers (suc k) []) in
+      let l = lead_back k next_live (marked before (get_or layers k [])) n (marks_last marks k n a).lead on4.lead in
+      let b : MarkedTo (drop k t.slices) goal (get_or layers k []) before = record { count = on4.count; lead = l } in
       record {
-        count = omega (arith, a.count, length_push lives live);
+        count = omega (arith, a.count, length_push marks before);
         each = λ x y l s. ⊎_elim
-            (λ h. subst (λ v. LeadTo (drop y t.slices) goal (get_or layers y []) v) (sym (get_or_append_left lives (live ∷ []) [] x h)) (a.each x y h s))
-            (λ h. let x' : length lives ≡ x = omega (arith, length_push lives live) in
+            (λ h. subst (λ v. MarkedTo (drop y t.slices) goal (get_or layers y []) v) (sym (get_or_append_left marks (before ∷ []) [] x h)) (a.each x y h s))
+            (λ h. let x' : length marks ≡ x = omega (arith, length_push marks before) in
             let y' : k ≡ y = omega (arith, a.count) in
-            subst (λ v. LeadTo (drop y t.slices) goal (get_or layers y []) v) (sym (get_or_push lives live [] x x'))
-            (subst (λ j. LeadTo (drop j t.slices) goal (get_or layers j []) live) y' b))
-            (cases_lt x (length lives));
+            subst (λ v. MarkedTo (drop y t.slices) goal (get_or layers y []) v) (sym (get_or_push marks before [] x x'))
+            (subst (λ j. MarkedTo (drop j t.slices) goal (get_or layers j []) before) y' b))
+            (cases_lt x (length marks));
       }
-
-  pub lives_more : (lives : List (List Pair)) (k : ℕ) (slice : List Entry) (next layer live : List Pair) → LivesFrom t goal layers lives k → 0 < k → k ≤ length t.slices → slice ≡ get_or t.slices (k - 1) [] → next ≡ get_or lives (length lives - 1) [] → layer ≡ get_or layers (k - 1) [] → LeadOn slice next layer live → LivesFrom t goal layers (lives ++ live ∷ []) (k - 1)
-  lives_more lives k slice next layer live a z b es en el on =
-      let e : k ≡ suc (k - 1) = omega arith in
-      let e' : suc (length lives - 1) ≡ length lives = omega (arith, a.count, z, b) in
-      let on1 = subst (λ y. LeadOn y next layer live) es on in
-      let on2 = subst (λ y. LeadOn (get_or t.slices (k - 1) []) y layer live) en on1 in
-      let on3 = subst (λ y. LeadOn (get_or t.slices (k - 1) []) (get_or lives (length lives - 1) []) y live) el on2 in
-      lives_grown lives (k - 1) (length lives - 1) live (subst (λ j. LivesFrom t goal layers lives j) e a) e' on3
 
   pub layer_rises : (k : ℕ) → k ≤ length t.slices → Rises (get_or layers k [])
   layer_rises k l = (found.kept.1 k l).2
 
-  pub lives_end : (lives : List (List Pair)) (k : ℕ) → k ≤ 0 → LivesFrom t goal layers lives k → AreLives t goal lives
-  lives_end lives k z a = record {
+  pub marks_end : (marks : List (List Bool)) (k : ℕ) → k ≤ 0 → MarkedFrom t goal layers marks k → AreMarked t goal layers marks
+  marks_end marks k z a = record {
     multiplier = m;
     error = u;
-    layers = layers;
     found = found;
     count = omega (arith, a.count);
     each = λ i j s. a.each i j (omega (arith, a.count)) s;
@@ -177,46 +193,46 @@ module _ (t : Table) (m u : ℕ) (goal : Pair) (layers : List (List Pair)) (foun
 -- ---- the walk
 
 -- where the walk stands after k slices
-pub record Walking (t : Table) (goal : Pair) (lives : List (List Pair)) (k : ℕ) (p : Pair) (chosen : List ℕ) : Type 0 where
+pub record Walking (t : Table) (goal : Pair) (layers : List (List Pair)) (marks : List (List Bool)) (k : ℕ) (p : Pair) (chosen : List ℕ) : Type 0 where
   pub taken : List Entry
   pub has : chosen ≡ indices taken
-  pub live : (i : ℕ) → i + k ≡ length t.slices → Contains (get_or lives i []) p
+  pub live : (i : ℕ) → i + k ≡ length t.slices → Contains (marked (get_or marks i []) (get_or layers k [])) p
   pub goes : (d : List Entry) → IsFirstFrom (drop k t.slices) p goal d → IsFirstFrom t.slices (record { size = 0; error = 0 }) goal (taken ++ d)
 
-module _ (t : Table) (goal : Pair) (lives : List (List Pair)) (a : AreLives t goal lives) where
-  pub walk_first : (chosen : List ℕ) → chosen ≡ [] → Walking t goal lives 0 (record { size = 0; error = 0 }) chosen
+module _ (t : Table) (goal : Pair) (layers : List (List Pair)) (marks : List (List Bool)) (a : AreMarked t goal layers marks) where
+  pub walk_first : (chosen : List ℕ) → chosen ≡ [] → Walking t goal layers marks 0 (record { size = 0; error = 0 }) chosen
   walk_first chosen e = record {
     taken = [];
     has = e;
-    live = λ i s. (a.each i 0 s).all (record { size = 0; error = 0 }) (none_first t a.multiplier a.error goal a.layers a.found) (none_leads t a.multiplier a.error goal a.layers a.found);
+    live = λ i s. (a.each i 0 s).lead.all (record { size = 0; error = 0 }) (none_first t a.multiplier a.error goal layers a.found) (none_leads t a.multiplier a.error goal layers a.found);
     goes = λ d w. w;
   }
 
-  pub walk_on : (k i : ℕ) (p : Pair) (chosen : List ℕ) → suc i + k ≡ length t.slices → Walking t goal lives k p chosen → LeadsOn (get_or t.slices k []) (get_or lives i []) p
+  pub walk_on : (k i : ℕ) (p : Pair) (chosen : List ℕ) → suc i + k ≡ length t.slices → Walking t goal layers marks k p chosen → LeadsOn (get_or t.slices k []) (marked (get_or marks i []) (get_or layers (suc k) [])) p
   walk_on k i p chosen s w =
-      live_on t a.multiplier a.error goal a.layers a.found k (get_or lives (suc i) []) (get_or lives i []) p (omega arith) (a.each (suc i) k s) (a.each i (suc k) (omega arith)) (w.live (suc i) s)
+      live_on t a.multiplier a.error goal layers a.found k (marked (get_or marks (suc i) []) (get_or layers k [])) (marked (get_or marks i []) (get_or layers (suc k) [])) p (omega arith) (a.each (suc i) k s).lead (a.each i (suc k) (omega arith)).lead (w.live (suc i) s)
 
-  pub walk_more : (k i : ℕ) (p : Pair) (x : Entry) (chosen : List ℕ) → suc i + k ≡ length t.slices → IndicesRise (get_or t.slices k []) → Walking t goal lives k p chosen → IsFirstOn (get_or t.slices k []) (get_or lives i []) p x → Walking t goal lives (suc k) (joined p x) (chosen ++ x.index ∷ [])
+  pub walk_more : (k i : ℕ) (p : Pair) (x : Entry) (chosen : List ℕ) → suc i + k ≡ length t.slices → IndicesRise (get_or t.slices k []) → Walking t goal layers marks k p chosen → IsFirstOn (get_or t.slices k []) (marked (get_or marks i []) (get_or layers (suc k) [])) p x → Walking t goal layers marks (suc k) (joined p x) (chosen ++ x.index ∷ [])
   walk_more k i p x chosen s rise w f = record {
     taken = w.taken ++ x ∷ [];
     has = ap (λ l. l ++ x.index ∷ []) w.has ∙ sym (map_push (λ (y : Entry). y.index) w.taken x);
-    live = λ j e. let e' : i ≡ j = omega arith in subst (λ j'. Contains (get_or lives j' []) (joined p x)) e' f.leads;
+    live = λ j e. let e' : i ≡ j = omega arith in subst (λ j'. Contains (marked (get_or marks j' []) (get_or layers (suc k) [])) (joined p x)) e' f.leads;
     goes = λ d h.
-        let step = first_step t a.multiplier a.error goal a.layers a.found k (get_or lives (suc i) []) (get_or lives i []) p x d (omega arith) (a.each (suc i) k s) (a.each i (suc k) (omega arith)) (w.live (suc i) s) rise f h in
+        let step = first_step t a.multiplier a.error goal layers a.found k (marked (get_or marks (suc i) []) (get_or layers k [])) (marked (get_or marks i []) (get_or layers (suc k) [])) p x d (omega arith) (a.each (suc i) k s).lead (a.each i (suc k) (omega arith)).lead (w.live (suc i) s) rise f h in
         subst (λ l. IsFirstFrom t.slices (record { size = 0; error = 0 }) goal l) (sym (append_assoc w.taken (x ∷ []) d)) (w.goes (x ∷ d) step);
   }
 
-  -- live pairs are no greater than the goal
-  pub walk_small : (i k : ℕ) (p : Pair) → i + k ≡ length t.slices → Contains (get_or lives i []) p → (p.size ≤ goal.size) × (p.error ≤ goal.error)
+  -- marked pairs are no greater than the goal
+  pub walk_small : (i k : ℕ) (p : Pair) → i + k ≡ length t.slices → Contains (marked (get_or marks i []) (get_or layers k [])) p → (p.size ≤ goal.size) × (p.error ≤ goal.error)
   walk_small i k p s c =
-      let l = ((a.each i k s).some p c).1 in
+      let l = ((a.each i k s).lead.some p c).1 in
       let es : p.size + size_of l.0 ≡ goal.size = ap (λ (q : Pair). q.size) l.2 in
       let ee : p.error + error_of l.0 ≡ goal.error = ap (λ (q : Pair). q.error) l.2 in
       (omega arith, omega arith)
 
-  pub walk_end : (k : ℕ) (p : Pair) (chosen : List ℕ) → k ≡ length t.slices → Walking t goal lives k p chosen → (c : List Entry) × IsFirst t.slices goal c × (chosen ≡ indices c)
+  pub walk_end : (k : ℕ) (p : Pair) (chosen : List ℕ) → k ≡ length t.slices → Walking t goal layers marks k p chosen → (c : List Entry) × IsFirst t.slices goal c × (chosen ≡ indices c)
   walk_end k p chosen e w =
-      let l = ((a.each 0 k (omega arith)).some p (w.live 0 (omega arith))).1 in
+      let l = ((a.each 0 k (omega arith)).lead.some p (w.live 0 (omega arith))).1 in
       let none : drop k t.slices ≡ [] = drop_all k t.slices (omega arith) in
       let here = subst (λ y. Leads y p goal) none l in
       let is : p ≡ goal = stays p here in

@@ -18,3 +18,5 @@ pub mod Lessened
 pub mod Refused
 pub mod Concluded
 pub mod Thinning
+pub mod Passings
+pub mod Marked

@@ -1,5 +1,5 @@
 -- The steps of the walk to the first choice that reaches a pair.
-use Rattle.std.specs.Prelude.{◌≡◌, ℕ, suc, ◌+◌, ◌≤◌, ◌^◌, List, [], ◌∷◌, ◌++◌, length, drop, slice_index_or}
+use Rattle.std.specs.Prelude.{◌≡◌, ℕ, suc, ◌+◌, ◌<◌, ◌≤◌, ◌^◌, ◌↔◌, ◌⊎◌, Bool, true, false, cond, List, [], ◌∷◌, ◌++◌, length, drop, slice_index_or}
 use Rattle.std.specs.List.{Contains}
 use Rattle.rate_table.specs.declared.entry.Entry.{Entry}
 use Rattle.rate_table.specs.declared.entry.Pair.{Pair}
@@ -8,11 +8,9 @@ use Rattle.rate_table.specs.Pairs.{joined}
 use Rattle.rate_layers.specs.First.{Leads}
 use Rattle.rate_layers.specs.Layers.{Rises, AreKept, pairs_in}
 
--- the pair of least size, of these whose size isn't below
-pub record IsFirstFromSize (pairs : List Pair) (size : ℕ) (q : Pair) : Type 0 where
-  pub has : Contains pairs q
-  pub from : size ≤ q.size
-  pub least : (r : Pair) → Contains pairs r → size ≤ r.size → q.size ≤ r.size
+-- The pair stands at this place.
+abbrev pub StandsAt : List Pair → Pair → ℕ → Type 0
+StandsAt pairs p at = (at < length pairs) × (slice_index_or pairs at p ≡ p)
 
 -- An entry of the slice leads from p to one of these pairs.
 abbrev pub LeadsOn : List Entry → List Pair → Pair → Type 0
@@ -43,11 +41,37 @@ pub record AreFound (t : Table) (m u : ℕ) (goal : Pair) (layers : List (List P
   pub some : (c : List Entry) × IsChoice t.slices c × Fits t c × (error_of c ≤ u)
   pub last : (front : List Pair) × (slice_index_or layers (length t.slices) [] ≡ front ++ goal ∷ [])
 
--- The pairs of found layers from which a choice leads to the goal, the last layer's first.
-pub record AreLives (t : Table) (goal : Pair) (lives : List (List Pair)) : Type 0 where
+-- ---- marks
+
+-- the pairs of a layer that have a mark
+abbrev pub marked : List Bool → List Pair → List Pair
+marked [] layer = []
+marked (m ∷ marks) [] = []
+marked (m ∷ marks) (p ∷ layer) = cond m (p ∷ marked marks layer) (marked marks layer)
+
+-- The entry leads to q from the pair at this place.
+abbrev pub LeadsAt : List Pair → Entry → Pair → ℕ → Type 0
+LeadsAt layer x q at = (at < length layer) × ((d : Pair) → joined (slice_index_or layer at d) x ≡ q)
+
+-- Beside those that had a mark, the pairs of a layer have one from which an entry of the slice leads to q.
+pub record MarkedMore (slice : List Entry) (q : Pair) (layer : List Pair) (old new : List Bool) : Type 0 where
+  pub each : (i : ℕ) (d : Pair) → i < length layer
+      → (slice_index_or new i false ≡ true) ↔ ((slice_index_or old i false ≡ true) ⊎ ((x : Entry) × Contains slice x × (joined (slice_index_or layer i d) x ≡ q)))
+
+-- a mark for each pair of a layer: those have one from which an entry of the slice leads to a marked pair of the next
+pub record MarkedOn (slice : List Entry) (next : List Pair) (next_marks : List Bool) (layer : List Pair) (marks : List Bool) : Type 0 where
+  pub count : length marks ≡ length layer
+  pub lead : LeadOn slice (marked next_marks next) layer (marked marks layer)
+
+-- a mark for each pair of a layer: those have one from which a choice of the later slices leads to the goal
+pub record MarkedTo (later : List (List Entry)) (goal : Pair) (layer : List Pair) (marks : List Bool) : Type 0 where
+  pub count : length marks ≡ length layer
+  pub lead : LeadTo later goal layer (marked marks layer)
+
+-- the marks of found layers, the last layer's first
+pub record AreMarked (t : Table) (goal : Pair) (layers : List (List Pair)) (marks : List (List Bool)) : Type 0 where
   pub multiplier : ℕ
   pub error : ℕ
-  pub layers : List (List Pair)
   pub found : AreFound t multiplier error goal layers
-  pub count : length lives ≡ suc (length t.slices)
-  pub each : (i k : ℕ) → i + k ≡ length t.slices → LeadTo (drop k t.slices) goal (slice_index_or layers k []) (slice_index_or lives i [])
+  pub count : length marks ≡ suc (length t.slices)
+  pub each : (i k : ℕ) → i + k ≡ length t.slices → MarkedTo (drop k t.slices) goal (slice_index_or layers k []) (slice_index_or marks i [])

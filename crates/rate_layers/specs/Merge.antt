@@ -1,5 +1,5 @@
 -- What the steps of a merge keep.
-use Rattle.std.specs.Prelude.{◌≡◌, ◌≤◌, List, ◌⊎◌, Option, Some, None}
+use Rattle.std.specs.Prelude.{◌≡◌, ℕ, ◌+◌, ◌*◌, ◌≤◌, List, ◌⊎◌, Option, Some, None}
 use Rattle.std.specs.List.{Contains}
 use Rattle.rate_table.specs.declared.entry.Entry.{Entry}
 use Rattle.rate_table.specs.declared.entry.Pair.{Pair}
@@ -47,3 +47,12 @@ pub record Merging (b : Bound) (x : Entry) (done left layer_done layer_left out 
 pub record Thinned (slice few : List Entry) : Type 0 where
   pub only : (x : Entry) → Contains few x → Contains slice x
   pub covers : (x : Entry) → Contains slice x → (y : Entry) × Contains few y × (y.size ≤ x.size) × (y.error ≤ x.error)
+
+-- Each pair of the layer costs so much at least.
+pub record IsFloor (m : ℕ) (layer : List Pair) (floor : ℕ) : Type 0 where
+  pub least : (p : Pair) → Contains layer p → floor ≤ p.error + m * p.size
+
+-- some of a slice's entries, with each that a pair of the layer stays within the bound with
+pub record Passing (b : Bound) (layer : List Pair) (slice few : List Entry) : Type 0 where
+  pub only : (x : Entry) → Contains few x → Contains slice x
+  pub all : (x : Entry) (p : Pair) → Contains slice x → Contains layer p → IsWithin b (joined p x) → Contains few x

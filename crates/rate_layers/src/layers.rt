@@ -7,10 +7,9 @@ ghost use Rattle.rate_layers.specs.Layers.{IsFront, AreKept, pairs_in};
 ghost use Rattle.rate_layers.specs.Bound.{HasRoom, IsWithin};
 
 use crate::bound::{Bound, bound_of, is_within};
-use crate::costs::{least_cost, least_costs, least_size};
 use crate::fault::BestFault;
 use crate::merge::{Work, next_layer};
-use rate_table::{FrameTable, Pair, least};
+use rate_table::{FrameTable, Pair, least, least_cost, least_costs, least_size};
 use std::alloc::{AllocError, Global};
 
 /// Layers may number so many pairs.
@@ -58,8 +57,8 @@ fn put_layer(
 }
 
 /// The layers that a multiplier and an error keep: after each number of slices the pairs that no other dominates,
-/// of those that can still fit and stay within the bound, by rising size. They take 16 bytes a pair, and the layer
-/// at work twice as much.
+/// of those that can still fit and stay within the bound, by rising size. They take 16 bytes a pair, and the two
+/// vectors of the layer at work up to 32 bytes for each pair of the longest half-merged layer.
 ///
 /// The errors are `LayersFull` where finished layers number more than 2^25 pairs, and `NoMemory`.
 pub fn kept_layers(

@@ -2,21 +2,22 @@
 #![tactic(auto)]
 
 mod bound;
-mod costs;
 mod fault;
 mod laws;
 mod layers;
 mod live;
+mod marks;
 mod merge;
 mod multiplier;
 mod narrowed;
 mod outcome;
+mod passing;
+mod places;
 mod search;
 #[cfg(test)]
 mod tests;
 mod thin;
 
-pub use costs::least_costs;
 pub use fault::BestFault;
 pub use laws::{
     best_of_full, best_of_kept, full_exists, full_is_good, full_is_merged, full_is_narrow,

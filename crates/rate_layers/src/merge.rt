@@ -11,6 +11,7 @@ ghost use Rattle.rate_layers.specs.Bound.{HasRoom, IsWithin, IsSmall, IsNext};
 ghost use Rattle.rate_layers.specs.Merge.{IsBehind, AreBehind, Offered, Passes, JoinsIf, Merged, Merging};
 
 use crate::bound::{Bound, is_within};
+use crate::passing::passing;
 use crate::thin::thin;
 use rate_table::{Entry, Pair};
 use std::alloc::{AllocError, Global};
@@ -137,7 +138,13 @@ pub struct Work {
 }
 
 impl Work {
-    pub fn new(alloc: Global) -> Work {
+    /// Nothing yet, with no memory.
+    pub fn new(alloc: Global) -> Work
+        ensures next { result.next.items ≡ [] }
+        ensures spare { result.spare.items ≡ [] }
+        ensures few { result.few.items ≡ [] }
+        ensures fewer { result.fewer.items ≡ [] }
+    {
         Work {
             next: Vec::new(alloc),
             spare: Vec::new(alloc),
@@ -161,12 +168,12 @@ pub fn next_layer(
     requires entries { All IsEntry slice.now }
     ensures { OnOk result (IsNext bound.now layer.now slice.now work.new.next.items) }
 {
+    passing(&mut work.few, bound, layer, slice)?;
     // Entries are compared with each other where that is less work than to merge them.
-    if layer.len() < slice.len() {
-        return merge_all(&mut work.next, &mut work.spare, bound, layer, slice);
+    if work.few.len() <= layer.len() {
+        thin(&mut work.fewer, &work.few)?;
+        thin(&mut work.few, &work.fewer)?;
     }
-    thin(&mut work.few, slice)?;
-    thin(&mut work.fewer, &work.few)?;
-    merge_all(&mut work.next, &mut work.spare, bound, layer, &work.fewer)?;
+    merge_all(&mut work.next, &mut work.spare, bound, layer, &work.few)?;
     Ok(())
 }

@@ -6,8 +6,7 @@ ghost use Rattle.rate_table.specs.declared.entry.Entry.{Entry};
 ghost use Rattle.rate_table.specs.Table.{IsSlice, IsChoice, Fits, HasNoFit, size_of, error_of};
 ghost use Rattle.rate_layers.specs.Multiplier.{IsPick, ArePicks, PicksFit, IsMultiplier, Wins};
 
-use crate::costs::cost_of;
-use rate_table::{Entry, FrameTable, SliceTable, least};
+use rate_table::{Entry, FrameTable, SliceTable, cost_of, least};
 
 /// Whether one entry is taken rather than another, or is the other.
 fn is_better(a: &Entry, b: &Entry, multiplier: u64) -> bool

@@ -5,14 +5,14 @@ ghost use Rattle.std.specs.List.{filter};
 ghost use Rattle.rate_layers.specs.Live.{AreFound};
 
 use crate::bound::{Bound, bound_of, is_within};
-use crate::costs::{least_cost, least_costs};
-use rate_table::{FrameTable, Pair};
+use rate_table::{FrameTable, Pair, least_cost, least_costs};
 
-/// Leaves the pairs of a layer that stay within a bound.
+/// Leaves the pairs of a layer that stay within a bound, and gives back the room of the others.
 fn keep_within(layer: &mut Vec<Pair>, bound: &Bound)
     ensures { layer.new.items ≡ filter (λ p. nat_lt (p.error + bound.now.multiplier * p.size) bound.now.ceiling) layer.old.items }
 {
     layer.retain(|p| is_within(bound, u64::from(p.size), p.error));
+    layer.shrink_to_fit();
 }
 
 /// Leaves the pairs of found layers that the goal's own error keeps. The goal stays. No memory is taken.

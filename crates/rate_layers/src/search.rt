@@ -15,15 +15,17 @@ ghost use Rattle.rate_layers.specs.Best.{OnFits, OnNone, TellsBest, TellsLayers,
 #[cfg(test)]
 mod tests;
 
-use crate::costs::least_costs;
 use crate::fault::BestFault;
 use crate::layers::kept_layers;
 use crate::live::first_choice;
 use crate::multiplier::{least_multiplier, pick_sums};
 use crate::narrowed::narrow;
 use crate::outcome::Outcome;
-use rate_table::{FrameTable, Pair, least};
+use rate_table::{FrameTable, Pair, least, least_costs};
 use std::alloc::Global;
+
+/// The span to an error of too many pairs is halved so many times before the refusal stands.
+const HALVINGS: usize = 8;
 
 /// Layers, and the pair of the best choice, which is the last one of the last layer.
 #[derive(Drop)]
@@ -61,6 +63,57 @@ fn found_within(
     }
 }
 
+/// The layers of a smaller error, where this one's are too many: from an error up to which all were too small, the span
+/// to this one is halved some times.
+fn found_by_halving(
+    alloc: Global,
+    table: &FrameTable,
+    multiplier: u64,
+    low: u64,
+    full: u64,
+) -> Result<Found, BestFault>
+    ensures { IfOk result (λ f. (u : ℕ) × AreFound table.now multiplier u f.goal (map (λ l. l.items) f.layers.items)) }
+{
+    let mut low = low.min(full);
+    let mut full = full;
+    'halving: for _ in 0..HALVINGS {
+        if low == full {
+            return Err(BestFault::LayersFull);
+        }
+        let middle = low + (full - low) / 2;
+        match found_within(alloc, table, multiplier, middle) {
+            Ok(Some(found)) => return Ok(found),
+            Ok(None) => low = middle + 1,
+            Err(BestFault::LayersFull) => full = middle,
+            Err(BestFault::NoMemory) => return Err(BestFault::NoMemory),
+        }
+    }
+    Err(BestFault::LayersFull)
+}
+
+/// The layers that this error keeps, if a fitting choice has no more; where they are too many, those of a smaller
+/// error, down to `low`, below which all were too small.
+fn found_up_to(
+    alloc: Global,
+    table: &FrameTable,
+    multiplier: u64,
+    low: u64,
+    error: u64,
+) -> Result<Option<Found>, BestFault>
+    ensures some { IfOk result (λ o. IfSome o (λ f. (u : ℕ) × AreFound table.now multiplier u f.goal (map (λ l. l.items) f.layers.items))) }
+    ensures none { IfOk result (λ o. IfNone o ((c : List Entry) → IsChoice table.now.slices c → Fits table.now c → error < error_of c)) }
+    ensures full { IfErr result (λ e. e ≡ LayersFull → (layers : List (List Pair)) → AreKept table.now multiplier error layers → 2 ^ 25 < pairs_in layers) }
+{
+    match found_within(alloc, table, multiplier, error) {
+        Ok(found) => Ok(found),
+        Err(BestFault::LayersFull) => {
+            let found = found_by_halving(alloc, table, multiplier, low, error)?;
+            Ok(Some(found))
+        }
+        Err(BestFault::NoMemory) => Err(BestFault::NoMemory),
+    }
+}
+
 /// No fitting choice has less error. It is 0 where the costs of the budget are above all others.
 fn lower_bound(table: &FrameTable, multiplier: u64) -> u128
     ensures { result ≡ (rest multiplier table.now.slices + multiplier * table.now.fixed) - multiplier * table.now.budget }
@@ -82,7 +135,7 @@ fn between(low: u64, most: u64, part: u64) -> u64
 
 /// The layers that some error keeps that a fitting choice has. Small errors are tried first: from a lower bound of all
 /// errors a 4,096th of the way to the error of the multiplier's picks, then four times as far, up to that error, which
-/// a fitting choice has.
+/// a fitting choice has. None is tried twice.
 fn find(alloc: Global, table: &FrameTable, multiplier: u64) -> Result<Found, BestFault>
     requires { IsMultiplier table.now multiplier }
     ensures found { IfOk result (λ f. (u : ℕ) × AreFound table.now multiplier u f.goal (map (λ l. l.items) f.layers.items)) }
@@ -90,13 +143,17 @@ fn find(alloc: Global, table: &FrameTable, multiplier: u64) -> Result<Found, Bes
 {
     let most = pick_sums(table, multiplier).1;
     let low = lower_bound(table, multiplier).min(u128::from(most)) as u64;
+    let mut untried = low;
     for part in [4096, 1024, 256, 64, 16, 4] {
         let error = between(low, most, part);
-        if let Some(found) = found_within(alloc, table, multiplier, error)? {
-            return Ok(found);
+        if untried <= error {
+            if let Some(found) = found_up_to(alloc, table, multiplier, untried, error)? {
+                return Ok(found);
+            }
+            untried = error + 1;
         }
     }
-    match found_within(alloc, table, multiplier, most)? {
+    match found_up_to(alloc, table, multiplier, untried, most)? {
         Some(found) => Ok(found),
         None => unreachable!(),
     }
@@ -128,7 +185,9 @@ fn best_fit(alloc: Global, table: &FrameTable) -> Result<Outcome, BestFault>
 
 /// The best choice of a table: the fitting one of least error, then of least size, then the first in the order of
 /// index lists; with the layers and the multiplier that show that none has less error. `None` where no choice fits.
-/// The layers take 16 bytes a pair, and the layer at work twice as much.
+/// The layers take 16 bytes a pair, those that are returned no more. While it searches it holds at most 2^25 pairs of
+/// finished layers, with two vectors for the layer at work, of up to 32 bytes for each pair of the longest half-merged
+/// layer; while the choice is found, a mark of one byte for each pair beside the layers.
 ///
 /// The errors are `LayersFull` where the layers number more than 2^25 pairs, and `NoMemory`.
 pub fn best(alloc: Global, table: &FrameTable) -> Result<Outcome, BestFault>

@@ -1,6 +1,6 @@
-use crate::{BestFault, fitting_multiplier, kept_layers, least_costs, pick_sums};
+use crate::{BestFault, fitting_multiplier, kept_layers, pick_sums};
 use pw_outside::MemSource;
-use rate_table::{FrameTable, Pair, SliceTable, read_file};
+use rate_table::{FrameTable, Pair, SliceTable, least_costs, read_file};
 use std::alloc::{AllocError, Global};
 use std::process::Abort;
 
