@@ -1,5 +1,5 @@
 -- Writing values one by one.
-use Rattle.std.proofs.Common.{◌≡◌, ℕ, zero, suc, ◌+◌, ◌-◌, ◌%◌, ◌<◌, ◌≤◌, inl, inr, Bool, List, [], ◌∷◌, ◌++◌, length, take, take_at, drop, get_or, replicate, Result, Ok, Err, OnErr, refl, ap, sym, ◌∙◌, subst, arith, append_assoc, append-nil}
+use Rattle.std.proofs.Common.{◌≡◌, ℕ, zero, suc, ◌+◌, ◌-◌, ◌%◌, ◌<◌, inl, inr, Bool, List, [], ◌∷◌, ◌++◌, length, take, take_at, drop, get_or, replicate, Result, Ok, Err, OnErr, refl, ap, sym, ◌∙◌, subst, arith, append_assoc, append-nil}
 use Rattle.std.proofs.lemmas.Bool.{cases_eq, ne_eqb, eq-eqb}
 use Rattle.std.proofs.lemmas.List.{take_all, drop_more, take-append-drop, length-drop}
 use Rattle.std.specs.Io.KnownBytes.{Appends}

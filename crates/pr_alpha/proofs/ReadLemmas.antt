@@ -1,9 +1,9 @@
 -- What a reader's steps say of the bits at the front.
-use Rattle.std.proofs.Common.{◌≡◌, ℕ, zero, suc, ◌+◌, ◌-◌, ◌^◌, ◌<◌, ◌≤◌, Bool, true, false, List, [], ◌∷◌, ◌++◌, length, take, drop, get_or, replicate, Result, Ok, Err, refl, ap, sym, ◌∙◌, subst, arith, append_assoc, append-nil, length-append}
-use Rattle.std.proofs.lemmas.Bool.{cases_lt, lt-ltb, le-ltb, ne_eqb}
-use Rattle.std.proofs.lemmas.List.{take_at, length-replicate, length-take-le}
+use Rattle.std.proofs.Common.{◌≡◌, ℕ, zero, suc, ◌+◌, ◌-◌, ◌^◌, ◌<◌, ◌≤◌, Bool, true, false, List, [], ◌∷◌, ◌++◌, length, take, drop, replicate, Result, Ok, Err, refl, ap, sym, ◌∙◌, subst, arith, append_assoc, append-nil, length-append}
+use Rattle.std.proofs.lemmas.Bool.{lt-ltb, le-ltb, ne_eqb}
+use Rattle.std.proofs.lemmas.List.{take_at, length-replicate}
 use Rattle.std.specs.Prelude.{OnOk, IfErr, IfOk}
-use Rattle.pr_alpha.specs.Alpha.{greatest, moved, AreBelow, Stands}
+use Rattle.pr_alpha.specs.Alpha.{greatest, moved, AreBelow}
 use Rattle.pr_alpha.specs.Reading.{Fault, wanting, past, ◌>>=◌, number_at, size_behind, moved_by, numbered, value_behind, brief_then, run_at, Found, run_then, value_then, step_behind, step_at, with_found, values_at, alpha_at}
 use Rattle.pr_alpha.specs.Calls.{IsFault, IsEnd}
 use Rattle.pr_alpha.specs.declared.read.AlphaFault.{AlphaFault}

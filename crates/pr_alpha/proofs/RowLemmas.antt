@@ -1,8 +1,8 @@
 -- The one spelling of values, row by row.
-use Rattle.std.proofs.Common.{◌≡◌, ℕ, zero, suc, ◌+◌, ◌-◌, ◌*◌, ◌%◌, ◌^◌, ◌<◌, ◌≤◌, ◌⊎◌, ◌&&◌, inl, inr, Bool, true, false, cond, eqb, ltb, leb, List, [], ◌∷◌, ◌++◌, length, replicate, get_or, refl, ap, sym, ◌∙◌, subst, arith, append_assoc, append-nil, length-append, IsTrue}
-use Rattle.std.proofs.lemmas.Bool.{cases_lt, cases_eq, cases_Bool, or_cases, and_parts, and_left, and_right, ltb-true, ltb-false, leb-true, leb-false, le-leb, lt-leb, ne_eqb, eq-eqb, eqb-true, eqb-false, lt-ltb, le-ltb}
+use Rattle.std.proofs.Common.{◌≡◌, ℕ, suc, ◌+◌, ◌-◌, ◌*◌, ◌%◌, ◌^◌, ◌<◌, ◌≤◌, ◌⊎◌, ◌&&◌, inl, inr, Bool, true, false, cond, eqb, ltb, leb, List, [], ◌∷◌, ◌++◌, length, replicate, refl, ap, sym, ◌∙◌, subst, arith, append_assoc, length-append, IsTrue}
+use Rattle.std.proofs.lemmas.Bool.{cases_lt, cases_eq, cases_Bool, or_cases, and_parts, and_left, and_right, ltb-true, leb-true, leb-false, le-leb, lt-leb, ne_eqb, eq-eqb, eqb-true, lt-ltb, le-ltb}
 use Rattle.std.proofs.lemmas.List.{length-replicate}
-use Rattle.pw_bits.specs.Bits.{bits_of, bits, zeros, padding, bytes}
+use Rattle.pw_bits.specs.Bits.{bits_of, bits, padding, bytes}
 use Rattle.std.proofs.lemmas.Nat.{mod_below}
 use Rattle.std.proofs.Math.Nat.{mul-le-mul_left}
 use Rattle.pw_bits.proofs.BitsLemmas.{length-bits_of, bits-bytes, bits_of-one, bits_of_small, pow_suc}

@@ -3,7 +3,7 @@ use Rattle.std.proofs.Common.{◌≡◌, ℕ, zero, suc, ◌+◌, ◌-◌, ◌*�
 use Rattle.std.proofs.lemmas.Bool.{cases_lt, ltb-true, ltb-false, lt-ltb, le-ltb, ne_eqb, eq-eqb, eqb-true, eqb-false}
 use Rattle.std.proofs.lemmas.List.{take_at, drop_at, length-replicate, length-take-le, take-append-drop, nil_from_length}
 use Rattle.pw_bits.specs.Bits.{bits_of, value, zeros}
-use Rattle.pw_bits.proofs.BitsLemmas.{length-bits_of, bits_of-append, bits_of_cat, bits_of-value, value-lt, value_of_bits, pow_suc}
+use Rattle.pw_bits.proofs.BitsLemmas.{length-bits_of, bits_of_cat, bits_of-value, value-lt, value_of_bits, pow_suc}
 use Rattle.pr_alpha.specs.Alpha.{Difference, long, short, Run, none, brief, wide, Step, short_size, greatest, difference_word, run_word, moved, run_length, FitsDifference, FitsRun, AreSteps, given, words, StepsStand, Stands}
 use Rattle.pr_alpha.specs.Reading.{Fault, wanting, past, ◌>>=◌, number_at, size_behind, numbered, moved_by, value_behind, brief_then, run_at, Found, run_then, value_then, step_behind, step_at, with_found, values_at, alpha_at}
 

@@ -1,6 +1,6 @@
 -- The alpha values of a slice, coded by differences and runs, as in SMPTE RDD 36, scanned alpha. A value has
 -- n bits, 8 or 16.
-use Rattle.std.specs.Prelude.{◌≡◌, ℕ, zero, suc, ◌+◌, ◌-◌, ◌*◌, ◌%◌, ◌^◌, ◌<◌, Bool, true, false, ◌||◌, ◌&&◌, List, [], ◌∷◌, ◌++◌, length, replicate, get_or, nat_eq, nat_lt, nat_le, if◌then◌else◌}
+use Rattle.std.specs.Prelude.{◌≡◌, ℕ, suc, ◌+◌, ◌-◌, ◌%◌, ◌^◌, ◌<◌, Bool, true, false, ◌||◌, ◌&&◌, List, [], ◌∷◌, ◌++◌, length, replicate, get_or, nat_eq, nat_lt, nat_le, if◌then◌else◌}
 use Rattle.pw_bits.specs.Bits.{bits_of, zeros, bytes}
 
 -- whether values have so many bits

@@ -1,4 +1,4 @@
-use Rattle.std.proofs.Common.{◌+◌, ◌≡◌, ◌∙◌, Ok, Err, ap, sym, subst, arith}
+use Rattle.std.proofs.Common.{◌+◌, ◌∙◌, Ok, ap, sym, arith}
 use Rattle.pw_bits.specs.Reading.{unread}
 use Rattle.pr_alpha.specs.Reading.{Fault, Found, value_behind, run_at, step_behind}
 use Rattle.pr_alpha.proofs.ReadLemmas.{fault_whole, past_is, step_fails, step_last, step_run, step_past, step_run_fails, if_ok_weaker, if_err_weaker}

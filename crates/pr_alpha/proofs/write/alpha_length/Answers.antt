@@ -1,7 +1,7 @@
-use Rattle.std.proofs.Common.{◌≡◌, ℕ, ◌+◌, ◌*◌, ◌^◌, ◌<◌, ◌≤◌, min, length, Result, Ok, Err, OnOk, is_err, arith, rules, ◌∙◌, IsTrue}
+use Rattle.std.proofs.Common.{◌≡◌, ℕ, ◌^◌, ◌<◌, ◌≤◌, min, length, Result, Ok, Err, OnOk, is_err, arith, rules, ◌∙◌}
 use Rattle.std.proofs.lemmas.Result.{on_ok_weaker}
 use Rattle.pw_outside.specs.Ports.{last, taken_more, CountsFault}
-use Rattle.pr_alpha.specs.Alpha.{is_width, alpha}
+use Rattle.pr_alpha.specs.Alpha.{alpha}
 use Rattle.pr_alpha.proofs.RowLemmas.{alpha_few}
 use Rattle.pr_alpha.proofs.write.alpha_length.Goals as goal
 

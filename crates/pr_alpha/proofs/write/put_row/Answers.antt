@@ -1,9 +1,8 @@
-use Rattle.std.proofs.Common.{◌≡◌, ◌++◌, ap, ◌∙◌, sym, subst}
+use Rattle.std.proofs.Common.{subst}
 use Rattle.std.proofs.lemmas.Result.{on_ok_weaker, on_err_weaker}
-use Rattle.pw_bits.specs.Bits.{bits_of}
 use Rattle.pw_bits.specs.Writing.{written, Writes, Begins}
 use Rattle.pw_bits.proofs.WritingLemmas.{Writes-Writes, Begins-first, Begins-second}
-use Rattle.pr_alpha.specs.Alpha.{row_words, difference_word, difference_of, run_word, run_of}
+use Rattle.pr_alpha.specs.Alpha.{row_words, run_word, run_of}
 use Rattle.pr_alpha.proofs.CodingLemmas.{any_err}
 use Rattle.pr_alpha.proofs.write.put_row.Goals as goal
 

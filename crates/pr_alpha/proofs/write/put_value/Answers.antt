@@ -1,4 +1,4 @@
-use Rattle.std.proofs.Common.{◌≡◌, ◌+◌, [], refl, arith}
+use Rattle.std.proofs.Common.{◌+◌, [], refl, arith}
 use Rattle.std.proofs.lemmas.Result.{on_ok_weaker, on_err_weaker}
 use Rattle.pw_bits.specs.Writing.{written}
 use Rattle.pw_bits.proofs.WritingLemmas.{Writes-nil}

@@ -1,6 +1,4 @@
-use Rattle.std.proofs.Common.{◌≡◌, ◌+◌, refl, ap, ◌∙◌, arith, sym}
-use Rattle.std.proofs.lemmas.Bool.{ne_eqb, eq-eqb, le-leb, lt-leb}
-use Rattle.pr_alpha.specs.Alpha.{run_word, run_of}
+use Rattle.std.proofs.Common.{arith}
 use Rattle.pr_alpha.proofs.RowLemmas.{word_none, word_brief, word_wide}
 use Rattle.pr_alpha.proofs.write.word_of_run.Goals as goal
 
