@@ -1,4 +1,5 @@
 mod InOrder
+mod MoovWalk
 mod Contained
 mod Lengths
 mod Frames

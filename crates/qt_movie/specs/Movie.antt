@@ -34,6 +34,11 @@ moov_in file = do
   moov ← sized (first_at_top file (codes "moov" ∷ []))
   some_or moov NoMoov 0
 
+-- the `moov` that was met before, or this atom where it is one
+abbrev pub moov_or : Option Atom → Atom → Option Atom
+moov_or (Some moov) a = Some moov
+moov_or None a = if is_kind (codes "moov") a then Some a else None
+
 abbrev pub is_trak : Atom → Bool
 is_trak a = is_kind (codes "trak") a
 

@@ -1,19 +1,53 @@
 //! The movie atom.
 
-ghost use Rattle.std.specs.Prelude.{◌≡◌, ◌≤◌, length, IfOk, OnOk, None};
+ghost use Rattle.std.specs.Prelude.{◌≡◌, ◌≤◌, length, codes, false, IfOk, OnOk, None, Some};
 ghost use Rattle.pw_outside.specs.Ports.{CountsFault};
 ghost use Rattle.pw_outside.specs.Reading.{Answers, Told};
-ghost use Rattle.qt_atoms.specs.Atoms.{LiesIn, children};
-ghost use Rattle.qt_tables.specs.Faults.{told_fault, is_failed};
-ghost use Rattle.qt_movie.specs.Movie.{moov_in, whole_in, unread_kind};
+ghost use Rattle.qt_atoms.specs.Atoms.{LiesIn, children, is_kind};
+ghost use Rattle.qt_tables.specs.declared.fault.MovieKind.TheVariants as kinds;
+ghost use Rattle.qt_tables.specs.Faults.{told_fault, is_failed, some_or};
+ghost use Rattle.qt_movie.specs.Movie.{moov_in, moov_or, whole_in, unread_kind};
 
 use crate::fields::bad;
 use pw_outside::ByteStore;
-use qt_atoms::{Atom, find_either, first_of};
+use qt_atoms::{Atom, Step, find_either, next_atom};
 use qt_tables::{MovieFault, MovieKind};
 
-/// The first `moov` of a file of so many bytes.
-#[tactic(auto, unfolding(crate::specs::Movie::moov_in, pw_outside::specs::Reading::bind))]
+fn is_moof(atom: &Atom) -> bool
+    ensures { result ≡ is_kind (codes "moof") atom.now }
+{
+    atom.kind == *b"moof"
+}
+
+fn is_moov(atom: &Atom) -> bool
+    ensures { result ≡ is_kind (codes "moov") atom.now }
+{
+    atom.kind == *b"moov"
+}
+
+/// The first `moov` of those that were met before this atom, and this one.
+fn first_moov(met: Option<Atom>, atom: &Atom) -> Option<Atom>
+    ensures { result ≡ moov_or met atom.now }
+{
+    match met {
+        Some(moov) => Some(moov),
+        None => { if is_moov(atom) { Some(*atom) } else { None } }
+    }
+}
+
+/// The `moov` that was met, if one was.
+fn met_moov(moov: Option<Atom>) -> Result<Atom, MovieFault>
+    ensures value { Answers told_fault (λ x. x) result (some_or moov kinds.NoMoov 0) }
+    ensures lies { IfOk result (λ m. moov ≡ Some m) }
+    ensures failed { is_failed result ≡ false }
+{
+    match moov {
+        Some(moov) => Ok(moov),
+        None => Err(bad(MovieKind::NoMoov, 0)),
+    }
+}
+
+/// The first `moov` of a file of so many bytes. The top level is walked once.
 pub(crate) fn moov_of<M: ByteStore>(store: &mut M, end: u64) -> Result<Atom, MovieFault>
     requires end { Told (M.bytes store.old) (λ file. end ≡ length file) }
     ensures value { Told (M.bytes store.old) (λ file. Answers told_fault (λ x. x) result (moov_in file)) }
@@ -21,13 +55,20 @@ pub(crate) fn moov_of<M: ByteStore>(store: &mut M, end: u64) -> Result<Atom, Mov
     ensures bytes { M.bytes store.new ≡ M.bytes store.old }
     ensures cause { CountsFault (M.faults store.old) (M.faults store.new) (is_failed result) }
 {
-    if let Some(fragment) = first_of(store, 0, end, true, &[*b"moof"])? {
-        return Err(bad(MovieKind::Fragmented, fragment.at));
+    let mut moov = None;
+    let mut place = 0;
+    'walk: while place < end {
+        let atom = match next_atom(store, place, end, true)? {
+            Step::End => return met_moov(moov),
+            Step::Atom(atom) => atom,
+        };
+        if is_moof(&atom) {
+            return Err(bad(MovieKind::Fragmented, atom.at));
+        }
+        moov = first_moov(moov, &atom);
+        place = atom.end;
     }
-    match first_of(store, 0, end, true, &[*b"moov"])? {
-        Some(moov) => Ok(moov),
-        None => Err(bad(MovieKind::NoMoov, 0)),
-    }
+    met_moov(moov)
 }
 
 fn kind_of(other: &Atom) -> MovieKind

@@ -1,31 +1,14 @@
 //! Writing a movie.
 
-ghost use Rattle.std.specs.Prelude.{◌≡◌, ◌≤◌, OnOk, OnErr, is_err};
-ghost use Rattle.pw_outside.specs.Ports.{CountsFault};
-ghost use Rattle.pw_outside.specs.Writing.{sink_state, Puts, PutsPart};
-
 use crate::containers::moov_of;
 use pic_y4m::{Head, WriteEnd};
 use pw_fields::be32;
-use pw_outside::{ByteSink, Failed, NoMemory, put};
+use pw_outside::{ByteSink, Failed, NoMemory, put_all};
 use std::alloc::Global;
 use std::marker::Model;
 
 /// The file type: QuickTime.
 const FTYP: [u8; 20] = *b"\x00\x00\x00\x14ftypqt  \x00\x00\x00\x00qt  ";
-
-/// Writes the whole piece.
-fn write<K: ByteSink>(sink: &mut K, piece: &[u8]) -> Result<(), Failed>
-    ensures all { OnOk result (Puts (sink_state (K.held sink.old) (K.taken sink.old)) (sink_state (K.held sink.new) (K.taken sink.new)) piece.now) }
-    ensures part { OnErr result (PutsPart (sink_state (K.held sink.old) (K.taken sink.old)) (sink_state (K.held sink.new) (K.taken sink.new)) piece.now) }
-    ensures settled { K.settled sink.old ≤ K.settled sink.new }
-    ensures cause { CountsFault (K.faults sink.old) (K.faults sink.new) (is_err result) }
-{
-    match put(sink, piece) {
-        Ok(()) => Ok(()),
-        Err(_) => Err(Failed),
-    }
-}
 
 /// Writes a movie: the file type, the head of the data atom of each frame, and the movie atom at the end. The bytes of a frame are
 /// written by the caller, behind its head.
@@ -48,7 +31,7 @@ impl Model for MovieWriter {
 }
 
 impl MovieWriter {
-    ghost use Rattle.std.specs.Prelude.{◌≡◌, ◌≤◌, ◌<◌, [], ◌∷◌, ◌++◌, length, is_err, IfOk, OnOk, OnErr};
+    ghost use Rattle.std.specs.Prelude.{◌≡◌, ◌≤◌, ◌<◌, ◌+◌, [], ◌∷◌, ◌++◌, length, is_err, IfOk, OnOk, OnErr};
     ghost use Rattle.pw_outside.specs.Ports.{CountsFault};
     ghost use Rattle.pw_outside.specs.Writing.{sink_state, Puts, PutsPart};
     ghost use Rattle.pic_y4m.specs.HeadLine.{IsHead};
@@ -68,27 +51,37 @@ impl MovieWriter {
         ensures settled { K.settled sink.old ≤ K.settled sink.new }
         ensures cause { CountsFault (K.faults sink.old) (K.faults sink.new) (is_err result) }
     {
-        write(sink, &FTYP)?;
+        put_all(sink, &FTYP)?;
         Ok(MovieWriter {
             head: *head,
             sizes: Vec::new(alloc),
         })
     }
 
-    /// Takes the memory for one more frame. After `NoMemory` the writer is as before.
-    pub fn reserve(&mut self) -> Result<(), NoMemory>
-        ensures reserved { OnOk result (1 ≤ self.new.spare) }
+    /// The number of frames whose heads were appended, at most 1,000,000.
+    pub fn frames(&self) -> u32
+        ensures value { result ≡ length self.now.sizes }
+        ensures few { result ≤ 1000000 }
+    {
+        self.sizes.len() as u32
+    }
+
+    /// Takes the memory for so many more frames. After `NoMemory` the writer is as before.
+    pub fn reserve(&mut self, frames: u32) -> Result<(), NoMemory>
+        ensures reserved { OnOk result (frames ≤ self.new.spare) }
+        ensures kept { self.old.spare ≤ self.new.spare }
+        ensures same { OnErr result (self.new.spare ≡ self.old.spare) }
         ensures head { self.new.head ≡ self.old.head }
         ensures sizes { self.new.sizes ≡ self.old.sizes }
     {
-        match self.sizes.reserve(1) {
+        match self.sizes.reserve(frames as usize) {
             Ok(()) => Ok(()),
             Err(_) => Err(NoMemory),
         }
     }
 
-    /// Appends the head of the data atom of a frame of so many bytes, at most 4,294,967,286. Takes no memory. After `Failed` a part of
-    /// it was appended, not all, and the frame doesn't count.
+    /// Appends the head of the data atom of a frame of so many bytes, at most 4,294,967,286. Takes no memory but what `reserve` took.
+    /// After `Failed` a part of it was appended, not all, and the frame doesn't count.
     pub fn frame_head<K: ByteSink>(&mut self, sink: &mut K, size: u32) -> Result<(), Failed>
         requires reserved { 1 ≤ self.old.spare }
         requires few { length self.old.sizes < 1000000 }
@@ -98,11 +91,14 @@ impl MovieWriter {
         ensures head { self.new.head ≡ self.old.head }
         ensures sizes { OnOk result (self.new.sizes ≡ self.old.sizes ++ size ∷ []) }
         ensures same { OnErr result (self.new.sizes ≡ self.old.sizes) }
+        // One frame takes up the memory of one, and a head that failed none.
+        ensures spare { self.old.spare ≤ self.new.spare + 1 }
+        ensures spared { OnErr result (self.new.spare ≡ self.old.spare) }
         ensures settled { K.settled sink.old ≤ K.settled sink.new }
         ensures cause { CountsFault (K.faults sink.old) (K.faults sink.new) (is_err result) }
     {
         let length = be32(size + 8);
-        write(
+        put_all(
             sink,
             &[
                 length[0], length[1], length[2], length[3], b'm', b'd', b'a', b't',
@@ -123,7 +119,7 @@ impl MovieWriter {
             Ok(atoms) => atoms,
             Err(_) => return Err(WriteEnd::NoMemory),
         };
-        match put(sink, atoms.held()) {
+        match put_all(sink, atoms.held()) {
             Ok(()) => Ok(()),
             Err(_) => Err(WriteEnd::Failed),
         }

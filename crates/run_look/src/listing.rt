@@ -1,6 +1,6 @@
 //! Listing a movie.
 
-ghost use Rattle.std.specs.Prelude.{◌≡◌, OnOk, OnErr, is_err, false};
+ghost use Rattle.std.specs.Prelude.{◌≡◌, OnOk, OnErr, false};
 ghost use Rattle.std.specs.Bool.{OnTrue};
 ghost use Rattle.pw_outside.specs.Ports.{CountsFault};
 ghost use Rattle.pw_outside.specs.Reading.{Told};
@@ -8,11 +8,11 @@ ghost use Rattle.pw_outside.specs.Writing.{sink_state, Puts, PutsFront};
 ghost use Rattle.qt_movie.specs.Movie.{movie_in};
 ghost use Rattle.run_look.specs.declared.end.LookEnd.TheVariants as ends;
 ghost use Rattle.qt_tables.specs.Samples.{samples};
-ghost use Rattle.run_look.specs.Listing.{sample_lines, list_text, is_done, is_read_fault, is_write_fault, is_stopped_by_sink, list_end, AnswersUnlessOutside, PrintsList, PrintsListFront};
+ghost use Rattle.run_look.specs.Listing.{sample_lines, list_text, is_done, is_read_fault, is_write_fault, is_stopped_by_sink, list_end, AnswersUnlessOutside, PrintsList, PrintsListFront, Extends};
 
 use crate::end::LookEnd;
 use crate::lines::{put_samples, put_track};
-use pw_outside::{ByteSink, ByteStore, Failed, NoMemory, put};
+use pw_outside::{ByteSink, ByteStore, Failed, NoMemory, put_all};
 use qt_movie::MovieReader;
 use qt_tables::MovieFault;
 use std::alloc::Global;
@@ -49,18 +49,6 @@ impl From<NoMemory> for Stop {
     }
 }
 
-/// Writes whole lines.
-fn put_lines<K: ByteSink>(sink: &mut K, lines: &[u8]) -> Result<(), Failed>
-    ensures ok { OnOk result (Puts (sink_state (K.held sink.old) (K.taken sink.old)) (sink_state (K.held sink.new) (K.taken sink.new)) lines.now) }
-    ensures err { OnErr result (PutsFront (sink_state (K.held sink.old) (K.taken sink.old)) (sink_state (K.held sink.new) (K.taken sink.new)) lines.now) }
-    ensures cause { CountsFault (K.faults sink.old) (K.faults sink.new) (is_err result) }
-{
-    match put(sink, lines) {
-        Ok(()) => Ok(()),
-        Err(_) => Err(Failed),
-    }
-}
-
 /// Writes the lines of all samples.
 fn put_all_samples<K: ByteSink>(
     alloc: Global,
@@ -78,7 +66,7 @@ fn put_all_samples<K: ByteSink>(
         let end = count.min(next.saturating_add(LINES));
         lines.clear();
         put_samples(&mut lines, reader, next, end)?;
-        put_lines(sink, &lines)?;
+        put_all(sink, &lines)?;
         next = end;
     }
     Ok(())
@@ -92,7 +80,7 @@ fn put_list<K: ByteSink>(alloc: Global, reader: &MovieReader, sink: &mut K) -> R
 {
     let mut line = Vec::new(alloc);
     put_track(&mut line, reader)?;
-    put_lines(sink, &line)?;
+    put_all(sink, &line)?;
     put_all_samples(alloc, reader, sink)
 }
 
@@ -117,6 +105,7 @@ fn print<K: ByteSink>(alloc: Global, reader: &MovieReader, sink: &mut K) -> Look
 
 /// Reads a QuickTime movie, and writes a line for its first track of ProRes and one for each of the track's samples.
 /// The text isn't held in memory.
+#[tactic(auto, using(crate::proofs::Texts::none_extends, crate::proofs::Texts::front_extends))]
 pub fn list_run<M: ByteStore, K: ByteSink>(alloc: Global, movie: &mut M, text: &mut K) -> LookEnd
     // Where the movie's bytes are told, they decide the answer: BadMovie comes with their first fault exactly where they
     // are no movie with a track of ProRes.
@@ -127,6 +116,8 @@ pub fn list_run<M: ByteStore, K: ByteSink>(alloc: Global, movie: &mut M, text: &
     // After every answer the first bytes of it were appended, or none where the file is no such movie.
     ensures part { Told (M.bytes movie.old) (λ file.
         PrintsListFront (movie_in file) (sink_state (K.held text.old) (K.taken text.old)) (sink_state (K.held text.new) (K.taken text.new))) }
+    // Whether the movie's bytes are told or not, the text extends what was held.
+    ensures extends { Extends (sink_state (K.held text.old) (K.taken text.old)) (sink_state (K.held text.new) (K.taken text.new)) }
     ensures settled { OnTrue (is_done result) (K.settled text.new ≡ K.taken text.new) }
     ensures bytes { M.bytes movie.new ≡ M.bytes movie.old }
     // A fault of a port is answered only where that port's count rose, and every other answer leaves both counts as they

@@ -37,7 +37,7 @@ fn movie_of(rt: &HostRuntime, frames: u32, size: u32) -> Result<Vec<u8>, Fail>
     }
     let mut writer = MovieWriter::begin(alloc, &mut sink, &head)?;
     for _ in 0..frames {
-        writer.reserve()?;
+        writer.reserve(1)?;
         writer.frame_head(&mut sink, size)?;
         put(&mut sink, &frame)?;
     }
