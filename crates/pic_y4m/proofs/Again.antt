@@ -1,14 +1,8 @@
 -- What was written is read again.
-use Rattle.std.proofs.Common.{◌≡◌, ℕ, zero, suc, ◌+◌, ◌-◌, ◌*◌, ◌^◌, ◌<◌, ◌≤◌, lit<, Bool, false, not, eqb, ltb, List, [], ◌∷◌, ◌++◌, length, get_or, Some, None, Ok, refl, sym, ap, ◌∙◌, arith, ⊎_elim, length-append, append_assoc}
-use Rattle.std.proofs.Math.Seq.{take-append_seam, drop-append_seam}
-use Rattle.std.proofs.lemmas.Bool.{le-ltb, cases_Bool, lt-leb, eqb-true}
-use Rattle.std.proofs.lemmas.List.FromFn.{fill_by_all}
-use Rattle.std.proofs.lemmas.List.Sums.{prefix_len_is}
+use Rattle.std.proofs.Common.{◌≡◌, ℕ, zero, suc, ◌+◌, ◌-◌, ◌*◌, ◌^◌, ◌<◌, ◌≤◌, lit<, Bool, false, eqb, List, [], ◌∷◌, ◌++◌, length, Some, None, Ok, refl, sym, ap, ◌∙◌, arith, ⊎_elim, length-append, append_assoc}
+use Rattle.std.proofs.lemmas.Bool.{cases_Bool, eqb-true}
 use Rattle.std.specs.Prelude.{codes}
-use Rattle.std.specs.List.{position_or_len}
 use Rattle.pw_outside.specs.Reading.{bind}
-use Rattle.pw_planes.specs.declared.kinds.Depth.{Depth}
-use Rattle.pw_planes.specs.declared.kinds.Depth.TheVariants.{D8, D10, D12}
 use Rattle.pw_planes.specs.declared.picture.Picture.{Picture}
 use Rattle.pw_planes.specs.Plane.{Raster, IsPlane}
 use Rattle.pw_planes.specs.Samples.{bits_of, chroma_width}
@@ -16,53 +10,11 @@ use Rattle.pic_y4m.specs.declared.fault.PictureKind.TheVariants as kinds
 use Rattle.pic_y4m.specs.declared.head.TheConstants.{MAX_FRAMES}
 use Rattle.pic_y4m.specs.declared.head_line.Stream.{Stream}
 use Rattle.pic_y4m.specs.Line.{next_line}
-use Rattle.pic_y4m.specs.Frames.{sample_bytes, sample_in, samples_in, samples_at, in_range, is_past, AreBelow, picture_of, chroma_plane, planes_at, frame_at, next_at, State, advanced, pictures_in, pictures_left, luma_count, chroma_count}
-use Rattle.pic_y4m.specs.Writing.{plane_bytes, frame_bytes, frames_bytes, IsWhole, AreWhole}
+use Rattle.pic_y4m.specs.Samples.{size_of, plane_bytes}
+use Rattle.pic_y4m.specs.Frames.{picture_of, chroma_plane, planes_at, frame_at, next_at, State, advanced, pictures_in, pictures_left, luma_count, chroma_count}
+use Rattle.pic_y4m.specs.Writing.{frame_bytes, frames_bytes, IsWhole, AreWhole}
+use Rattle.pic_y4m.proofs.SamplesAgain.{plane-again, range-again}
 use Rattle.pic_y4m.proofs.Lines.{line-ends}
-
--- a plane of pairs has two bytes for each sample, and each sample stands in its two
-pairs-length : (ys : List ℕ) → length (plane_bytes D10 ys) ≡ length ys * 2
-pairs-length [] = refl
-pairs-length (y ∷ ys) = let ih = pairs-length ys in omega (arith, ih)
-
-pairs-at : (ys : List ℕ) (k : ℕ) → k < length ys → sample_in D10 (plane_bytes D10 ys) k ≡ get_or ys k 0
-pairs-at [] k lt = absurd (omega arith)
-pairs-at (y ∷ ys) zero lt = omega arith
-pairs-at (y ∷ ys) (suc k) lt =
-    let low : 2 * suc k ≡ suc (suc (2 * k)) = omega arith in
-    let high : 2 * suc k + 1 ≡ suc (suc (2 * k + 1)) = omega arith in
-    rw (high, low) (pairs-at ys k (omega arith))
-
-bytes-are : (ys : List ℕ) → plane_bytes D8 ys ≡ ys
-bytes-are [] = refl
-bytes-are (y ∷ ys) = ap (λ l. y ∷ l) (bytes-are ys)
-
-plane-length : (depth : Depth) (ys : List ℕ) → length (plane_bytes depth ys) ≡ length ys * sample_bytes depth
-plane-length D8 ys = let e = ap length (bytes-are ys) in omega (arith, e)
-plane-length D10 ys = pairs-length ys
-plane-length D12 ys = pairs-length ys
-
-samples-same : (depth : Depth) (ys : List ℕ) (count : ℕ) → length ys ≡ count → samples_in depth count (plane_bytes depth ys) ≡ ys
-unfolding samples_in
-samples-same D8 ys count len = sym (fill_by_all (sample_in D8 (plane_bytes D8 ys)) ys count 0 len (λ k lt. ap (λ l. get_or l k 0) (sym (bytes-are ys))))
-samples-same D10 ys count len = sym (fill_by_all (sample_in D10 (plane_bytes D10 ys)) ys count 0 len (λ k lt. sym (pairs-at ys k (omega arith))))
-samples-same D12 ys count len = sym (fill_by_all (sample_in D12 (plane_bytes D12 ys)) ys count 0 len (λ k lt. sym (pairs-at ys k (omega arith))))
-
--- a plane that stands next is read
-plane-again : (depth : Depth) (ys rest : List ℕ) (count place : ℕ) → length ys ≡ count
-    → samples_at depth count (record { place = place; bytes = plane_bytes depth ys ++ rest }) ≡ Ok (ys, record { place = place + length (plane_bytes depth ys); bytes = rest })
-unfolding samples_at
-plane-again depth ys rest count place len =
-    let n : count * sample_bytes depth ≡ length (plane_bytes depth ys) = sym (plane-length depth ys ∙ ap (λ k. k * sample_bytes depth) len) in
-    let there : ltb (length (plane_bytes depth ys ++ rest)) (length (plane_bytes depth ys)) ≡ false = le-ltb _ _ (omega (arith, length-append (plane_bytes depth ys) rest)) in
-    rw (n, there, take-append_seam (plane_bytes depth ys) rest, drop-append_seam (plane_bytes depth ys) rest, samples-same depth ys count len) refl
-
-range-again : (depth : Depth) (ys : List ℕ) (place : ℕ) → AreBelow depth ys → in_range depth ys place ≡ Ok tt
-unfolding in_range
-range-again depth ys place below =
-    let all : position_or_len (is_past depth) ys ≡ length ys = prefix_len_is (λ s. not (is_past depth s)) ys (length ys) 0 (omega arith) (λ k lt. ap not (lt-leb (2 ^ bits_of depth) (get_or ys k 0) (below k 0 lt))) (λ lt. absurd (omega arith)) in
-    let past : ltb (length ys) (length ys) ≡ false = le-ltb _ _ (omega arith) in
-    rw (all, past) refl
 
 -- the picture of its own planes
 same-raster : (a : Raster) (width height : ℕ) → a.width ≡ width → a.height ≡ height → record { width = width; height = height; samples = a.samples } ≡ a
@@ -91,19 +43,20 @@ chroma-many form p a none w chroma e f =
     rw none (plane-count a (chroma_width form.head.chroma form.head.width) form.head.height w (e ∙ ap (λ c. chroma_width c form.head.width) chroma) f)
 
 planes-again : (form : Stream) (p : Picture) (rest : List ℕ) (place end : ℕ) → form.shares_rows ≡ false → IsWhole form.head p
-    → end ≡ place + length (plane_bytes form.head.depth p.y.samples) + length (plane_bytes form.head.depth p.cb.samples) + length (plane_bytes form.head.depth p.cr.samples)
-    → planes_at form (record { place = place; bytes = plane_bytes form.head.depth p.y.samples ++ (plane_bytes form.head.depth p.cb.samples ++ (plane_bytes form.head.depth p.cr.samples ++ rest)) })
+    → end ≡ place + length (plane_bytes (size_of form.head.depth) p.y.samples) + length (plane_bytes (size_of form.head.depth) p.cb.samples) + length (plane_bytes (size_of form.head.depth) p.cr.samples)
+    → planes_at form (record { place = place; bytes = plane_bytes (size_of form.head.depth) p.y.samples ++ (plane_bytes (size_of form.head.depth) p.cb.samples ++ (plane_bytes (size_of form.head.depth) p.cr.samples ++ rest)) })
     ≡ Ok (p, record { place = end; bytes = rest })
 unfolding planes_at bind
 planes-again form p rest place end none w behind =
-    let depth = form.head.depth in
-    let y = plane-again depth p.y.samples (plane_bytes depth p.cb.samples ++ (plane_bytes depth p.cr.samples ++ rest)) (luma_count form) place (plane-count p.y form.head.width form.head.height w.luma w.form.size.luma.0 w.form.size.luma.1) in
-    let cb = plane-again depth p.cb.samples (plane_bytes depth p.cr.samples ++ rest) (chroma_count form) (place + length (plane_bytes depth p.y.samples)) (chroma-many form p p.cb none w.cb w.form.chroma w.form.size.cb.0 w.form.size.cb.1) in
-    let cr = plane-again depth p.cr.samples rest (chroma_count form) (place + length (plane_bytes depth p.y.samples) + length (plane_bytes depth p.cb.samples)) (chroma-many form p p.cr none w.cr w.form.chroma w.form.size.cr.0 w.form.size.cr.1) in
-    let r1 = range-again depth p.y.samples place w.form.luma in
-    let r2 = range-again depth p.cb.samples (place + length (plane_bytes depth p.y.samples)) w.form.cb in
-    let r3 = range-again depth p.cr.samples (place + length (plane_bytes depth p.y.samples) + length (plane_bytes depth p.cb.samples)) w.form.cr in
-    rw (y, cb, cr, r1, r2, r3, behind) (ap (λ (q : Picture). Ok (q, record { place = place + length (plane_bytes depth p.y.samples) + length (plane_bytes depth p.cb.samples) + length (plane_bytes depth p.cr.samples); bytes = rest })) (same-picture form p none w))
+    let size = size_of form.head.depth in
+    let limit = 2 ^ bits_of form.head.depth in
+    let y = plane-again size p.y.samples (plane_bytes size p.cb.samples ++ (plane_bytes size p.cr.samples ++ rest)) (luma_count form) place (plane-count p.y form.head.width form.head.height w.luma w.form.size.luma.0 w.form.size.luma.1) in
+    let cb = plane-again size p.cb.samples (plane_bytes size p.cr.samples ++ rest) (chroma_count form) (place + length (plane_bytes size p.y.samples)) (chroma-many form p p.cb none w.cb w.form.chroma w.form.size.cb.0 w.form.size.cb.1) in
+    let cr = plane-again size p.cr.samples rest (chroma_count form) (place + length (plane_bytes size p.y.samples) + length (plane_bytes size p.cb.samples)) (chroma-many form p p.cr none w.cr w.form.chroma w.form.size.cr.0 w.form.size.cr.1) in
+    let r1 = range-again size limit p.y.samples place w.form.luma in
+    let r2 = range-again size limit p.cb.samples (place + length (plane_bytes size p.y.samples)) w.form.cb in
+    let r3 = range-again size limit p.cr.samples (place + length (plane_bytes size p.y.samples) + length (plane_bytes size p.cb.samples)) w.form.cr in
+    rw (y, cb, cr, r1, r2, r3, behind) (ap (λ (q : Picture). Ok (q, record { place = place + length (plane_bytes size p.y.samples) + length (plane_bytes size p.cb.samples) + length (plane_bytes size p.cr.samples); bytes = rest })) (same-picture form p none w))
 
 -- the line in front of a frame is read
 line-again : (place after : ℕ) (all rest : List ℕ) → all ≡ codes "FRAME\n" ++ rest → after ≡ place + 6
@@ -122,10 +75,10 @@ pub picture-again : (r : State) (p : Picture) (rest : List ℕ) → r.form.share
     ≡ Ok (Some p, record { place = r.place + length (frame_bytes r.form.head.depth p); bytes = rest })
 unfolding next_at frame_at frame_bytes bind
 picture-again r p rest none few w =
-    let depth = r.form.head.depth in
-    let y = plane_bytes depth p.y.samples in
-    let cb = plane_bytes depth p.cb.samples in
-    let cr = plane_bytes depth p.cr.samples in
+    let size = size_of r.form.head.depth in
+    let y = plane_bytes size p.y.samples in
+    let cb = plane_bytes size p.cb.samples in
+    let cr = plane_bytes size p.cr.samples in
     let more : eqb r.frames MAX_FRAMES ≡ false = eqb-less r.frames MAX_FRAMES few in
     let line = line-again r.place (r.place + 6) (codes "FRAME\n" ++ y ++ cb ++ cr ++ rest) (y ++ (cb ++ (cr ++ rest))) (frame-parts (codes "FRAME\n") y cb cr rest) refl in
     let planes = planes-again r.form p rest (r.place + 6) (r.place + length (codes "FRAME\n" ++ y ++ cb ++ cr)) none w (omega (arith, frame-length (codes "FRAME\n") y cb cr)) in

@@ -1,13 +1,12 @@
 -- The pictures that are read have the head's form, and are 1,000,000 at most.
-use Rattle.std.proofs.Common.{◌≡◌, ◌≢◌, if◌then◌else◌, ◌==◌, ℕ, zero, suc, ◌+◌, ◌-◌, ◌*◌, ◌<◌, ◌≤◌, Bool, true, false, not, eqb, ltb, List, [], ◌∷◌, length, Option, Some, None, Result, Ok, Err, refl, sym, ap, ◌∙◌, subst, arith, ⊎_elim}
+use Rattle.std.proofs.Common.{◌≡◌, ◌≢◌, if◌then◌else◌, ◌==◌, ℕ, zero, suc, ◌+◌, ◌-◌, ◌^◌, ◌<◌, ◌≤◌, Bool, true, false, not, eqb, ltb, List, length, Option, Some, None, Result, Ok, Err, refl, sym, ap, ◌∙◌, subst, arith}
 use Rattle.std.specs.List.{All, position_or_len}
-use Rattle.std.proofs.lemmas.Bool.{ltb-false, leb-false, cases_Bool, eqb-true, eqb-false}
+use Rattle.std.proofs.lemmas.Bool.{ltb-false, leb-false, eqb-false}
 use Rattle.std.proofs.lemmas.List.Elements.{All-nil, All-cons}
 use Rattle.std.proofs.lemmas.List.Sums.{prefix_len_passes}
-use Rattle.pw_outside.specs.Reading.{Fault, Rest, Read, bind, bad, refuse}
+use Rattle.pw_outside.specs.Reading.{Fault, Rest, Read, bad}
 use Rattle.pw_planes.specs.declared.kinds.AlphaKind.{AlphaKind}
 use Rattle.pw_planes.specs.declared.kinds.AlphaKind.TheVariants.{Absent}
-use Rattle.pw_planes.specs.declared.kinds.Depth.{Depth}
 use Rattle.pw_planes.specs.declared.picture.Picture.{Picture}
 use Rattle.pic_y4m.specs.declared.fault.PictureKind.{PictureKind}
 use Rattle.pic_y4m.specs.declared.fault.PictureKind.TheVariants as kinds
@@ -15,53 +14,25 @@ use Rattle.pic_y4m.specs.declared.head.Head.{Head}
 use Rattle.pic_y4m.specs.declared.head.TheConstants.{MAX_FRAMES}
 use Rattle.pic_y4m.specs.declared.head_line.Stream.{Stream}
 use Rattle.pic_y4m.specs.declared.parameters.Parameters.{Parameters}
-use Rattle.pic_y4m.specs.HeadLine.{IsStream, stream_of, text_stream, stream_at}
-use Rattle.pic_y4m.specs.Frames.{in_range, is_past, AreBelow, HasForm, picture_of, planes_at, frame_behind, frame_at, State, Pictures, advanced, first_and, started, start_at, next_at, pictures_in, pictures_left, pictured}
+use Rattle.pic_y4m.specs.HeadLine.{stream_of, text_stream, stream_at}
+use Rattle.pic_y4m.specs.Frames.{HasForm, picture_of, planes_at, frame_behind, frame_at, State, Pictures, advanced, first_and, started, start_at, next_at, pictures_in, pictures_left, pictured}
+use Rattle.pic_y4m.specs.declared.samples.SampleSize.{SampleSize}
+use Rattle.pic_y4m.specs.Samples.{size_of, in_range, is_past}
+use Rattle.pw_planes.specs.Samples.{bits_of}
+use Rattle.pic_y4m.proofs.Chain.{answer, bind-ok, refuse-ok, ok-same, ok-first, some-same, none-some}
 use Rattle.pic_y4m.proofs.Planes.{picture_form}
-
--- a chain that gives a value passed its first step
-pub bind-ok : {A B : Type 0} (r : Result A (Fault PictureKind)) (next : A → Result B (Fault PictureKind)) {y : B} → bind r next ≡ Ok y → (x : A) × (r ≡ Ok x) × (next x ≡ Ok y)
-unfolding bind
-bind-ok (Ok x) next e = (x, refl, e)
-bind-ok (Err f) next e = absurd cc
-
-pub refuse-ok : (test : Bool) (kind : PictureKind) (place : ℕ) {x : Unit {0}} → refuse test kind place ≡ Ok x → test ≡ false
-refuse-ok true kind place e = absurd cc
-refuse-ok false kind place e = refl
 
 not-false : (b : Bool) → not b ≡ true → b ≡ false
 not-false true h = absurd cc
 not-false false h = refl
 
--- samples in which no fault is met are below 2 to the depth
-pub passed-below : (depth : Depth) (samples : List ℕ) (place : ℕ) {x : Unit {0}} → in_range depth samples place ≡ Ok x → AreBelow depth samples
+-- samples in which no fault is met are below the limit
+pub passed-below : (size : SampleSize) (limit : ℕ) (samples : List ℕ) (place : ℕ) {x : Unit {0}} → in_range size limit samples place ≡ Ok x → All (λ s. s < limit) samples
 unfolding in_range
-passed-below depth samples place e =
-    let none = refuse-ok (ltb (position_or_len (is_past depth) samples) (length samples)) kinds.SampleRange _ e in
-    let ge : length samples ≤ position_or_len (is_past depth) samples = ltb-false _ _ none in
-    λ k d lt. leb-false _ _ (not-false _ (prefix_len_passes (λ s. not (is_past depth s)) samples k d (omega arith)))
-
--- equal answers have equal values
-abbrev answer : {A : Type 0} → A → Rest → Read PictureKind A
-answer x s = Ok (x, s)
-
-abbrev good : {X : Type 0} → X → Result X (Fault PictureKind)
-good x = Ok x
-
-pub ok-same : {X : Type 0} (x y : X) → good x ≡ good y → x ≡ y
-ok-same x y e = cc
-
-pub ok-first : {A : Type 0} {x y : A} {s t : Rest} → answer x s ≡ answer y t → x ≡ y
-ok-first {x = x} {y = y} {s = s} {t = t} e = ap (λ p. p.0) (ok-same (x, s) (y, t) e)
-
-no-some : {A : Type 0} (x : A) (o : Option A) → o ≡ None → o ≡ Some x → ⊥
-no-some x o e f = absurd cc
-
-pub none-some : {A : Type 0} (x : A) (s t : Rest) → answer None s ≡ answer (Some x) t → ⊥
-none-some x s t e = no-some x None refl (ok-first e)
-
-some-same : {A : Type 0} (x y : A) (o : Option A) → o ≡ Some x → o ≡ Some y → x ≡ y
-some-same x y o e f = cc
+passed-below size limit samples place e =
+    let none = refuse-ok (ltb (position_or_len (is_past limit) samples) (length samples)) kinds.SampleRange _ e in
+    let ge : length samples ≤ position_or_len (is_past limit) samples = ltb-false _ _ none in
+    λ k d lt. leb-false _ _ (not-false _ (prefix_len_passes (λ s. not (is_past limit s)) samples k d (omega arith)))
 
 planes-form : (form : Stream) (s after : Rest) (p : Picture) → form.head.alpha ≡ Absent → planes_at form s ≡ Ok (p, after) → HasForm form.head p
 unfolding planes_at
@@ -73,7 +44,7 @@ planes-form form s after p alpha e =
     let r2 = bind-ok _ _ r1.2 in
     let r3 = bind-ok _ _ r2.2 in
     let same : picture_of form y.0.0 cb.0.0 cr.0.0 ≡ p = ok-first r3.2 in
-    subst (HasForm form.head) same (picture_form form y.0.0 cb.0.0 cr.0.0 alpha (passed-below form.head.depth y.0.0 _ r1.1) (passed-below form.head.depth cb.0.0 _ r2.1) (passed-below form.head.depth cr.0.0 _ r3.1))
+    subst (HasForm form.head) same (picture_form form y.0.0 cb.0.0 cr.0.0 alpha (passed-below (size_of form.head.depth) (2 ^ bits_of form.head.depth) y.0.0 _ r1.1) (passed-below (size_of form.head.depth) (2 ^ bits_of form.head.depth) cb.0.0 _ r2.1) (passed-below (size_of form.head.depth) (2 ^ bits_of form.head.depth) cr.0.0 _ r3.1))
 
 frame-form : (form : Stream) (s after : Rest) (p : Picture) → form.head.alpha ≡ Absent → frame_at form s ≡ Ok (Some p, after) → HasForm form.head p
 unfolding frame_at

@@ -1,7 +1,9 @@
+pub mod Chain
 pub mod Numbers
 pub mod Words
 pub mod Lines
 pub mod Planes
+pub mod SamplesAgain
 pub mod Written
 pub mod Again
 pub mod HeadAgain

@@ -1,11 +1,10 @@
 -- Frames of a Y4M input (yuv4mpeg(5), frames), and the pictures that they stand for.
-use Rattle.std.specs.Prelude.{◌≡◌, ℕ, zero, suc, ◌+◌, ◌-◌, ◌*◌, ◌/◌, ◌<◌, ◌≤◌, ◌^◌, Bool, true, false, not, ◌==◌, nat_lt, nat_le, nat_eq, if◌then◌else◌, List, [], ◌∷◌, length, take, drop, map, slice_index, Option, None, Some, Result, Ok, Err, is_some, codes}
-use Rattle.std.specs.List.{position_or_len, range_with_len, starts_with, All}
+use Rattle.std.specs.Prelude.{◌≡◌, ℕ, zero, suc, ◌+◌, ◌-◌, ◌*◌, ◌/◌, ◌<◌, ◌≤◌, ◌^◌, Bool, true, false, not, ◌==◌, nat_eq, if◌then◌else◌, List, [], ◌∷◌, length, slice_index, Option, None, Some, Result, Ok, Err, is_some, codes}
+use Rattle.std.specs.List.{starts_with, All}
 use Rattle.pw_outside.specs.Reading.{Fault, Rest, Read, ◌>>=◌, bad, refuse}
 use Rattle.pw_planes.specs.declared.kinds.AlphaKind.{AlphaKind}
 use Rattle.pw_planes.specs.declared.kinds.AlphaKind.TheVariants.{Absent, Eight, Sixteen}
 use Rattle.pw_planes.specs.declared.kinds.Depth.{Depth}
-use Rattle.pw_planes.specs.declared.kinds.Depth.TheVariants.{D8, D10, D12}
 use Rattle.pw_planes.specs.declared.picture.Picture.{Picture}
 use Rattle.pw_planes.specs.Picture.{HasSize}
 use Rattle.pw_planes.specs.Plane.{Raster}
@@ -18,38 +17,7 @@ use Rattle.pic_y4m.specs.declared.head.TheConstants.{MAX_FRAMES}
 use Rattle.pic_y4m.specs.declared.head_line.Stream.{Stream}
 use Rattle.pic_y4m.specs.HeadLine.{IsStream, stream_at}
 use Rattle.pic_y4m.specs.Line.{next_line}
-
--- ---- planes
-
--- the number of bytes of a sample
-abbrev pub sample_bytes : Depth → ℕ
-sample_bytes D8 = 1
-sample_bytes D10 = 2
-sample_bytes D12 = 2
-
--- sample k of these bytes: a byte, or two bytes of which the low one comes first
-abbrev pub sample_in : Depth → List ℕ → ℕ → ℕ
-sample_in D8 bytes k = slice_index bytes k
-sample_in D10 bytes k = slice_index bytes (2 * k) + 256 * slice_index bytes (2 * k + 1)
-sample_in D12 bytes k = slice_index bytes (2 * k) + 256 * slice_index bytes (2 * k + 1)
-
--- the first so many samples of these bytes
-unfoldable pub samples_in : Depth → ℕ → List ℕ → List ℕ
-samples_in depth count bytes = map (sample_in depth bytes) (range_with_len 0 count)
-
--- the next so many samples; where the input ends before, Truncated at its end
-unfoldable pub samples_at : Depth → ℕ → Rest → Read PictureKind (List ℕ)
-samples_at depth count s = if nat_lt (length s.bytes) (count * sample_bytes depth) then bad kinds.Truncated (s.place + length s.bytes)
-    else Ok (samples_in depth count (take (count * sample_bytes depth) s.bytes), record { place = s.place + count * sample_bytes depth; bytes = drop (count * sample_bytes depth) s.bytes })
-
--- whether a sample has more bits than the depth says
-abbrev pub is_past : Depth → ℕ → Bool
-is_past depth sample = nat_le (2 ^ bits_of depth) sample
-
--- a fault at the first sample that has more bits than the depth says; the plane begins at this place
-unfoldable pub in_range : Depth → List ℕ → ℕ → Result (Unit {0}) (Fault PictureKind)
-in_range depth samples place = refuse (nat_lt (position_or_len (is_past depth) samples) (length samples)) kinds.SampleRange
-    (place + position_or_len (is_past depth) samples * sample_bytes depth)
+use Rattle.pic_y4m.specs.Samples.{size_of, samples_at, in_range}
 
 -- ---- pictures
 
@@ -85,12 +53,12 @@ chroma_count form = chroma_rows form.shares_rows form.head.height * chroma_width
 -- the planes of a frame, Y, Cb and Cr; their samples are judged once all are read
 unfoldable pub planes_at : Stream → Rest → Read PictureKind Picture
 planes_at form s = do
-  y ← samples_at form.head.depth (luma_count form) s
-  cb ← samples_at form.head.depth (chroma_count form) y.1
-  cr ← samples_at form.head.depth (chroma_count form) cb.1
-  _ ← in_range form.head.depth y.0 s.place
-  _ ← in_range form.head.depth cb.0 y.1.place
-  _ ← in_range form.head.depth cr.0 cb.1.place
+  y ← samples_at (size_of form.head.depth) (luma_count form) s
+  cb ← samples_at (size_of form.head.depth) (chroma_count form) y.1
+  cr ← samples_at (size_of form.head.depth) (chroma_count form) cb.1
+  _ ← in_range (size_of form.head.depth) (2 ^ bits_of form.head.depth) y.0 s.place
+  _ ← in_range (size_of form.head.depth) (2 ^ bits_of form.head.depth) cb.0 y.1.place
+  _ ← in_range (size_of form.head.depth) (2 ^ bits_of form.head.depth) cr.0 cb.1.place
   Ok (picture_of form y.0 cb.0 cr.0, cr.1)
 
 -- a line begins with the word FRAME

@@ -3,6 +3,7 @@ pub mod Values
 pub mod Parameters
 pub mod Line
 pub mod HeadLine
+pub mod Samples
 pub mod Frames
 pub mod Forms
 pub mod Writing

@@ -1,5 +1,5 @@
 -- What is written of pictures (yuv4mpeg(5)): one spelling for each head and each picture.
-use Rattle.std.specs.Prelude.{◌≡◌, ℕ, ◌<◌, ◌≤◌, ◌/◌, ◌%◌, ◌+◌, Bool, true, false, List, [], ◌∷◌, ◌++◌, length, take, Option, None, Some, Result, Ok, Err, codes}
+use Rattle.std.specs.Prelude.{◌≡◌, ℕ, ◌<◌, ◌≤◌, ◌+◌, Bool, true, false, List, [], ◌∷◌, ◌++◌, length, None, Some, Result, Ok, Err, codes}
 use Rattle.std.specs.Fmt.{decimal}
 use Rattle.std.specs.List.{flat_map}
 use Rattle.pw_outside.specs.Writing.{SinkState, Puts, PutsPart}
@@ -17,6 +17,7 @@ use Rattle.pic_y4m.specs.declared.writer.WriteEnd.{WriteEnd}
 use Rattle.pic_y4m.specs.declared.writer.WriteEnd.TheVariants as ends
 use Rattle.pic_y4m.specs.Frames.{State, HasForm, started, start_at, next_at, pictures_left, pictured}
 use Rattle.pic_y4m.specs.HeadLine.{IsHead}
+use Rattle.pic_y4m.specs.Samples.{size_of, plane_bytes}
 use Rattle.pw_planes.specs.declared.kinds.AlphaKind.TheVariants.{Absent}
 
 -- the letter of the parameter I
@@ -40,19 +41,9 @@ unfoldable pub head_bytes : Head → List ℕ
 head_bytes h = codes "YUV4MPEG2 W" ++ decimal h.width ++ codes " H" ++ decimal h.height ++ codes " F" ++ decimal h.num ++ codes ":" ++ decimal h.den
     ++ codes " I" ++ mode_text h.interlace ++ codes " C" ++ sampling_text h.chroma ++ depth_text h.depth ++ codes "\n"
 
--- a sample: a byte, or two bytes of which the low one comes first
-abbrev pub sample_text : Depth → ℕ → List ℕ
-sample_text D8 sample = sample ∷ []
-sample_text D10 sample = sample % 256 ∷ sample / 256 ∷ []
-sample_text D12 sample = sample % 256 ∷ sample / 256 ∷ []
-
--- the samples of a plane
-abbrev pub plane_bytes : Depth → List ℕ → List ℕ
-plane_bytes depth samples = flat_map (sample_text depth) samples
-
 -- a frame: its line, and the planes Y, Cb and Cr
 unfoldable pub frame_bytes : Depth → Picture → List ℕ
-frame_bytes depth p = codes "FRAME\n" ++ plane_bytes depth p.y.samples ++ plane_bytes depth p.cb.samples ++ plane_bytes depth p.cr.samples
+frame_bytes depth p = codes "FRAME\n" ++ plane_bytes (size_of depth) p.y.samples ++ plane_bytes (size_of depth) p.cb.samples ++ plane_bytes (size_of depth) p.cr.samples
 
 -- The sink took a text, or a front of it and not all after a failure, or nothing where memory ran out.
 abbrev pub Writes : {X : Type 0} → Result X WriteEnd → SinkState → SinkState → List ℕ → Type 0

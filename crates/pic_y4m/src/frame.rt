@@ -7,51 +7,25 @@ ghost use Rattle.pw_outside.specs.Ports.{CountsFault, GoesOn};
 ghost use Rattle.pw_outside.specs.Reading.{Gives};
 ghost use Rattle.pw_planes.specs.Rows.{raster};
 ghost use Rattle.pic_y4m.specs.Faults.{told_fault, is_failed};
-ghost use Rattle.pic_y4m.specs.Frames.{luma_count, chroma_count, chroma_rows, chroma_samples, picture_of, samples_at, planes_at, frame_at, HasForm};
+ghost use Rattle.pic_y4m.specs.Frames.{luma_count, chroma_count, chroma_rows, chroma_samples, picture_of, planes_at, frame_at, HasForm};
 ghost use Rattle.pic_y4m.specs.HeadLine.{IsStream};
 
 use crate::fault::{PictureFault, PictureKind, bad};
 use crate::head_line::Stream;
 use crate::line::line_of;
-use crate::samples::{check_range, sample_bytes, samples_in};
-use pw_outside::{ByteSource, fill};
-use pw_planes::{Depth, Picture, Plane};
+use crate::samples::{check_range, limit_of, read_samples, size_of};
+use pw_outside::ByteSource;
+use pw_planes::{Picture, Plane};
 use std::alloc::{AllocError, Global};
 
 /// The longest line in front of a frame, in bytes with its line feed.
 const MAX_FRAME_LINE: usize = 256;
 
-/// The next samples of a plane, all read before they are taken apart.
-#[tactic(auto, using(crate::proofs::Planes::samples_length), unfolding(crate::specs::Frames::samples_at))]
-fn samples_of<S: ByteSource>(
-    alloc: Global,
-    source: &mut S,
-    place: &mut u64,
-    depth: Depth,
-    count: usize,
-) -> Result<Vec<u16>, PictureFault>
-    requires few { count ≤ 35389440 }
-    requires room { place.old < 2 ^ 62 }
-    ensures bytes { Gives told_fault (λ v. v.items) (S.left source.old) (S.left source.new) place.old place.new result (samples_at depth count) }
-    ensures len { IfOk result (λ v. length v.items ≡ count) }
-    ensures place { place.new ≤ place.old + 2 * count }
-    ensures becomes { GoesOn S.becomes source.old source.new }
-    ensures cause { CountsFault (S.faults source.old) (S.faults source.new) (is_failed result) }
-{
-    let len = count * sample_bytes(depth);
-    let mut bytes = Vec::from_elem(alloc, 0u8, len)?;
-    let got = fill(source, &mut bytes)?;
-    if got < len {
-        return Err(bad(PictureKind::Truncated, *place + got as u64));
-    }
-    *place += len as u64;
-    Ok(samples_in(alloc, depth, count, &bytes)?)
-}
-
 /// The number of luma samples.
 fn luma_count(form: &Stream) -> usize
     requires { IsStream form.now }
     ensures value { result ≡ luma_count form.now }
+    ensures some { 1 ≤ result }
     ensures few { result ≤ 35389440 }
 {
     usize::from(form.head.height) * usize::from(form.head.width)
@@ -74,6 +48,7 @@ fn chroma_rows(shares_rows: bool, height: u32) -> u32
 fn chroma_count(form: &Stream) -> usize
     requires { IsStream form.now }
     ensures value { result ≡ chroma_count form.now }
+    ensures some { 1 ≤ result }
     ensures few { result ≤ 35389440 }
 {
     let width = form.head.chroma.plane_width(u32::from(form.head.width));
@@ -181,16 +156,17 @@ pub(crate) fn planes_of<S: ByteSource>(
     ensures becomes { GoesOn S.becomes source.old source.new }
     ensures cause { CountsFault (S.faults source.old) (S.faults source.new) (is_failed result) }
 {
-    let depth = form.head.depth;
+    let size = size_of(form.head.depth);
+    let limit = limit_of(form.head.depth);
     let y_at = *place;
-    let y = samples_of(alloc, source, place, depth, luma_count(form))?;
+    let y = read_samples(alloc, source, place, size, luma_count(form))?;
     let cb_at = *place;
-    let cb = samples_of(alloc, source, place, depth, chroma_count(form))?;
+    let cb = read_samples(alloc, source, place, size, chroma_count(form))?;
     let cr_at = *place;
-    let cr = samples_of(alloc, source, place, depth, chroma_count(form))?;
-    check_range(depth, &y, y_at)?;
-    check_range(depth, &cb, cb_at)?;
-    check_range(depth, &cr, cr_at)?;
+    let cr = read_samples(alloc, source, place, size, chroma_count(form))?;
+    check_range(size, limit, &y, y_at)?;
+    check_range(size, limit, &cb, cb_at)?;
+    check_range(size, limit, &cr, cr_at)?;
     Ok(picture_of(alloc, form, y, cb, cr)?)
 }
 

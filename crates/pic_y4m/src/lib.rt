@@ -9,6 +9,7 @@ mod head_line;
 mod laws;
 mod line;
 mod parameters;
+mod pieces;
 mod reader;
 mod samples;
 mod values;
@@ -20,7 +21,9 @@ pub use laws::{
     head_is_read, left_have_form, next_is_first, pictures_are_read, pictures_have_form,
     written_is_meant, written_is_read,
 };
+pub use pieces::put_samples;
 pub use reader::Y4mReader;
+pub use samples::{SampleSize, check_range, limit_of, next_samples, read_samples};
 pub use writer::{WriteEnd, Y4mWriter};
 
 #[cfg(test)]

@@ -333,7 +333,7 @@ fn copied(
     let fails = Vec::from_array(alloc, [fail]).expect(rt, "memory");
     let mut sink = MemSink::new(alloc, 2048, 4096, fails).expect(rt, "memory");
     let end = match Y4mWriter::start(alloc, &mut sink, &head) {
-        Ok(mut writer) => writer.picture(alloc, &mut sink, &picture),
+        Ok(mut writer) => writer.picture(&mut sink, &picture),
         Err(end) => Err(end),
     };
     (sink, end)

@@ -1,17 +1,18 @@
 //! Writing pictures one after the other.
 
-ghost use Rattle.std.specs.Prelude.{◌≡◌, ◌≤◌, ◌++◌, IfOk, OnOk};
+ghost use Rattle.std.specs.Prelude.{◌≡◌, ◌≤◌, IfOk, OnOk, OnErr, is_err};
 ghost use Rattle.pw_outside.specs.Ports.{CountsFault};
-ghost use Rattle.pw_planes.specs.declared.kinds.Depth.TheVariants.{D8, D10};
+ghost use Rattle.pw_outside.specs.Writing.{sink_state, Puts, PutsPart};
 ghost use Rattle.pic_y4m.specs.Frames.{HasForm, AreBelow};
-ghost use Rattle.pw_outside.specs.Writing.{sink_state};
-ghost use Rattle.pic_y4m.specs.Writing.{Writes, write_failed, mode_text, sampling_text, depth_text, head_bytes, plane_bytes, frame_bytes};
+ghost use Rattle.pic_y4m.specs.Writing.{Writes, write_failed, mode_text, sampling_text, depth_text, head_bytes, frame_bytes};
 
 use crate::head::Head;
-use pw_outside::{ByteSink, NoMemory, put};
-use pw_planes::{Chroma, Depth, Interlace, Picture, Plane};
+use crate::pieces::{put_all, put_samples};
+use crate::samples::size_of;
+use pw_outside::{ByteSink, Failed, NoMemory};
+use pw_planes::{Chroma, Depth, Interlace, Picture};
 use pw_text::{put_decimal, put_words};
-use std::alloc::{AllocFailed, Global};
+use std::alloc::Global;
 use std::marker::Model;
 
 /// Why writing ended.
@@ -78,69 +79,21 @@ fn head_text(alloc: Global, head: &Head) -> Result<Vec<u8>, NoMemory>
     Ok(text)
 }
 
-/// Appends samples of one byte.
-fn put_bytes(bytes: &mut Vec<u8>, samples: &[u16]) -> Result<(), AllocFailed<u8>>
-    requires { AreBelow D8 samples.now }
-    ensures { OnOk result (bytes.new.items ≡ bytes.old.items ++ plane_bytes D8 samples.now) }
-{
-    for sample in samples {
-        bytes.push(*sample as u8)?;
-    }
-    Ok(())
-}
-
-/// Appends samples of two bytes, the low one first.
-fn put_pairs(bytes: &mut Vec<u8>, samples: &[u16]) -> Result<(), AllocFailed<u8>>
-    ensures { OnOk result (bytes.new.items ≡ bytes.old.items ++ plane_bytes D10 samples.now) }
-{
-    for sample in samples {
-        bytes.push((*sample % 256) as u8)?;
-        bytes.push((*sample / 256) as u8)?;
-    }
-    Ok(())
-}
-
-/// Appends the samples of a plane.
-fn put_plane(bytes: &mut Vec<u8>, depth: Depth, plane: &Plane) -> Result<(), NoMemory>
-    requires { AreBelow depth plane.now.samples }
-    ensures { OnOk result (bytes.new.items ≡ bytes.old.items ++ plane_bytes depth plane.now.samples) }
-{
-    let written = match depth {
-        Depth::D8 => put_bytes(bytes, plane.samples()),
-        Depth::D10 | Depth::D12 => put_pairs(bytes, plane.samples()),
-    };
-    match written {
-        Ok(()) => Ok(()),
-        Err(_) => Err(NoMemory),
-    }
-}
-
-/// The bytes of a frame.
-#[tactic(auto, unfolding(crate::specs::Writing::frame_bytes))]
-fn frame_text(alloc: Global, depth: Depth, picture: &Picture) -> Result<Vec<u8>, NoMemory>
+/// Writes a frame.
+fn put_frame<K: ByteSink>(sink: &mut K, depth: Depth, picture: &Picture) -> Result<(), Failed>
     requires y { AreBelow depth picture.now.y.samples }
     requires cb { AreBelow depth picture.now.cb.samples }
     requires cr { AreBelow depth picture.now.cr.samples }
-    ensures { IfOk result (λ text. text.items ≡ frame_bytes depth picture.now) }
-{
-    let mut text = Vec::new(alloc);
-    put_words(&mut text, "FRAME\n")?;
-    put_plane(&mut text, depth, &picture.y)?;
-    put_plane(&mut text, depth, &picture.cb)?;
-    put_plane(&mut text, depth, &picture.cr)?;
-    Ok(text)
-}
-
-/// Writes a whole text.
-fn write_text<K: ByteSink>(sink: &mut K, text: &[u8]) -> Result<(), WriteEnd>
-    ensures bytes { Writes result (sink_state (K.held sink.old) (K.taken sink.old)) (sink_state (K.held sink.new) (K.taken sink.new)) text.now }
+    ensures ok { OnOk result (Puts (sink_state (K.held sink.old) (K.taken sink.old)) (sink_state (K.held sink.new) (K.taken sink.new)) (frame_bytes depth picture.now)) }
+    ensures err { OnErr result (PutsPart (sink_state (K.held sink.old) (K.taken sink.old)) (sink_state (K.held sink.new) (K.taken sink.new)) (frame_bytes depth picture.now)) }
     ensures settled { K.settled sink.old ≤ K.settled sink.new }
-    ensures cause { CountsFault (K.faults sink.old) (K.faults sink.new) (write_failed result) }
+    ensures cause { CountsFault (K.faults sink.old) (K.faults sink.new) (is_err result) }
 {
-    match put(sink, text) {
-        Ok(()) => Ok(()),
-        Err(_) => Err(WriteEnd::Failed),
-    }
+    let size = size_of(depth);
+    put_all(sink, b"FRAME\n")?;
+    put_samples(sink, size, picture.y.samples())?;
+    put_samples(sink, size, picture.cb.samples())?;
+    put_samples(sink, size, picture.cr.samples())
 }
 
 /// Writes pictures of one form one after the other. Alpha isn't written.
@@ -177,33 +130,28 @@ impl Y4mWriter {
             Ok(text) => text,
             Err(_) => return Err(WriteEnd::NoMemory),
         };
-        match write_text(sink, &text) {
+        match put_all(sink, &text) {
             Ok(()) => Ok(Y4mWriter { head: *head }),
-            Err(end) => Err(end),
+            Err(_) => Err(WriteEnd::Failed),
         }
     }
 
-    /// Writes a picture of the form of the head.
+    /// Writes a picture of the form of the head. No memory is taken.
     ///
-    /// The errors are those of [`Y4mWriter::start`].
-    pub fn picture<K: ByteSink>(
-        &mut self,
-        alloc: Global,
-        sink: &mut K,
-        picture: &Picture,
-    ) -> Result<(), WriteEnd>
+    /// The error is `Failed` where a call of the sink failed.
+    pub fn picture<K: ByteSink>(&mut self, sink: &mut K, picture: &Picture) -> Result<(), WriteEnd>
         requires { HasForm self.old picture.now }
-        // The frame is appended: all of it, or after `Failed` a part from its front, or after `NoMemory` nothing.
+        // The frame is appended: all of it, or after `Failed` a part from its front.
         ensures bytes { Writes result (sink_state (K.held sink.old) (K.taken sink.old)) (sink_state (K.held sink.new) (K.taken sink.new)) (frame_bytes self.old.depth picture.now) }
         ensures same { self.new ≡ self.old }
         ensures settled { K.settled sink.old ≤ K.settled sink.new }
-        // The error is `Failed` only where a call of the sink failed, and each such call is answered by it.
+        // An error is `Failed`, only where a call of the sink failed, and each such call is answered by it.
+        ensures failed { write_failed result ≡ is_err result }
         ensures cause { CountsFault (K.faults sink.old) (K.faults sink.new) (write_failed result) }
     {
-        let text = match frame_text(alloc, self.head.depth, picture) {
-            Ok(text) => text,
-            Err(_) => return Err(WriteEnd::NoMemory),
-        };
-        write_text(sink, &text)
+        match put_frame(sink, self.head.depth, picture) {
+            Ok(()) => Ok(()),
+            Err(_) => Err(WriteEnd::Failed),
+        }
     }
 }

@@ -1,7 +1,7 @@
 use Rattle.std.proofs.Common.{◌+◌, ◌*◌, arith, get_or}
 use Rattle.std.proofs.lemmas.List.FromFn.{fill_by_all}
-use Rattle.pic_y4m.specs.Frames.{samples_in}
-use Rattle.pic_y4m.proofs.samples.word_samples.Goals as goal
+use Rattle.pic_y4m.specs.Samples.{samples_in}
+use Rattle.pic_y4m.proofs.samples.pair_samples.Goals as goal
 
 pub returns : goal.returns
 unfolding samples_in
