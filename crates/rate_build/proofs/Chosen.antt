@@ -18,7 +18,8 @@ use Rattle.pr_frame.specs.declared.coded.CodedFrame.{CodedFrame}
 use Rattle.pr_frame.specs.Forms.{places_in, IsBuilt}
 use Rattle.pr_frame.specs.Coded.{AreCodedSlices, IsCodedPicture, IsCodedFrame, IsWritableBlock, IsWritableSlice, IsWritablePicture, IsWritableHeader, IsWritable}
 use Rattle.rate_build.specs.declared.slices.SliceCoefficients.{SliceCoefficients}
-use Rattle.rate_build.specs.Measures.{multipliers, quantised_block, quantised_part, IsMultiplier, IsBlock}
+use Rattle.pr_quant.specs.Errors.{multipliers}
+use Rattle.rate_build.specs.Measures.{quantised_block, quantised_part, IsMultiplier, IsBlock}
 use Rattle.rate_build.specs.Coefficients.{FrameCoefficients, IsSliceAt, AreOfLayout, frame_places}
 use Rattle.rate_build.specs.Coding.{coded_slice, coded_slices, coded_picture, coded_frame, weights_in, IsHeaderOf, IsIndex}
 use Rattle.rate_build.proofs.InTurn.{take_more}
@@ -60,7 +61,7 @@ coded_more w slices choice i s d coded x within number is made so_far =
 
 -- ---- a frame
 
-are_coded : (h : FrameHeader) (places : List SlicePlace) (slices : List SliceCoefficients) (choice : List ℕ) → AllZip (IsSliceAt h.chroma h.alpha) places slices → length choice ≡ length slices → All IsIndex choice
+pub are_coded : (h : FrameHeader) (places : List SlicePlace) (slices : List SliceCoefficients) (choice : List ℕ) → AllZip (IsSliceAt h.chroma h.alpha) places slices → length choice ≡ length slices → All IsIndex choice
     → AreCodedSlices h places (coded_slices (weights_in h) slices choice)
 unfolding quantised_part
 are_coded h [] [] choice zip e each = tt

@@ -6,3 +6,10 @@ pub mod Joined
 pub mod Whole
 pub mod Lengths
 pub mod Chosen
+pub mod Walking
+pub mod Following
+pub mod Gaining
+pub mod Finishing
+pub mod Layouts
+pub mod Limits
+pub mod Writable

@@ -1,31 +1,16 @@
 -- A block quantised place by place, and a part block by block.
 use Rattle.std.proofs.Common.{◌≡◌, ℕ, ◌+◌, ◌-◌, ◌<◌, ◌≤◌, List, [], length, map, take, get_or, ℤ, pos, nat_abs, set, to_z, of_z, w16, refl, sym, ap, ◌∙◌, subst, arith}
-use Rattle.std.specs.List.{sum, sum_by, range_with_len}
+use Rattle.std.specs.List.{sum_by, range_with_len}
 use Rattle.std.proofs.lemmas.List.{get_or-map, ext_get_or, length-map, get_or-take, length-take-le}
 use Rattle.std.proofs.lemmas.List.Edits.{fill_by_more}
-use Rattle.std.proofs.lemmas.List.FromFn.{sum_by-map-range_with_len_more, fill_by_all, get_or-map-range_with_len, length-map-range_with_len}
+use Rattle.std.proofs.lemmas.List.FromFn.{fill_by_all, get_or-map-range_with_len, length-map-range_with_len}
 use Rattle.std.proofs.lemmas.Int.{to_z-of_z, fits_signed_from_abs}
 use Rattle.pr_dct.proofs.SumLemmas.{filled_more}
-use Rattle.pr_quant.specs.Quantised.{quantised, error_of}
+use Rattle.pr_quant.specs.Quantised.{quantised}
 use Rattle.pr_coeff.specs.Component.{component}
 use Rattle.rate_build.specs.declared.costs.Measure.{Measure}
-use Rattle.rate_build.specs.Measures.{multipliers, quantised_block, block_error, quantised_part, part_error, measured, all_measured}
-
--- the sum of the squared errors of the first n coefficients of a block
-unfoldable pub errors_below : List ℕ → List ℤ → ℕ → ℕ
-errors_below ms block n = sum (map (λ p. error_of (get_or block p (pos 0)) (get_or ms p 0)) (range_with_len 0 n))
-
-pub errors_none : (ms : List ℕ) (block : List ℤ) → errors_below ms block 0 ≡ 0
-unfolding errors_below
-errors_none ms block = refl
-
-pub errors_more : (ms : List ℕ) (block : List ℤ) (n : ℕ) → errors_below ms block (n + 1) ≡ errors_below ms block n + error_of (get_or block n (pos 0)) (get_or ms n 0)
-unfolding errors_below
-errors_more ms block n = sum_by-map-range_with_len_more (λ (e : ℕ). e) (λ p. error_of (get_or block p (pos 0)) (get_or ms p 0)) 0 n n (omega arith)
-
-pub errors_all : (ms : List ℕ) (block : List ℤ) (n : ℕ) → n ≡ 64 → errors_below ms block n ≡ block_error ms block
-unfolding errors_below block_error
-errors_all ms block n e = ap (λ k. sum (map (λ p. error_of (get_or block p (pos 0)) (get_or ms p 0)) (range_with_len 0 k))) e
+use Rattle.pr_quant.specs.Errors.{multipliers, block_error, part_error}
+use Rattle.rate_build.specs.Measures.{quantised_block, quantised_part, measured, all_measured}
 
 pub block_filled : (ms : List ℕ) (block values : List ℤ) → length values ≡ 64
     → ((k : ℕ) → k < 64 → get_or values k (pos 0) ≡ quantised (get_or block k (pos 0)) (get_or ms k 0)) → values ≡ quantised_block ms block

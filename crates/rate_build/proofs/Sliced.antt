@@ -13,7 +13,7 @@ use Rattle.rate_build.specs.declared.slices.SliceCoefficients.{SliceCoefficients
 use Rattle.rate_build.specs.Measures.{ArePart}
 use Rattle.rate_build.specs.Coefficients.{coefficients_at, part_coefficients, alpha_values, Planes, slice_coefficients, IsSliceAt}
 
-part_length : (plane : Raster) (depth : Depth) (chroma : Chroma) (part : Part) (slice : SlicePlace) → length (part_coefficients plane depth chroma part slice) ≡ length (blocks_of chroma part slice)
+pub part_length : (plane : Raster) (depth : Depth) (chroma : Chroma) (part : Part) (slice : SlicePlace) → length (part_coefficients plane depth chroma part slice) ≡ length (blocks_of chroma part slice)
 unfolding part_coefficients
 part_length plane depth chroma part slice = length-map (blocks_of chroma part slice) (coefficients_at plane depth)
 

@@ -1,9 +1,8 @@
 -- How large quantised values, errors and components are.
-use Rattle.std.proofs.Common.{◌≡◌, ℕ, ◌+◌, ◌*◌, ◌-◌, ◌^◌, ◌<◌, ◌≤◌, inl, inr, List, [], ◌∷◌, length, map, take, get_or, ℤ, pos, nat_abs, zero, suc, add-one, refl, sym, ap, ◌∙◌, subst, arith}
-use Rattle.std.specs.List.{All, sum_by}
+use Rattle.std.proofs.Common.{◌≡◌, ℕ, ◌+◌, ◌*◌, ◌-◌, ◌^◌, ◌<◌, ◌≤◌, inl, inr, List, [], ◌∷◌, length, map, take, get_or, ℤ, pos, nat_abs, refl, sym, ap, ◌∙◌, subst, arith}
+use Rattle.std.specs.List.{All}
 use Rattle.std.proofs.Math.Nat.{mul-le-mul_right}
 use Rattle.std.proofs.lemmas.Nat.{mul-le}
-use Rattle.std.proofs.lemmas.List.Sums.{sum_by-le}
 use Rattle.std.proofs.lemmas.Bool.{cases_lt, lt-leb, le-leb}
 use Rattle.std.proofs.lemmas.List.{get_or-map, get_or-take, get_or_past, length-map}
 use Rattle.std.proofs.lemmas.List.Elements.{All-head, All-tail}
@@ -11,7 +10,8 @@ use Rattle.std.proofs.lemmas.List.FromFn.{get_or-map-range_with_len, length-map-
 use Rattle.pr_dct.specs.Transform.{AreWithin}
 use Rattle.pr_quant.specs.Quantised.{scale_of, quantised, greatest_coefficient}
 use Rattle.pr_quant.specs.Matrices.{IsWeight}
-use Rattle.pr_quant.proofs.NearestLemmas.{quantised_small, error_small}
+use Rattle.pr_quant.proofs.NearestLemmas.{quantised_small}
+use Rattle.pr_quant.proofs.ErrorLemmas.{part_error_small}
 use Rattle.pr_coeff.specs.Component.{AreBlocks, IsScan, component}
 use Rattle.pr_coeff.proofs.WholeLemmas.{scan_of as is_scan}
 use Rattle.pr_coeff.specs.declared.scan.Scan.TheVariants as scans
@@ -21,8 +21,8 @@ use Rattle.pw_planes.specs.declared.kinds.Interlace.TheVariants.{Progressive, To
 use Rattle.rate_build.specs.declared.costs.Measure.{Measure}
 use Rattle.pr_coeff.proofs.CostLemmas.{component_cost}
 use Rattle.pr_coeff.proofs.WovenLemmas.{AllSmall_from}
-use Rattle.rate_build.proofs.Quantising.{errors_below, errors_none, errors_more, errors_all}
-use Rattle.rate_build.specs.Measures.{multipliers, quantised_block, block_error, quantised_part, part_error, measured, all_measured, no_measure, IsSmall, AreSmall, IsMultiplier, IsBlock, ArePart}
+use Rattle.pr_quant.specs.Errors.{multipliers, part_error}
+use Rattle.rate_build.specs.Measures.{quantised_block, quantised_part, measured, all_measured, no_measure, IsSmall, AreSmall, IsMultiplier, IsBlock, ArePart}
 
 -- ---- multipliers
 
@@ -47,6 +47,10 @@ are_multipliers weights index whole each least most p h =
 
 -- ---- quantised values
 
+pub quantised_whole : (ms : List ℕ) (block : List ℤ) → length (quantised_block ms block) ≡ 64
+unfolding quantised_block
+quantised_whole ms block = length-map-range_with_len (λ p. quantised (get_or block p (pos 0)) (get_or ms p 0)) 0 64
+
 module _ (ms : List ℕ) (are : (p : ℕ) → p < 64 → IsMultiplier (get_or ms p 0)) where
   pub value_small : (block : List ℤ) → AreWithin greatest_coefficient block → (k : ℕ) → nat_abs (get_or (quantised_block ms block) k (pos 0)) ≤ 8191
   unfolding quantised_block
@@ -57,15 +61,11 @@ module _ (ms : List ℕ) (are : (p : ℕ) → p < 64 → IsMultiplier (get_or ms
     | inr h ↦ rw (get_or_past (quantised_block ms block) k (pos 0) (omega (arith, length-map-range_with_len (λ p. quantised (get_or block p (pos 0)) (get_or ms p 0)) 0 64))) (omega arith)
   ]
 
-  whole : (block : List ℤ) → length (quantised_block ms block) ≡ 64
-  unfolding quantised_block
-  whole block = length-map-range_with_len (λ p. quantised (get_or block p (pos 0)) (get_or ms p 0)) 0 64
-
   pub blocks_fit : (blocks : List (List ℤ)) → All IsBlock blocks → AreBlocks (map (quantised_block ms) blocks)
   blocks_fit [] each = tt
   blocks_fit (b ∷ blocks) each =
       let small = value_small b (All-head IsBlock b blocks each).within in
-      (whole b, AllSmall_from (quantised_block ms b) (λ k l. omega (arith, small k)), blocks_fit blocks (All-tail IsBlock b blocks each))
+      (quantised_whole ms b, AllSmall_from (quantised_block ms b) (λ k l. omega (arith, small k)), blocks_fit blocks (All-tail IsBlock b blocks each))
 
   pub values_small : (blocks : List (List ℤ)) → All IsBlock blocks → (i place : ℕ) → nat_abs (get_or (get_or (map (quantised_block ms) blocks) i []) place (pos 0)) ≤ 8191
   values_small blocks each i place = elim (cases_lt i (length blocks)) [
@@ -73,37 +73,12 @@ module _ (ms : List ℕ) (are : (p : ℕ) → p < 64 → IsMultiplier (get_or ms
     | inr h ↦ rw (get_or_past (map (quantised_block ms) blocks) i [] (omega (arith, length-map blocks (quantised_block ms)))) (omega arith)
   ]
 
-  -- ---- errors
-
-  errors_small : (block : List ℤ) → AreWithin greatest_coefficient block → (n : ℕ) → n ≤ 64 → errors_below ms block n ≤ n * 2 ^ 28
-  errors_small block within zero h = rw (errors_none ms block) (omega arith)
-  errors_small block within (suc n) h =
-      let lt : n < 64 = omega arith in
-      let below : n ≤ 64 = omega arith in
-      let so_far = errors_small block within n below in
-      let some : 0 < get_or ms n 0 = omega (arith, (are n lt).least) in
-      let one = error_small (get_or block n (pos 0)) (get_or ms n 0) some (within n lt) in
-      let more = errors_more ms block n in
-      let next : errors_below ms block (n + 1) ≤ (n + 1) * 2 ^ 28 = omega (arith, so_far, one, more) in
-      subst (λ k. errors_below ms block k ≤ k * 2 ^ 28) (add-one n) next
-
-  pub block_error_small : (block : List ℤ) → AreWithin greatest_coefficient block → block_error ms block ≤ 64 * 2 ^ 28
-  block_error_small block within = let h = errors_small block within 64 (omega arith) in omega (arith, h, errors_all ms block 64 refl)
-
-  pub blocks_error_small : (blocks : List (List ℤ)) → All IsBlock blocks → sum_by (block_error ms) blocks ≤ length blocks * (64 * 2 ^ 28)
-  blocks_error_small blocks each = sum_by-le (block_error ms) (64 * 2 ^ 28) blocks (λ k d l. block_error_small (get_or blocks k d) (each k d l).within)
-
 -- ---- parts
 
 module _ (weights : List ℕ) (index : ℕ) (whole : length weights ≡ 64) (range : All IsWeight weights) (from : 1 ≤ index) (to : index ≤ 224) where
-  ms : List ℕ
-  ms = multipliers weights index
-
-  pub part_error_small : (blocks : List (List ℤ)) → ArePart blocks → part_error weights index blocks ≤ 2 ^ 39
-  unfolding part_error ms
-  part_error_small blocks are =
-      let e = blocks_error_small (multipliers weights index) (are_multipliers weights index whole range from to) blocks are.each in
-      omega (arith, e, are.few, mul-le-mul_right (64 * 2 ^ 28) are.few)
+  pub part_error_within : (blocks : List (List ℤ)) → ArePart blocks → part_error weights index blocks ≤ 2 ^ 39
+  part_error_within blocks are =
+      omega (arith, part_error_small weights index blocks (λ k d l. (are.each k d l).within), are.few, mul-le-mul_right (64 * 2 ^ 28) are.few)
 
   -- the bytes of a part
   pub part_short : (scan : List ℕ) → IsScan scan → (blocks : List (List ℤ)) → ArePart blocks → length (component scan (quantised_part weights index blocks)) ≤ 14080
@@ -131,5 +106,5 @@ measures_small scan weights blocks lo hi measures is whole range are from to e k
     ∙ get_or-map-range_with_len (measured scan weights blocks) lo n k (lo + k) no_measure h refl in
     subst IsSmall (sym at) (record {
       bytes = part_short weights (lo + k) whole range (omega arith) (omega arith) scan is blocks are;
-      error = part_error_small weights (lo + k) whole range (omega arith) (omega arith) blocks are;
+      error = part_error_within weights (lo + k) whole range (omega arith) (omega arith) blocks are;
     })

@@ -37,7 +37,7 @@ repeated l BottomFirst = omega (arith, length-append (slices_of l) (slices_of l 
 pub slices_number : (c : FrameCoefficients) → AreOfLayout c → length c.slices ≡ pictures_of c.layout.interlace * length (slices_of c.layout)
 slices_number c h = AllZip-long (IsSliceAt c.layout.chroma c.alpha) (frame_places c.layout) c.slices h ∙ repeated c.layout c.layout.interlace
 
-pictures_few : (mode : Interlace) → (1 ≤ pictures_of mode) × (pictures_of mode ≤ 2)
+pub pictures_few : (mode : Interlace) → (1 ≤ pictures_of mode) × (pictures_of mode ≤ 2)
 pictures_few Progressive = (omega arith, omega arith)
 pictures_few TopFirst = (omega arith, omega arith)
 pictures_few BottomFirst = (omega arith, omega arith)

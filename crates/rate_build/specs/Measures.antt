@@ -1,15 +1,12 @@
 -- What a part of a slice costs at a quantisation index: the bytes of its component, and its squared error (the component is
 -- that of SMPTE RDD 36, scanned coefficients; the error, in coefficients, is our own).
-use Rattle.std.specs.Prelude.{◌≡◌, ℕ, ◌+◌, ◌-◌, ◌*◌, ◌^◌, ◌<◌, ◌≤◌, List, length, map, sum, get_or, ℤ, pos}
-use Rattle.std.specs.List.{All, range_with_len, sum_by}
+use Rattle.std.specs.Prelude.{◌≡◌, ℕ, ◌+◌, ◌-◌, ◌^◌, ◌<◌, ◌≤◌, List, length, map, get_or, ℤ, pos}
+use Rattle.std.specs.List.{All, range_with_len}
 use Rattle.pr_dct.specs.Transform.{AreWithin}
-use Rattle.pr_quant.specs.Quantised.{scale_of, quantised, error_of, greatest_coefficient, greatest_multiplier}
+use Rattle.pr_quant.specs.Errors.{multipliers, part_error}
+use Rattle.pr_quant.specs.Quantised.{quantised, greatest_coefficient, greatest_multiplier}
 use Rattle.pr_coeff.specs.Component.{component}
 use Rattle.rate_build.specs.declared.costs.Measure.{Measure}
-
--- the multiplier at each place of a block: the weight times the factor of the index
-unfoldable pub multipliers : List ℕ → ℕ → List ℕ
-multipliers weights index = map (λ w. w * scale_of index) weights
 
 -- a multiplier of written frames
 pub record IsMultiplier (m : ℕ) : Type 0 where
@@ -20,17 +17,9 @@ pub record IsMultiplier (m : ℕ) : Type 0 where
 unfoldable pub quantised_block : List ℕ → List ℤ → List ℤ
 quantised_block ms block = map (λ p. quantised (get_or block p (pos 0)) (get_or ms p 0)) (range_with_len 0 64)
 
--- the sum of the squared errors of a block's coefficients
-unfoldable pub block_error : List ℕ → List ℤ → ℕ
-block_error ms block = sum (map (λ p. error_of (get_or block p (pos 0)) (get_or ms p 0)) (range_with_len 0 64))
-
 -- the blocks of a part, quantised at an index
 unfoldable pub quantised_part : List ℕ → ℕ → List (List ℤ) → List (List ℤ)
 quantised_part weights index blocks = map (quantised_block (multipliers weights index)) blocks
-
--- the sum of the squared errors of their coefficients
-unfoldable pub part_error : List ℕ → ℕ → List (List ℤ) → ℕ
-part_error weights index blocks = sum_by (block_error (multipliers weights index)) blocks
 
 -- what a part costs at an index: the bytes of its component in the order of the scan, and its squared error
 abbrev pub measured : List ℕ → List ℕ → List (List ℤ) → ℕ → Measure

@@ -13,7 +13,8 @@ use Rattle.rate_table.specs.declared.entry.Entry.{Entry}
 use Rattle.rate_table.specs.Table.{Table}
 use Rattle.rate_build.specs.declared.slices.SliceCoefficients.{SliceCoefficients}
 use Rattle.rate_build.specs.declared.costs.Measure.{Measure}
-use Rattle.rate_build.specs.Measures.{part_error, ArePart, no_measure}
+use Rattle.pr_quant.specs.Errors.{part_error}
+use Rattle.rate_build.specs.Measures.{ArePart, no_measure}
 use Rattle.rate_build.specs.Coefficients.{FrameCoefficients}
 use Rattle.rate_build.specs.Coding.{coded_slice}
 

@@ -6,12 +6,17 @@ ghost use Rattle.pr_dct.specs.Transform.{AreWithin};
 ghost use Rattle.pr_quant.specs.Quantised.{quantised, error_of, greatest_coefficient, greatest_multiplier};
 ghost use Rattle.pr_quant.specs.Matrices.{IsWeight};
 ghost use Rattle.pr_coeff.specs.Component.{component, places};
-ghost use Rattle.rate_build.specs.Measures.{multipliers, quantised_block, block_error, quantised_part, part_error, all_measured, IsMultiplier, IsBlock, ArePart};
+ghost use Rattle.pr_quant.specs.Errors.{multipliers, block_error, part_error};
+ghost use Rattle.rate_build.specs.Measures.{quantised_block, quantised_part, all_measured, IsMultiplier, IsBlock, ArePart};
 
-use pr_coeff::{Block, Scan, component_length};
+use crate::walk::{Measuring, measure_part};
+#[cfg(test)]
+use pr_coeff::component_length;
+use pr_coeff::{Block, Scan};
 use pr_quant::{quantise, scale, squared_error};
 
 /// The most blocks that a part of a slice has.
+#[cfg(test)]
 const MOST_BLOCKS: usize = 32;
 
 /// What a part of a slice costs at an index.
@@ -69,6 +74,7 @@ pub(crate) fn quantise_block(block: &Block, multipliers: &[u32; 64], quantised: 
 }
 
 /// Writes the blocks of a part quantised, and gives the sum of their squared errors.
+#[cfg(test)]
 fn quantise_blocks(blocks: &[Block], multipliers: &[u32; 64], quantised: &mut [Block]) -> u64
     requires few { length blocks.now ≤ 32 }
     requires room { length blocks.now ≤ length quantised.old }
@@ -86,6 +92,7 @@ fn quantise_blocks(blocks: &[Block], multipliers: &[u32; 64], quantised: &mut [B
 }
 
 /// What a part costs where a block's coefficients have these multipliers. The first blocks of `quantised` are used.
+#[cfg(test)]
 fn measure_at(
     blocks: &[Block],
     multipliers: &[u32; 64],
@@ -109,6 +116,28 @@ fn measure_at(
 /// 1 to 32 blocks of coefficients of magnitude at most 16,383, and as many measures as indices, which are from 1 to 224;
 /// the weights are from 2 to 63. No memory is taken.
 pub fn measure_all(
+    blocks: &[Block],
+    weights: &[u8; 64],
+    scan: Scan,
+    lo: u8,
+    hi: u8,
+    measures: &mut [Measure],
+)
+    requires part { ArePart blocks.now }
+    requires weights { All IsWeight weights.now }
+    requires least { 1 ≤ lo }
+    requires order { lo ≤ hi }
+    requires most { hi ≤ 224 }
+    requires room { length measures.old ≡ hi + 1 - lo }
+    ensures { measures.new ≡ all_measured (places scan) weights.now blocks.now lo hi }
+{
+    let measuring = Measuring::new(lo, hi);
+    measure_part(blocks, weights, scan, &measuring, measures);
+}
+
+/// The same, index by index: the plain program, for tests.
+#[cfg(test)]
+pub(crate) fn measure_each(
     blocks: &[Block],
     weights: &[u8; 64],
     scan: Scan,

@@ -1,6 +1,22 @@
 //! Laws over the definitions alone.
 
-ghost use Rattle.rate_build.specs.Laws.{FrameHasTableSize};
+ghost use Rattle.rate_build.specs.Laws.{CoefficientsAreOfLayout, TableIsTable, CodedIsReady, ChoiceHasIndices, FrameHasTableSize};
+
+/// The coefficients of a picture are of its layout, in every chroma format and interlace mode, with alpha and without.
+pub fn coefficients_are_of_layout()
+    ensures { CoefficientsAreOfLayout }
+{}
+
+/// The table of coefficients is within the limits of tables.
+pub fn table_is_table()
+    ensures { TableIsTable }
+{}
+
+/// What is coded by one index from 1 to 224 for each slice, as the indices of a choice of a table are, can be written.
+pub fn coded_can_be_written()
+    ensures coded { CodedIsReady }
+    ensures indices { ChoiceHasIndices }
+{}
 
 /// A frame that is coded by a choice of a table has the table's fixed bytes and the sizes of the chosen entries.
 pub fn frame_has_table_size()

@@ -7,10 +7,13 @@ mod laws;
 mod slices;
 mod tables;
 mod transform;
+mod walk;
 
 pub use coding::coded;
 pub use costs::{Measure, measure_all};
-pub use laws::frame_has_table_size;
+pub use laws::{
+    coded_can_be_written, coefficients_are_of_layout, frame_has_table_size, table_is_table,
+};
 pub use slices::{CoefficientSlices, Coefficients, SliceCoefficients};
 pub use tables::build_table;
 pub use transform::coefficients_of;

@@ -1,16 +1,21 @@
 //! Tables that were worked out outside of this crate.
 
-ghost use Rattle.std.specs.Prelude.{◌≡◌, ◌^◌, None};
+ghost use Rattle.std.specs.Prelude.{◌≡◌, ◌≤ℤ◌, ◌^◌, None};
 ghost use Rattle.pw_planes.specs.declared.kinds.Chroma.TheVariants.{C422};
 ghost use Rattle.pw_planes.specs.declared.kinds.AlphaKind.TheVariants.{Absent};
 ghost use Rattle.pw_planes.specs.Samples.{bits_of};
 ghost use Rattle.std.specs.List.{All};
 ghost use Rattle.pw_planes.specs.declared.kinds.Interlace.TheVariants.{Progressive};
 ghost use Rattle.pr_geom.specs.Layout.{IsLayoutOf};
+ghost use Rattle.pr_dct.specs.Transform.{AreWithin};
+ghost use Rattle.pr_quant.specs.Quantised.{greatest_coefficient};
 ghost use Rattle.rate_build.specs.Coding.{IsIndex};
 ghost use Rattle.rate_build.specs.Coefficients.{HasDepth};
+ghost use Rattle.rate_build.specs.Measures.{ArePart};
 
 use super::*;
+use crate::costs::measure_each;
+use pr_coeff::{Block, Scan};
 use pr_frame::{frame_length, write_frame};
 use pr_geom::Layout;
 use pr_head::own_header;
@@ -357,4 +362,68 @@ fn codes_each_slice_at_its_own_index(rt: HostRuntime) {
     let (length, sink) = frame(&rt, rt.alloc(), bytes, (20, 1), form, &[2, 2]);
     assert_eq!(rt; length, 168 + 77 + 51);
     assert_eq!(rt; sink.bytes().len(), 168 + 77 + 51);
+}
+
+/// The coefficients of the block are in range.
+fn assert_block(rt: &impl Abort, block: &Block)
+    ensures { AreWithin greatest_coefficient block.now }
+{
+    for place in 0..64 {
+        let value = block[place];
+        assert!(rt; -16383 <= value && value <= 16383);
+    }
+}
+
+/// The blocks are those of a part.
+fn assert_part(rt: &impl Abort, blocks: &[Block])
+    ensures { ArePart blocks.now }
+{
+    assert!(rt; 1 <= blocks.len() && blocks.len() <= 32);
+    for block in blocks {
+        assert_block(rt, block);
+    }
+}
+
+/// A block of numbers that follow from a first one, the smaller the greater the divisor.
+fn scattered(first: u32, divisor: i16) -> Block
+    requires { 1 ≤ℤ divisor }
+{
+    let mut number = first;
+    let mut block = [0; 64];
+    for place in 0..64 {
+        number = number.wrapping_mul(1_664_525).wrapping_add(1_013_904_223);
+        block[place] = ((number >> 16) as i16 / 2) / divisor;
+    }
+    block
+}
+
+/// One walk measures what a walk for each index does.
+fn assert_measures(rt: &impl Abort, blocks: &[Block], scan: Scan, (lo, hi): (u8, u8)) {
+    assert!(rt; 1 <= lo && lo <= hi && hi <= 224);
+    assert_part(rt, blocks);
+    named_weights_are_in_range();
+    let weights = Weights::named(Matrix::Steep);
+    let count = usize::from(hi - lo) + 1;
+    let mut all = [Measure::default(); 224];
+    let mut each = [Measure::default(); 224];
+    measure_all(blocks, &weights.luma, scan, lo, hi, &mut all[..count]);
+    measure_each(blocks, &weights.luma, scan, lo, hi, &mut each[..count]);
+    for i in 0..count {
+        assert_eq!(rt; all[i], each[i], "at {i}");
+    }
+}
+
+#[test]
+fn measures_in_one_walk(rt: HostRuntime) {
+    let blocks = [
+        [0; 64],
+        scattered(1, 1),
+        scattered(2, 700),
+        [16383; 64],
+        [-16383; 64],
+        scattered(3, 9000),
+    ];
+    assert_measures(&rt, &blocks, Scan::Progressive, (1, 224));
+    assert_measures(&rt, &blocks[2..3], Scan::Interlaced, (1, 31));
+    assert_measures(&rt, &blocks[..1], Scan::Interlaced, (129, 129));
 }

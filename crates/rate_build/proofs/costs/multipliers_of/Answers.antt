@@ -1,7 +1,7 @@
 use Rattle.std.proofs.Common.{ℕ, sym, ◌∙◌, ◌*◌, arith, map}
 use Rattle.std.proofs.lemmas.List.{ext_get_or, get_or-map, length-map}
 use Rattle.pr_quant.specs.Quantised.{scale_of}
-use Rattle.rate_build.specs.Measures.{multipliers}
+use Rattle.pr_quant.specs.Errors.{multipliers}
 use Rattle.rate_build.proofs.costs.multipliers_of.Goals as goal
 
 pub returns : goal.returns

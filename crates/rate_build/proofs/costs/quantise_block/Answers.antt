@@ -1,5 +1,6 @@
 use Rattle.std.proofs.Common.{get_or, pos, ap, ◌∙◌, sym, refl, rules, arith}
-use Rattle.rate_build.proofs.Quantising.{errors_none, errors_more, errors_all, block_filled, kept, value_more}
+use Rattle.pr_quant.proofs.ErrorLemmas.{errors_none, errors_more, errors_all}
+use Rattle.rate_build.proofs.Quantising.{block_filled, kept, value_more}
 use Rattle.pr_quant.specs.Quantised.{quantised, error_of}
 use Rattle.rate_build.proofs.costs.quantise_block.Goals as goal
 

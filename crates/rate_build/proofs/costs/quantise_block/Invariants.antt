@@ -1,6 +1,6 @@
 use Rattle.std.proofs.Common.{◌≡◌, ◌*◌, ◌^◌, ◌<◌, ◌≤◌, ℕ, pos, length, get_or}
 use Rattle.pr_quant.specs.Quantised.{quantised}
-use Rattle.rate_build.proofs.Quantising.{errors_below}
+use Rattle.pr_quant.proofs.ErrorLemmas.{errors_below}
 use Rattle.rate_build.proofs.costs.quantise_block.Given as goal
 
 abbrev pub invariant-loop-place : goal.invariant-loop-place

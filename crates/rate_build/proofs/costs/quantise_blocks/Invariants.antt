@@ -1,6 +1,7 @@
 use Rattle.std.proofs.Common.{◌≡◌, ◌*◌, ◌^◌, ◌<◌, ◌≤◌, ℕ, [], get_or, take}
 use Rattle.std.specs.List.{sum_by}
-use Rattle.rate_build.specs.Measures.{quantised_block, block_error}
+use Rattle.pr_quant.specs.Errors.{block_error}
+use Rattle.rate_build.specs.Measures.{quantised_block}
 use Rattle.rate_build.proofs.costs.quantise_blocks.Given as goal
 
 abbrev pub invariant-loop-i : goal.invariant-loop-i
