@@ -28,7 +28,6 @@ fn movie_of(rt: &HostRuntime) -> Result<Vec<u8>, Fail> {
     put(&mut sink, b"abc")?;
     writer.frame_head(&mut sink, 5)?;
     put(&mut sink, b"defgh")?;
-    assert_eq!(rt; writer.frames(), 2);
     writer.finish(alloc, &mut sink)?;
     Ok(sink.bytes().to_vec(alloc)?)
 }
@@ -89,6 +88,7 @@ fn each_fault_of_the_sink_is_told(rt: HostRuntime) -> Result<(), Fail> {
             writer.reserve(1)?;
             if writer.frame_head(&mut sink, 0).is_ok() {
                 steps = 2;
+                assert_eq!(rt; writer.frames(), 1);
                 assert_eq!(rt; writer.finish(rt.alloc(), &mut sink), Err(WriteEnd::Failed));
             }
         }
