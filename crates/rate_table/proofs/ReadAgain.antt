@@ -1,15 +1,14 @@
 -- A table's body that was written is read again.
-use Rattle.std.proofs.Common.{◌≡◌, ℕ, ◌+◌, ◌^◌, ◌<◌, Bool, false, nat_lt, List, [], ◌∷◌, ◌++◌, length, Result, Ok, refl, ap, ◌∙◌, arith, length-append, append_assoc, take_at}
-use Rattle.std.specs.Int.{Width, byte_len, w8, w16, w32, w64, to_be_bytes, from_be_bytes}
+use Rattle.std.proofs.Common.{◌≡◌, ℕ, ◌+◌, ◌^◌, ◌<◌, List, [], ◌∷◌, ◌++◌, length, Ok, refl, ap, ◌∙◌, arith, length-append, append_assoc}
+use Rattle.std.specs.Int.{w8, w16, w32, w64, to_be_bytes}
 use Rattle.std.specs.List.{flat_map, All}
-use Rattle.std.proofs.lemmas.List.{drop_at}
 use Rattle.std.proofs.lemmas.List.Concat.{flat_map-cons}
 use Rattle.std.proofs.lemmas.List.Elements.{All-head, All-tail}
 use Rattle.std.proofs.lemmas.Nat.{from_be_bytes-to_be_bytes_2, from_be_bytes-to_be_bytes_4, from_be_bytes-to_be_bytes_8}
 use Rattle.std.proofs.lemmas.Bool.{le-ltb, lt-leb, ne_eqb}
-use Rattle.pw_outside.specs.Reading.{Fault, Rest, Read, bind, refuse, number_at}
+use Rattle.pw_outside.specs.Reading.{Rest, number_at}
+use Rattle.pw_outside.proofs.Steps.{bind-step, refuse-step, number-here, same_rest}
 use Rattle.rate_table.specs.declared.entry.Entry.{Entry}
-use Rattle.rate_table.specs.declared.fault.ProofKind.{ProofKind}
 use Rattle.rate_table.specs.declared.fault.ProofKind.TheVariants.{TableShort}
 use Rattle.rate_table.specs.Table.{IsEntry, IndicesRise, IsSlice}
 use Rattle.rate_table.specs.Reading.{entry_at, entries_at, slice_at, slices_at, body_at}
@@ -19,42 +18,20 @@ use Rattle.rate_table.proofs.Entries.{rest_rises}
 
 -- ---- steps
 
-bind-step : {A B : Type 0} (r : Result A (Fault ProofKind)) (next : A → Result B (Fault ProofKind)) {x : A} → r ≡ Ok x → bind r next ≡ next x
-unfolding bind
-bind-step r next e = rw e refl
-
-refuse-step : {B : Type 0} (test : Bool) (kind : ProofKind) (place : ℕ) (next : Unit {0} → Result B (Fault ProofKind)) → test ≡ false → bind (refuse test kind place) next ≡ next tt
-unfolding bind
-refuse-step test kind place next e = rw e refl
-
 at : ℕ → List ℕ → Rest
 at place bytes = record { place = place; bytes = bytes }
 
-number-here : (w : Width) (n place : ℕ) (bytes behind : List ℕ) → length bytes ≡ byte_len w → from_be_bytes w bytes ≡ n
-    → number_at TableShort w (record { place = place; bytes = bytes ++ behind }) ≡ Ok (n, record { place = place + byte_len w; bytes = behind })
-number-here w n place bytes behind len is =
-    let long : nat_lt (length (bytes ++ behind)) (byte_len w) ≡ false = le-ltb _ _ (omega (arith, length-append bytes behind)) in
-    let front = take_at bytes behind (byte_len w) len in
-    let rest = drop_at bytes behind (byte_len w) len in
-    rw (long, front, rest, is) refl
-
 byte-here : (n place : ℕ) (behind : List ℕ) → number_at TableShort w8 (record { place = place; bytes = n ∷ behind }) ≡ Ok (n, record { place = place + 1; bytes = behind })
-byte-here n place behind = number-here w8 n place (n ∷ []) behind refl (omega arith)
+byte-here n place behind = number-here TableShort w8 n place (n ∷ []) behind refl (omega arith)
 
 two-here : (n place : ℕ) (behind : List ℕ) → n < 2 ^ 16 → number_at TableShort w16 (record { place = place; bytes = to_be_bytes w16 n ++ behind }) ≡ Ok (n, record { place = place + 2; bytes = behind })
-two-here n place behind small = number-here w16 n place (to_be_bytes w16 n) behind refl (from_be_bytes-to_be_bytes_2 n small)
+two-here n place behind small = number-here TableShort w16 n place (to_be_bytes w16 n) behind refl (from_be_bytes-to_be_bytes_2 n small)
 
 four-here : (n place : ℕ) (behind : List ℕ) → n < 2 ^ 32 → number_at TableShort w32 (record { place = place; bytes = to_be_bytes w32 n ++ behind }) ≡ Ok (n, record { place = place + 4; bytes = behind })
-four-here n place behind small = number-here w32 n place (to_be_bytes w32 n) behind refl (from_be_bytes-to_be_bytes_4 n small)
+four-here n place behind small = number-here TableShort w32 n place (to_be_bytes w32 n) behind refl (from_be_bytes-to_be_bytes_4 n small)
 
 eight-here : (n place : ℕ) (behind : List ℕ) → n < 2 ^ 64 → number_at TableShort w64 (record { place = place; bytes = to_be_bytes w64 n ++ behind }) ≡ Ok (n, record { place = place + 8; bytes = behind })
-eight-here n place behind small = number-here w64 n place (to_be_bytes w64 n) behind refl (from_be_bytes-to_be_bytes_8 n small)
-
-abbrev found : {A : Type 0} → A → ℕ → List ℕ → Read ProofKind A
-found x place bytes = Ok (x, record { place = place; bytes = bytes })
-
-same_rest : {A : Type 0} (x : A) (p q : ℕ) (bytes : List ℕ) → p ≡ q → found x p bytes ≡ found x q bytes
-same_rest x p q bytes e = ap (λ (r : ℕ). found x r bytes) e
+eight-here n place behind small = number-here TableShort w64 n place (to_be_bytes w64 n) behind refl (from_be_bytes-to_be_bytes_8 n small)
 
 -- ---- entries
 

@@ -5,33 +5,34 @@ use Rattle.std.specs.List.{flat_map, All}
 use Rattle.std.proofs.lemmas.Bool.{ltb-false, leb-false, eqb-false}
 use Rattle.std.proofs.lemmas.List.Concat.{flat_map-cons}
 use Rattle.std.proofs.lemmas.List.Elements.{All-nil, All-cons}
-use Rattle.pw_outside.specs.Reading.{Rest, number_at}
+use Rattle.pw_outside.specs.Reading.{Rest, number_at, AreBytes, Took}
+use Rattle.pw_outside.proofs.Steps.{bind-ok, refuse-passed, then_took, took_none}
 use Rattle.rate_table.specs.declared.entry.Entry.{Entry}
 use Rattle.rate_table.specs.declared.fault.ProofKind.TheVariants.{TableShort}
 use Rattle.rate_table.specs.Table.{Table, IsEntry, IndicesRise, IsSlice, IsTable}
 use Rattle.rate_table.specs.Reading.{entry_at, entries_at, slice_at, slices_at, body_at}
 use Rattle.rate_table.specs.Body.{entry_bytes, slice_bytes, body_bytes}
-use Rattle.rate_table.specs.Spelled.{AreBytes, Took, BodyIsSpelled}
-use Rattle.rate_table.proofs.Taken.{ok_is, bind_ok, refuse_ok, then_took, took_none, wide16, wide32, wide64, number_took, byte_took, positive}
+use Rattle.rate_table.specs.Spelled.{BodyIsSpelled}
+use Rattle.rate_table.proofs.Taken.{ok_is, wide16, wide32, wide64, number_took, byte_took, positive}
 
 -- ---- entries
 
 entry_spelled : (low : ℕ) (s : Rest) (x : Entry × Rest) → AreBytes s.bytes → entry_at low s ≡ Ok x → IsEntry x.0 × (low < x.0.index) × Took s (entry_bytes x.0) x.1
 unfolding entry_at
 entry_spelled low s x fits e =
-    let b1 = bind_ok (number_at TableShort w8 s) _ x e in
+    let b1 = bind-ok (number_at TableShort w8 s) _ e in
     let i = b1.0 in
     let t1 = byte_took TableShort s i fits b1.1 in
-    let r1 = refuse_ok _ _ _ _ x b1.2 in
-    let r2 = refuse_ok _ _ _ _ x r1.1 in
-    let r3 = refuse_ok _ _ _ _ x r2.1 in
-    let b2 = bind_ok (number_at TableShort w16 i.1) _ x r3.1 in
+    let r1 = refuse-passed _ _ _ _ b1.2 in
+    let r2 = refuse-passed _ _ _ _ r1.1 in
+    let r3 = refuse-passed _ _ _ _ r2.1 in
+    let b2 = bind-ok (number_at TableShort w16 i.1) _ r3.1 in
     let z = b2.0 in
     let t2 = number_took TableShort w16 (2 ^ 16) wide16 i.1 z t1.0.behind b2.1 in
-    let b3 = bind_ok (number_at TableShort w64 z.1) _ x b2.2 in
+    let b3 = bind-ok (number_at TableShort w64 z.1) _ b2.2 in
     let v = b3.0 in
     let t3 = number_took TableShort w64 (2 ^ 64) wide64 z.1 v t2.0.behind b3.1 in
-    let r4 = refuse_ok _ _ _ _ x b3.2 in
+    let r4 = refuse-passed _ _ _ _ b3.2 in
     let entry : Entry = record { index = i.0; size = z.0; error = v.0 } in
     let not_zero : i.0 ≡ 0 → ⊥ = eqb-false i.0 0 r1.0 in
     let few : i.0 ≤ 224 = ltb-false 224 i.0 r2.0 in
@@ -41,7 +42,7 @@ entry_spelled low s x fits e =
     subst (λ (y : Entry × Rest). IsEntry y.0 × (low < y.0.index) × Took s (entry_bytes y.0) y.1) (ok_is (entry, v.1) x r4.1) (
       record { index_from = some; index_to = few; size = t2.1; error = small },
       above,
-      then_took s i.1 v.1 (i.0 ∷ []) (to_be_bytes w16 z.0 ++ to_be_bytes w64 v.0) t1.0 (then_took i.1 z.1 v.1 (to_be_bytes w16 z.0) (to_be_bytes w64 v.0) t2.0 t3.0),
+      then_took t1.0 (then_took t2.0 t3.0),
     )
 
 abbrev StartsAbove : ℕ → List Entry → Type 0
@@ -66,10 +67,10 @@ entries_spelled zero low s x fits e =
     subst (λ (y : List Entry × Rest). AreEntries 0 low s y.0 y.1) (ok_is ([], s) x e)
     (record { count = refl; each = All-nil IsEntry; rises = tt; above = tt; took = took_none s fits })
 entries_spelled (suc n) low s x fits e =
-    let b1 = bind_ok (entry_at low s) _ x e in
+    let b1 = bind-ok (entry_at low s) _ e in
     let f = b1.0 in
     let t1 = entry_spelled low s f fits b1.1 in
-    let b2 = bind_ok (entries_at n f.0.index f.1) _ x b1.2 in
+    let b2 = bind-ok (entries_at n f.0.index f.1) _ b1.2 in
     let o = b2.0 in
     let t2 = entries_spelled n f.0.index f.1 o t1.2.behind b2.1 in
     subst (λ (y : List Entry × Rest). AreEntries (suc n) low s y.0 y.1) (ok_is (f.0 ∷ o.0, o.1) x b2.2)
@@ -78,7 +79,7 @@ entries_spelled (suc n) low s x fits e =
       each = All-cons IsEntry f.0 o.0 t1.0 t2.each;
       rises = rise-front f.0 o.0 t2.above t2.rises;
       above = t1.1;
-      took = subst (λ b. Took s b o.1) (sym (flat_map-cons entry_bytes f.0 o.0)) (then_took s f.1 o.1 (entry_bytes f.0) (flat_map entry_bytes o.0) t1.2 t2.took);
+      took = subst (λ b. Took s b o.1) (sym (flat_map-cons entry_bytes f.0 o.0)) (then_took t1.2 t2.took);
     })
 
 -- ---- slices
@@ -86,15 +87,15 @@ entries_spelled (suc n) low s x fits e =
 slice_spelled : (s : Rest) (x : List Entry × Rest) → AreBytes s.bytes → slice_at s ≡ Ok x → IsSlice x.0 × Took s (slice_bytes x.0) x.1
 unfolding slice_at
 slice_spelled s x fits e =
-    let b1 = bind_ok (number_at TableShort w8 s) _ x e in
+    let b1 = bind-ok (number_at TableShort w8 s) _ e in
     let c = b1.0 in
     let t1 = byte_took TableShort s c fits b1.1 in
-    let r1 = refuse_ok _ _ _ _ x b1.2 in
-    let r2 = refuse_ok _ _ _ _ x r1.1 in
+    let r1 = refuse-passed _ _ _ _ b1.2 in
+    let r2 = refuse-passed _ _ _ _ r1.1 in
     let t2 = entries_spelled c.0 0 c.1 x t1.0.behind r2.1 in
     let some : c.0 ≡ 0 → ⊥ = eqb-false c.0 0 r1.0 in (
       record { some = positive (length x.0) (λ z. some (omega (arith, t2.count, z))); rises = t2.rises; limits = t2.each },
-      subst (λ n. Took s (n ∷ flat_map entry_bytes x.0) x.1) (sym t2.count) (then_took s c.1 x.1 (c.0 ∷ []) (flat_map entry_bytes x.0) t1.0 t2.took),
+      subst (λ n. Took s (n ∷ flat_map entry_bytes x.0) x.1) (sym t2.count) (then_took t1.0 t2.took),
     )
 
 slices_spelled : (n : ℕ) (s : Rest) (x : List (List Entry) × Rest) → AreBytes s.bytes → slices_at n s ≡ Ok x → (length x.0 ≡ n) × All IsSlice x.0 × Took s (flat_map slice_bytes x.0) x.1
@@ -103,16 +104,16 @@ slices_spelled zero s x fits e =
     subst (λ (y : List (List Entry) × Rest). (length y.0 ≡ 0) × All IsSlice y.0 × Took s (flat_map slice_bytes y.0) y.1) (ok_is ([], s) x e)
     (refl, All-nil IsSlice, took_none s fits)
 slices_spelled (suc n) s x fits e =
-    let b1 = bind_ok (slice_at s) _ x e in
+    let b1 = bind-ok (slice_at s) _ e in
     let f = b1.0 in
     let t1 = slice_spelled s f fits b1.1 in
-    let b2 = bind_ok (slices_at n f.1) _ x b1.2 in
+    let b2 = bind-ok (slices_at n f.1) _ b1.2 in
     let o = b2.0 in
     let t2 = slices_spelled n f.1 o t1.1.behind b2.1 in
     subst (λ (y : List (List Entry) × Rest). (length y.0 ≡ suc n) × All IsSlice y.0 × Took s (flat_map slice_bytes y.0) y.1) (ok_is (f.0 ∷ o.0, o.1) x b2.2) (
       omega (arith, t2.0),
       All-cons IsSlice f.0 o.0 t1.0 t2.1,
-      subst (λ b. Took s b o.1) (sym (flat_map-cons slice_bytes f.0 o.0)) (then_took s f.1 o.1 (slice_bytes f.0) (flat_map slice_bytes o.0) t1.1 t2.2),
+      subst (λ b. Took s b o.1) (sym (flat_map-cons slice_bytes f.0 o.0)) (then_took t1.1 t2.2),
     )
 
 -- ---- the body
@@ -120,21 +121,21 @@ slices_spelled (suc n) s x fits e =
 body_at_spelled : (s : Rest) (x : Table × Rest) → AreBytes s.bytes → body_at s ≡ Ok x → IsTable x.0 × Took s (body_bytes x.0) x.1
 unfolding body_at body_bytes
 body_at_spelled s x fits e =
-    let b1 = bind_ok (number_at TableShort w32 s) _ x e in
+    let b1 = bind-ok (number_at TableShort w32 s) _ e in
     let b = b1.0 in
     let t1 = number_took TableShort w32 (2 ^ 32) wide32 s b fits b1.1 in
-    let r1 = refuse_ok _ _ _ _ x b1.2 in
-    let r2 = refuse_ok _ _ _ _ x r1.1 in
-    let b2 = bind_ok (number_at TableShort w32 b.1) _ x r2.1 in
+    let r1 = refuse-passed _ _ _ _ b1.2 in
+    let r2 = refuse-passed _ _ _ _ r1.1 in
+    let b2 = bind-ok (number_at TableShort w32 b.1) _ r2.1 in
     let f = b2.0 in
     let t2 = number_took TableShort w32 (2 ^ 32) wide32 b.1 f t1.0.behind b2.1 in
-    let r3 = refuse_ok _ _ _ _ x b2.2 in
-    let b3 = bind_ok (number_at TableShort w32 f.1) _ x r3.1 in
+    let r3 = refuse-passed _ _ _ _ b2.2 in
+    let b3 = bind-ok (number_at TableShort w32 f.1) _ r3.1 in
     let c = b3.0 in
     let t3 = number_took TableShort w32 (2 ^ 32) wide32 f.1 c t2.0.behind b3.1 in
-    let r4 = refuse_ok _ _ _ _ x b3.2 in
-    let r5 = refuse_ok _ _ _ _ x r4.1 in
-    let b4 = bind_ok (slices_at c.0 c.1) _ x r5.1 in
+    let r4 = refuse-passed _ _ _ _ b3.2 in
+    let r5 = refuse-passed _ _ _ _ r4.1 in
+    let b4 = bind-ok (slices_at c.0 c.1) _ r5.1 in
     let l = b4.0 in
     let t4 = slices_spelled c.0 c.1 l t3.0.behind b4.1 in
     let t : Table = record { budget = b.0; fixed = f.0; slices = l.0 } in
@@ -145,9 +146,7 @@ body_at_spelled s x fits e =
     let low' : f.0 < 2 ^ 31 = leb-false (2 ^ 31) f.0 r3.0 in
     let few : c.0 ≤ 131070 = ltb-false 131070 c.0 r5.0 in
     let parts : Took s (to_be_bytes w32 b.0 ++ (to_be_bytes w32 f.0 ++ (to_be_bytes w32 c.0 ++ text))) l.1 =
-    then_took s b.1 l.1 (to_be_bytes w32 b.0) (to_be_bytes w32 f.0 ++ (to_be_bytes w32 c.0 ++ text)) t1.0
-    (then_took b.1 f.1 l.1 (to_be_bytes w32 f.0) (to_be_bytes w32 c.0 ++ text) t2.0
-    (then_took f.1 c.1 l.1 (to_be_bytes w32 c.0) text t3.0 t4.2)) in
+    then_took t1.0 (then_took t2.0 (then_took t3.0 t4.2)) in
     subst (λ (y : Table × Rest). IsTable y.0 × Took s (body_bytes y.0) y.1) (ok_is (t, l.1) x b4.2) (
       record { some_budget = positive b.0 some_budget; budget_limit = low; fixed_limit = low'; some = omega (arith, t4.0, positive c.0 some); few = omega (arith, t4.0, few); each = t4.1 },
       subst (λ n. Took s (to_be_bytes w32 b.0 ++ (to_be_bytes w32 f.0 ++ (to_be_bytes w32 n ++ text))) l.1) (sym t4.0) parts,

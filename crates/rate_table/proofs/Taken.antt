@@ -1,26 +1,12 @@
--- What a chain of reading steps took, where it gives a value: the spelling of each field, and the rest behind it.
-use Rattle.std.proofs.Common.{◌≡◌, ℕ, zero, suc, ◌+◌, ◌^◌, ◌<◌, ◌≤◌, Bool, true, false, nat_lt, List, [], ◌∷◌, ◌++◌, length, take, drop, Result, Ok, Err, refl, sym, ap, ◌∙◌, subst, arith, inl, inr, length-append, append_assoc}
+-- What a number was read from, and the rest behind it.
+use Rattle.std.proofs.Common.{◌≡◌, ℕ, zero, suc, ◌+◌, ◌^◌, ◌<◌, ◌≤◌, Bool, true, false, nat_lt, List, [], ◌∷◌, ◌++◌, length, take, drop, Result, Ok, refl, sym, ap, ◌∙◌, subst, arith}
 use Rattle.std.specs.Prelude.{if◌then◌else◌}
 use Rattle.std.specs.Int.{Width, byte_len, w8, w16, w32, w64, to_be_bytes, from_be_bytes}
-use Rattle.std.proofs.lemmas.Bool.{cases_lt, ltb-false}
-use Rattle.std.proofs.lemmas.List.{take-append-drop, length-take, get_or-drop, get_or-take, get_or_past}
+use Rattle.std.proofs.lemmas.Bool.{ltb-false}
+use Rattle.std.proofs.lemmas.List.{take-append-drop, length-take}
 use Rattle.std.proofs.lemmas.Nat.{be_bytes_2, be_bytes_4, be_bytes_8}
-use Rattle.pw_outside.specs.Reading.{Fault, Rest, bind, refuse, number_at, bad}
-use Rattle.rate_table.specs.Spelled.{AreBytes, Took}
-
--- ---- bytes
-
-pub bytes-drop : (n : ℕ) (bytes : List ℕ) → AreBytes bytes → AreBytes (drop n bytes)
-bytes-drop n bytes h i = rw get_or-drop (h (n + i))
-
-pub bytes-take : (n : ℕ) (bytes : List ℕ) → AreBytes bytes → AreBytes (take n bytes)
-bytes-take n bytes h i =
-    elim (cases_lt i n) [
-      | inl lt ↦ rw (get_or-take n bytes i 0 lt) (h i)
-      | inr le ↦ rw (get_or_past (take n bytes) i 0 (omega (arith, length-take n bytes))) (omega arith)
-    ]
-
--- ---- steps
+use Rattle.pw_outside.specs.Reading.{Fault, Rest, number_at, bad, AreBytes, Took}
+use Rattle.pw_outside.proofs.Steps.{bytes-drop, bytes-take}
 
 abbrev done : {K A : Type 0} → A → Result A (Fault K)
 done x = Ok x
@@ -28,32 +14,10 @@ done x = Ok x
 pub ok_is : {K A : Type 0} (x y : A) → done {K = K} x ≡ done {K = K} y → x ≡ y
 ok_is x y e = cc
 
--- the value of a step that did not fail
-pub bind_ok : {K A B : Type 0} (r : Result A (Fault K)) (f : A → Result B (Fault K)) (y : B) → bind r f ≡ Ok y → (x : A) × (r ≡ Ok x) × (f x ≡ Ok y)
-unfolding bind
-bind_ok (Ok x) f y e = (x, refl, e)
-bind_ok (Err d) f y e = absurd cc
-
--- a test that did not refuse
-pub refuse_ok : {K B : Type 0} (b : Bool) (kind : K) (place : ℕ) (f : Unit {0} → Result B (Fault K)) (y : B) → bind (refuse b kind place) f ≡ Ok y → (b ≡ false) × (f tt ≡ Ok y)
-unfolding bind
-refuse_ok true kind place f y e = absurd cc
-refuse_ok false kind place f y e = (refl, e)
-
--- what was taken in two steps
-pub then_took : (a b c : Rest) (x y : List ℕ) → Took a x b → Took b y c → Took a (x ++ y) c
-then_took a b c x y p q = record {
-  parts = p.parts ∙ ap (λ (t : List ℕ). x ++ t) q.parts ∙ sym (append_assoc x y c.bytes);
-  place = omega (arith, p.place, q.place, length-append x y);
-  behind = q.behind;
-}
-
 -- a read that wasn't short
 read_ok : {K A : Type 0} (short : K) (b : Bool) (place : ℕ) (x y : A) → (if b then bad short place else done x) ≡ done {K = K} y → (b ≡ false) × (x ≡ y)
 read_ok short true place x y e = absurd cc
 read_ok short false place x y e = (refl, ok_is x y e)
-
--- ---- numbers
 
 -- numbers of a width are below the limit, and their bytes are those that they were read from
 pub record IsWide (w : Width) (limit : ℕ) : Type 0 where
@@ -98,10 +62,6 @@ byte_at short place (b ∷ bs) x fits e =
 
 pub byte_took : {K : Type 0} (short : K) (s : Rest) (x : ℕ × Rest) → AreBytes s.bytes → number_at short w8 s ≡ Ok x → Took s (x.0 ∷ []) x.1 × (x.0 < 256)
 byte_took short s x fits e = byte_at short s.place s.bytes x fits e
-
--- nothing was taken
-pub took_none : (s : Rest) → AreBytes s.bytes → Took s [] s
-took_none s fits = record { parts = refl; place = omega arith; behind = fits }
 
 -- a number that isn't 0 is at least 1
 pub positive : (n : ℕ) → (n ≡ 0 → ⊥) → 1 ≤ n

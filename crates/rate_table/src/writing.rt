@@ -10,20 +10,7 @@ ghost use Rattle.rate_table.specs.Body.{entry_bytes, slice_bytes, body_bytes};
 
 use crate::entry::Entry;
 use crate::table::{FrameTable, SliceTable};
-use pw_outside::{ByteSink, Failed, put};
-
-/// Writes the whole piece.
-fn write<K: ByteSink>(sink: &mut K, piece: &[u8]) -> Result<(), Failed>
-    ensures all { OnOk result (Puts (sink_state (K.held sink.old) (K.taken sink.old)) (sink_state (K.held sink.new) (K.taken sink.new)) piece.now) }
-    ensures front { OnErr result (PutsFront (sink_state (K.held sink.old) (K.taken sink.old)) (sink_state (K.held sink.new) (K.taken sink.new)) piece.now) }
-    ensures settled { K.settled sink.old ≤ K.settled sink.new }
-    ensures cause { CountsFault (K.faults sink.old) (K.faults sink.new) (is_err result) }
-{
-    match put(sink, piece) {
-        Ok(()) => Ok(()),
-        Err(_) => Err(Failed),
-    }
-}
+use pw_outside::{ByteSink, Failed, put_all};
 
 /// The bytes of an entry.
 fn bytes_of_entry(entry: Entry) -> [u8; 11]
@@ -66,7 +53,7 @@ fn write_entries<K: ByteSink>(entries: &[Entry], sink: &mut K) -> Result<(), Fai
     ensures cause { CountsFault (K.faults sink.old) (K.faults sink.new) (is_err result) }
 {
     for entry in entries {
-        write(sink, &bytes_of_entry(*entry))?;
+        put_all(sink, &bytes_of_entry(*entry))?;
     }
     Ok(())
 }
@@ -78,7 +65,7 @@ fn write_slice<K: ByteSink>(slice: &SliceTable, sink: &mut K) -> Result<(), Fail
     ensures cause { CountsFault (K.faults sink.old) (K.faults sink.new) (is_err result) }
 {
     let entries = slice.entries();
-    write(sink, &[entries.len() as u8])?;
+    put_all(sink, &[entries.len() as u8])?;
     write_entries(entries, sink)
 }
 
@@ -106,6 +93,6 @@ pub fn write_body<K: ByteSink>(table: &FrameTable, sink: &mut K) -> Result<(), F
 {
     let slices = table.slices.as_slice();
     let start = bytes_of_start(table.budget, table.fixed, slices.len() as u32);
-    write(sink, &start)?;
+    put_all(sink, &start)?;
     write_slices(slices, sink)
 }

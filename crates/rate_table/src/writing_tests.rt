@@ -1,6 +1,12 @@
-//! Tables written and read again.
+//! Tables written, read again, and joined.
 
-use crate::{Entry, FrameTable, SliceTable, Slices, read_body, total, write_body};
+ghost use Rattle.std.specs.Prelude.{◌≡◌, length};
+ghost use Rattle.rate_table.specs.Table.{IsTable, group_table};
+
+use crate::{
+    Entry, FrameTable, SliceTable, Slices, join, part_total, read_body, read_body_on, total,
+    write_body,
+};
 use pw_outside::{MemSink, MemSource};
 use std::alloc::Global;
 use std::process::Abort;
@@ -25,7 +31,11 @@ fn slice(first: (u16, u64), second: (u16, u64), rt: &impl Abort) -> SliceTable {
     slice
 }
 
-fn table(rt: &impl Abort, alloc: Global) -> FrameTable {
+fn table(rt: &impl Abort, alloc: Global) -> FrameTable
+    ensures budget { result.budget ≡ 13 }
+    ensures fixed { result.fixed ≡ 0 }
+    ensures slices { length result.slices ≡ 2 }
+{
     let slices = [slice((10, 0), (4, 10), rt), slice((9, 0), (5, 6), rt)];
     let slices = Vec::from_array(alloc, slices).expect(rt, "memory");
     FrameTable {
@@ -62,4 +72,35 @@ fn says_that_a_call_of_the_sink_failed(rt: HostRuntime) {
         let front = BODY.get(..call as usize).unwrap_or(&[]);
         assert_eq!(rt; sink.bytes(), front, "call {call}");
     }
+}
+
+#[test]
+fn reads_on_behind_a_body(rt: HostRuntime) {
+    let mut bytes = Vec::from_slice(rt.alloc(), &BODY).expect(&rt, "memory");
+    bytes.push(7).expect(&rt, "memory");
+    let mut source = MemSource::new(bytes, 3, Vec::new(rt.alloc()));
+    let mut place = 7;
+    let table = read_body_on(rt.alloc(), &mut source, &mut place).expect(&rt, "a table");
+    assert_eq!(rt; (table.budget, place), (13, 65));
+    assert!(rt; read_body_on(rt.alloc(), &mut source, &mut place).is_err());
+    assert_eq!(rt; place, 65);
+}
+
+fn frames(rt: &impl Abort, alloc: Global) -> Vec<FrameTable>
+    ensures { IsTable (group_table result.items) }
+{
+    let tables = [table(rt, alloc), table(rt, alloc)];
+    Vec::from_array(alloc, tables).expect(rt, "memory")
+}
+
+#[test]
+fn joins_the_tables_of_frames(rt: HostRuntime) {
+    let tables = frames(&rt, rt.alloc());
+    let joined = join(rt.alloc(), tables).expect(&rt, "memory");
+    assert_eq!(rt; (joined.budget, joined.fixed), (26, 0));
+    assert_eq!(rt; total(&joined, &[2, 1, 1, 2]), Some((28, 16)));
+    assert_eq!(rt; total(&joined, &[2, 1]), None);
+    let slices = joined.slices.as_slice();
+    assert_eq!(rt; part_total(slices, &[1, 2, 2, 2]), Some((24, 22)));
+    assert_eq!(rt; part_total(slices, &[1, 2]), None);
 }
