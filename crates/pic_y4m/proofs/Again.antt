@@ -17,7 +17,7 @@ use Rattle.pic_y4m.proofs.SamplesAgain.{plane-again, range-again}
 use Rattle.pic_y4m.proofs.Lines.{line-ends}
 
 -- the picture of its own planes
-same-raster : (a : Raster) (width height : ℕ) → a.width ≡ width → a.height ≡ height → record { width = width; height = height; samples = a.samples } ≡ a
+pub same-raster : (a : Raster) (width height : ℕ) → a.width ≡ width → a.height ≡ height → record { width = width; height = height; samples = a.samples } ≡ a
 same-raster a width height e f = let m = sym e in let n = sym f in λ i. record { width = m i; height = n i; samples = a.samples }
 
 same-chroma : (shares : Bool) (a : Raster) (width height : ℕ) → shares ≡ false → a.width ≡ width → a.height ≡ height → chroma_plane shares width height a.samples ≡ a
@@ -34,7 +34,7 @@ same-picture form p none w =
     let depth = sym w.form.depth in
     λ i. record { y = luma i; cb = blue i; cr = red i; alpha = alpha i; chroma = chroma i; depth = depth i }
 
-plane-count : (a : Raster) (width height : ℕ) → IsPlane a → a.width ≡ width → a.height ≡ height → length a.samples ≡ height * width
+pub plane-count : (a : Raster) (width height : ℕ) → IsPlane a → a.width ≡ width → a.height ≡ height → length a.samples ≡ height * width
 plane-count a width height w e f = w.whole ∙ ap (λ k. k * a.width) f ∙ ap (λ k. height * k) e
 
 chroma-many : (form : Stream) (p : Picture) (a : Raster) → form.shares_rows ≡ false → IsPlane a → p.chroma ≡ form.head.chroma → a.width ≡ chroma_width p.chroma form.head.width → a.height ≡ form.head.height
@@ -70,6 +70,9 @@ frame-parts f y cb cr rest = simp append_assoc
 frame-length : (f y cb cr : List ℕ) → length (f ++ y ++ cb ++ cr) ≡ length f + length y + length cb + length cr
 frame-length f y cb cr = simp length-append
 
+pub eqb-less : (a b : ℕ) → a < b → eqb a b ≡ false
+eqb-less a b h = ⊎_elim (λ t. let e : a ≡ b = eqb-true a b t in absurd (omega arith)) (λ f. f) (cases_Bool (eqb a b))
+
 pub picture-again : (r : State) (p : Picture) (rest : List ℕ) → r.form.shares_rows ≡ false → r.frames < MAX_FRAMES → IsWhole r.form.head p
     → next_at r (record { place = r.place; bytes = frame_bytes r.form.head.depth p ++ rest })
     ≡ Ok (Some p, record { place = r.place + length (frame_bytes r.form.head.depth p); bytes = rest })
@@ -83,9 +86,6 @@ picture-again r p rest none few w =
     let line = line-again r.place (r.place + 6) (codes "FRAME\n" ++ y ++ cb ++ cr ++ rest) (y ++ (cb ++ (cr ++ rest))) (frame-parts (codes "FRAME\n") y cb cr rest) refl in
     let planes = planes-again r.form p rest (r.place + 6) (r.place + length (codes "FRAME\n" ++ y ++ cb ++ cr)) none w (omega (arith, frame-length (codes "FRAME\n") y cb cr)) in
     rw (more, line, planes) refl
-  where
-    eqb-less : (a b : ℕ) → a < b → eqb a b ≡ false
-    eqb-less a b h = ⊎_elim (λ t. let e : a ≡ b = eqb-true a b t in absurd (omega arith)) (λ f. f) (cases_Bool (eqb a b))
 
 -- nothing stands behind the last frame
 end-again : (r : State) → next_at r (record { place = r.place; bytes = [] }) ≡ Ok (None, record { place = r.place; bytes = [] })

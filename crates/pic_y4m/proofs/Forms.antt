@@ -110,7 +110,7 @@ text-alpha text form e =
     let words = bind-ok _ _ space.2 in
     stream-alpha words.0 form words.2
 
-started-form : (s : Rest) (r : State) (after : Rest) → start_at s ≡ Ok (r, after) → (r.form.head.alpha ≡ Absent) × (r.frames ≡ 0)
+pub started-form : (s : Rest) (r : State) (after : Rest) → start_at s ≡ Ok (r, after) → (r.form.head.alpha ≡ Absent) × (r.frames ≡ 0)
 unfolding start_at stream_at
 started-form s r after e =
     let stream = bind-ok _ _ e in

@@ -9,8 +9,8 @@ ghost use Rattle.pic_y4m.specs.Line.{NextByte};
 
 use pw_outside::{ByteSource, Failed, fill};
 
-/// The next byte, or none at the end of the input.
-pub(crate) fn next_byte<S: ByteSource>(source: &mut S) -> Result<Option<u8>, Failed>
+/// Reads the next byte, or tells that the input ends.
+pub fn next_byte<S: ByteSource>(source: &mut S) -> Result<Option<u8>, Failed>
     ensures bytes { IfOk result (NextByte (S.left source.old) (S.left source.new)) }
     ensures end { IfOk result (λ byte. IfNone byte (IsAtEnd (S.left source.new))) }
     ensures becomes { GoesOn S.becomes source.old source.new }

@@ -15,6 +15,7 @@ mod samples;
 mod values;
 mod writer;
 
+pub use bytes::next_byte;
 pub use fault::{PictureFault, PictureKind};
 pub use head::{Head, MAX_FRAMES, MAX_RATE_DEN, MAX_RATE_NUM};
 pub use laws::{

@@ -1,0 +1,4 @@
+pub mod Pieces
+pub mod Forms
+pub mod Again
+pub mod Readers
