@@ -1,6 +1,6 @@
 //! Tables that were worked out outside of this crate.
 
-ghost use Rattle.std.specs.Prelude.{◌≡◌, ◌≤ℤ◌, ◌^◌, None};
+ghost use Rattle.std.specs.Prelude.{◌≡◌, ◌<◌, ◌^◌, None};
 ghost use Rattle.pw_planes.specs.declared.kinds.Chroma.TheVariants.{C422};
 ghost use Rattle.pw_planes.specs.declared.kinds.AlphaKind.TheVariants.{Absent};
 ghost use Rattle.pw_planes.specs.Samples.{bits_of};
@@ -384,25 +384,31 @@ fn assert_part(rt: &impl Abort, blocks: &[Block])
     }
 }
 
-/// A block of numbers that follow from a first one, the smaller the greater the divisor.
-fn scattered(first: u32, divisor: i16) -> Block
-    requires { 1 ≤ℤ divisor }
+/// A block of numbers that follow from a first one, of so many bits fewer than 14.
+fn scattered(first: u32, fewer: u32) -> Block
+    requires { fewer < 14 }
 {
     let mut number = first;
     let mut block = [0; 64];
     for place in 0..64 {
         number = number.wrapping_mul(1_664_525).wrapping_add(1_013_904_223);
-        block[place] = ((number >> 16) as i16 / 2) / divisor;
+        block[place] = ((number >> 18) as i16 - 8192) >> fewer;
     }
     block
 }
 
 /// One walk measures what a walk for each index does.
-fn assert_measures(rt: &impl Abort, blocks: &[Block], scan: Scan, (lo, hi): (u8, u8)) {
+fn assert_measures(
+    rt: &impl Abort,
+    blocks: &[Block],
+    matrix: Matrix,
+    scan: Scan,
+    (lo, hi): (u8, u8),
+) {
     assert!(rt; 1 <= lo && lo <= hi && hi <= 224);
     assert_part(rt, blocks);
     named_weights_are_in_range();
-    let weights = Weights::named(Matrix::Steep);
+    let weights = Weights::named(matrix);
     let count = usize::from(hi - lo) + 1;
     let mut all = [Measure::default(); 224];
     let mut each = [Measure::default(); 224];
@@ -417,13 +423,19 @@ fn assert_measures(rt: &impl Abort, blocks: &[Block], scan: Scan, (lo, hi): (u8,
 fn measures_in_one_walk(rt: HostRuntime) {
     let blocks = [
         [0; 64],
-        scattered(1, 1),
-        scattered(2, 700),
+        scattered(1, 0),
+        scattered(2, 9),
         [16383; 64],
         [-16383; 64],
-        scattered(3, 9000),
+        scattered(3, 12),
     ];
-    assert_measures(&rt, &blocks, Scan::Progressive, (1, 224));
-    assert_measures(&rt, &blocks[2..3], Scan::Interlaced, (1, 31));
-    assert_measures(&rt, &blocks[..1], Scan::Interlaced, (129, 129));
+    assert_measures(&rt, &blocks, Matrix::Steep, Scan::Progressive, (1, 224));
+    assert_measures(&rt, &blocks[2..3], Matrix::Flat, Scan::Interlaced, (1, 31));
+    assert_measures(
+        &rt,
+        &blocks[..1],
+        Matrix::Flat,
+        Scan::Interlaced,
+        (129, 129),
+    );
 }
