@@ -1,0 +1,7 @@
+use Rattle.std.proofs.Common.{arith}
+use Rattle.std.proofs.lemmas.List.Elements.{All-replicate}
+use Rattle.pr_quant.specs.Matrices.{IsWeight}
+use Rattle.rate_check.proofs.tests.weights.Goals as goal
+
+pub returns : goal.returns
+returns c = All-replicate IsWeight 64 4 (omega arith, omega arith)
