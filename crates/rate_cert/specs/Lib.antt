@@ -1,2 +1,7 @@
 pub mod Settings
 pub mod Records
+pub mod Numbers
+pub mod Layers
+pub mod Head
+pub mod Files
+pub mod Laws

@@ -1,5 +1,5 @@
 -- What the settings of a proof may be (limits of our own).
-use Rattle.std.specs.Prelude.{◌≡◌, ℕ, ◌*◌, ◌<◌, ◌≤◌, ◌^◌, None}
+use Rattle.std.specs.Prelude.{◌≡◌, ℕ, ◌*◌, ◌<◌, ◌≤◌, ◌^◌, length, None}
 use Rattle.std.specs.List.{All}
 use Rattle.pr_geom.specs.Faults.{first_fault, slice_count}
 use Rattle.pr_geom.specs.Slices.{pictures_of}
@@ -26,7 +26,9 @@ pub record IsSettings (s : Settings) : Type 0 where
   pub num_to : s.num ≤ 1000000
   pub den_from : 1 ≤ s.den
   pub den_to : s.den ≤ 4000
+  pub luma_count : length s.luma ≡ 64
   pub luma : All IsWeight s.luma
+  pub chroma_count : length s.chroma_weights ≡ 64
   pub chroma_weights : All IsWeight s.chroma_weights
   pub some_budget : 1 ≤ s.budget
   pub budget : s.group * s.budget < 2 ^ 31

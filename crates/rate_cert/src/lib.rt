@@ -1,8 +1,19 @@
 //! Proofs of choices: their settings, their records and their files.
 #![tactic(auto)]
 
+mod field;
+mod head;
+mod laws;
+mod layers;
+mod progress;
 mod proof;
+mod reader;
+mod record;
 mod settings;
 
+pub use laws::{
+    head_is_read_again, number_is_read_again, proof_is_read_again, record_is_read_again,
+};
 pub use proof::{FrameProof, Verdict};
+pub use reader::ProofReader;
 pub use settings::Settings;

@@ -1,0 +1,35 @@
+-- Laws of proof files in both formats, over the definitions alone.
+use Rattle.std.specs.Prelude.{◌≡◌, ℕ, ◌+◌, ◌<◌, ◌^◌, List, [], ◌∷◌, ◌++◌, length, Ok, Some}
+use Rattle.rate_cert.specs.declared.settings.Settings.{Settings}
+use Rattle.rate_cert.specs.Settings.{IsSettings}
+use Rattle.rate_cert.specs.Numbers.{number_bytes, short_at}
+use Rattle.rate_cert.specs.Records.{Record}
+use Rattle.rate_cert.specs.Head.{head_bytes, head_at}
+use Rattle.rate_cert.specs.Files.{IsFormat, record_bytes, proof_bytes, IsWritten, Progress, no_records, MayStand, further, next_at, proved}
+
+-- a number in groups of 7 bits that was written is read again, whatever stands behind it
+abbrev pub NumberIsReadAgain : Type 0
+NumberIsReadAgain = (n place : ℕ) (behind : List ℕ) → n < 2 ^ 64
+    → short_at (record { place = place; bytes = number_bytes n ++ behind }) ≡ Ok (n, record { place = place + length (number_bytes n); bytes = behind })
+
+-- a record that was written where one may stand is read again, whatever stands behind it, in either format
+abbrev pub RecordIsReadAgain : Type 0
+RecordIsReadAgain = (format : ℕ) (p : Progress) (r : Record) (place : ℕ) (behind : List ℕ) → IsFormat format → MayStand p → IsWritten format r
+    → next_at format p (record { place = place; bytes = record_bytes format r ++ behind })
+    ≡ Ok (Some r, record { place = place + length (record_bytes format r); bytes = behind })
+
+-- the head that was written is read again, whatever stands behind it, in either format
+abbrev pub HeadIsReadAgain : Type 0
+HeadIsReadAgain = (format : ℕ) (s : Settings) (place : ℕ) (behind : List ℕ) → IsFormat format → IsSettings s
+    → head_at (record { place = place; bytes = head_bytes format s ++ behind })
+    ≡ Ok ((format, s), record { place = place + length (head_bytes format s); bytes = behind })
+
+-- The records can be written one after the other.
+abbrev pub AreWritten : ℕ → Settings → Progress → List Record → Type 0
+AreWritten format s p [] = Unit {0}
+AreWritten format s p (r ∷ rs) = MayStand p × IsWritten format r × AreWritten format s (further s p r) rs
+
+-- a proof that was written is read again, in either format
+abbrev pub ProofIsReadAgain : Type 0
+ProofIsReadAgain = (format : ℕ) (s : Settings) (records : List Record) → IsFormat format → IsSettings s → AreWritten format s no_records records
+    → proved (proof_bytes format s records) ≡ Ok (record { format = format; settings = s; records = records })

@@ -1,0 +1,23 @@
+//! Laws over the definitions alone.
+
+ghost use Rattle.rate_cert.specs.Laws.{NumberIsReadAgain, RecordIsReadAgain, HeadIsReadAgain, ProofIsReadAgain};
+
+/// A number in groups of 7 bits that was written is read again, whatever stands behind it.
+pub fn number_is_read_again()
+    ensures { NumberIsReadAgain }
+{}
+
+/// A record that was written where one may stand is read again, in either format.
+pub fn record_is_read_again()
+    ensures { RecordIsReadAgain }
+{}
+
+/// The head that was written is read again, in either format.
+pub fn head_is_read_again()
+    ensures { HeadIsReadAgain }
+{}
+
+/// A proof that was written is read again, in either format.
+pub fn proof_is_read_again()
+    ensures { ProofIsReadAgain }
+{}
