@@ -41,3 +41,12 @@ WrittenHasLength = (f : CodedFrame) → HasArrays f.header → length (written f
 abbrev pub SlicesAreShort : Type 0
 SlicesAreShort = (h : FrameHeader) (log2 : ℕ) (slices : List CodedSlice) → log2 ≤ 3 → AreCodedSlices h (places_in h log2) slices → All IsWritableSlice slices
     → All (λ slice. slice_length h.interlace h.alpha slice < 65535) slices
+
+-- Reading what was written gives the coded frame back: the bytes stand for it and for no other, and have no fault.
+pub record IsReadAs (sample : List ℕ) (f : CodedFrame) : Type 0 where
+  pub stands : StandsBuilt sample f
+  pub only : (g : CodedFrame) → StandsBuilt sample g → g ≡ f
+  pub no_fault : frame_fault sample ≡ None
+
+abbrev pub WrittenIsReadAgain : Type 0
+WrittenIsReadAgain = (f : CodedFrame) → HasShape f → CanBeWritten f → IsReadAs (written f) f

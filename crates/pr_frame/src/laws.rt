@@ -1,6 +1,6 @@
 //! Laws over the definitions alone. The functions do nothing; their contracts are the laws.
 
-ghost use Rattle.pr_frame.specs.Laws.{OneFrame, FrameOrFault, FrameHasNoFault, WrittenStands, WrittenHasLength, SlicesAreShort};
+ghost use Rattle.pr_frame.specs.Laws.{OneFrame, FrameOrFault, FrameHasNoFault, WrittenStands, WrittenIsReadAgain, WrittenHasLength, SlicesAreShort};
 
 /// A sample stands for one coded frame at most.
 pub fn one_frame()
@@ -20,6 +20,11 @@ pub fn frame_has_no_fault()
 /// What is written stands for what was written.
 pub fn written_stands()
     ensures { WrittenStands }
+{}
+
+/// Reading what was written gives the coded frame back.
+pub fn written_is_read_again()
+    ensures { WrittenIsReadAgain }
 {}
 
 /// How many bytes are written.

@@ -16,7 +16,7 @@ pub use coded::{
 };
 pub use laws::{
     frame_has_no_fault, frame_or_fault, one_frame, slices_are_short, written_has_length,
-    written_stands,
+    written_is_read_again, written_stands,
 };
 pub use read::read_frame;
 pub use size::frame_length;

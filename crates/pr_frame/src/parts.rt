@@ -1,7 +1,7 @@
 //! The parts of a slice, read.
 
 ghost use Rattle.std.specs.Prelude.{◌≡◌, ◌+◌, ◌<◌, ◌≤◌, ◌^◌, length, IfOk, IfErr, OnOk, IsSome, Ok, drop, is_err};
-ghost use Rattle.pw_outside.specs.Ports.{CountsFault, GoesOn};
+ghost use Rattle.pw_outside.specs.Ports.{CountsFault, Lowers, GoesOn};
 ghost use Rattle.pw_outside.specs.Reading.{Gives, Fails, bytes_of, rest_of};
 ghost use Rattle.pr_geom.specs.Layout.{IsSlice};
 ghost use Rattle.pr_geom.specs.Blocks.{blocks_of};
@@ -46,6 +46,7 @@ fn fault_of(fault: CoeffFault, place: u64) -> FrameFault
 pub(crate) fn pass<S: ByteSource>(source: &mut S, count: u64) -> Result<(), Failed>
     ensures told { IsSome (S.left source.old) → IsSome (S.left source.new) }
     ensures bytes { OnOk result (IsSome (S.left source.old) → bytes_of (S.left source.new) ≡ drop count (bytes_of (S.left source.old))) }
+    ensures most { Lowers (S.most source.old) (S.most source.new) 0 }
     ensures becomes { GoesOn S.becomes source.old source.new }
     ensures cause { CountsFault (S.faults source.old) (S.faults source.new) (is_err result) }
 {
@@ -66,6 +67,7 @@ fn read_window<S: ByteSource>(
     ensures told { IsSome (S.left window.old.source.now) → IsSome (S.left window.new.source.now) }
     // The port behind it is the same.
     ensures same_source { window.new.source.ghost_name ≡ window.old.source.ghost_name }
+    ensures most { Lowers (S.most window.old.source.now) (S.most window.new.source.now) 0 }
     ensures becomes { GoesOn S.becomes window.old.source.now window.new.source.now }
     ensures cause { CountsFault (S.faults window.old.source.now) (S.faults window.new.source.now) (is_failed result) }
 {
@@ -87,6 +89,7 @@ fn component<S: ByteSource>(
     ensures told { IsSome (S.left source.old) → OnOk result (IsSome (S.left source.new)) }
     ensures value { IsSome (S.left source.old) → OnOk result (blocks_at (places scan) (length blocks.old) size (rest_of at (S.left source.old)) ≡ Ok (blocks.new, rest_of (at + size) (S.left source.new))) }
     ensures fault { IsSome (S.left source.old) → IfErr result (λ e. Fails told_fault e (blocks_at (places scan) (length blocks.old) size (rest_of at (S.left source.old)))) }
+    ensures most { Lowers (S.most source.old) (S.most source.new) 0 }
     ensures becomes { GoesOn S.becomes source.old source.new }
     ensures cause { CountsFault (S.faults source.old) (S.faults source.new) (is_failed result) }
 {
@@ -110,6 +113,7 @@ pub(crate) fn read_part<S: ByteSource>(
     ensures bytes { Gives told_fault (λ b. b) (S.left source.old) (S.left source.new) place.old place.new result (blocks_at (scan_of layout.now.interlace) (length (blocks_of layout.now.chroma part slice.now)) size) }
     ensures count { IfOk result (λ b. length b ≡ length (blocks_of layout.now.chroma part slice.now)) }
     ensures place { OnOk result (place.new ≡ place.old + size) }
+    ensures most { Lowers (S.most source.old) (S.most source.new) 0 }
     ensures becomes { GoesOn S.becomes source.old source.new }
     ensures cause { CountsFault (S.faults source.old) (S.faults source.new) (is_failed result) }
 {

@@ -3,7 +3,7 @@
 ghost use Rattle.std.specs.Prelude.{◌≡◌, ◌+◌, ◌*◌, ◌<◌, ◌≤◌, ◌^◌, ◌==◌, List, ℕ, length, sum, take, drop, IfOk, IfErr, OnOk, IfSome, IsSome, None, Some, ◌-◌};
 ghost use Rattle.std.specs.List.{All};
 ghost use Rattle.std.specs.Bool.{OnTrue};
-ghost use Rattle.pw_outside.specs.Ports.{CountsFault, GoesOn};
+ghost use Rattle.pw_outside.specs.Ports.{CountsFault, Lowers, GoesOn};
 ghost use Rattle.pw_outside.specs.Reading.{Gives, Told, bytes_of};
 ghost use Rattle.pw_planes.specs.declared.kinds.AlphaKind.TheVariants.{Absent};
 ghost use Rattle.pr_geom.specs.Slices.{pictures_of};
@@ -42,6 +42,7 @@ fn picture_header<S: ByteSource>(
     ensures picture { IfOk result (λ t. IsPicture t.0) }
     ensures within { IfOk result (λ t. place.old + t.0.size ≤ frame) }
     ensures place { IfOk result (λ t. place.new ≡ place.old + t.0.header) }
+    ensures most { Lowers (S.most source.old) (S.most source.new) 0 }
     ensures becomes { GoesOn S.becomes source.old source.new }
     ensures cause { CountsFault (S.faults source.old) (S.faults source.new) (is_failed result) }
 {
@@ -65,6 +66,7 @@ fn slice_sizes<S: ByteSource>(
     ensures count { IfOk result (λ v. length v.items ≡ slices) }
     ensures within { IfOk result (λ v. picture_size picture.now v.items ≤ picture.now.size) }
     ensures place { OnOk result (place.new ≡ place.old + 2 * slices) }
+    ensures most { Lowers (S.most source.old) (S.most source.new) 0 }
     ensures becomes { GoesOn S.becomes source.old source.new }
     ensures cause { CountsFault (S.faults source.old) (S.faults source.new) (is_failed result) }
 {
@@ -81,6 +83,7 @@ fn pass_to<S: ByteSource>(source: &mut S, place: &mut u64, end: u64) -> Result<(
     ensures bytes { OnOk result (IsSome (S.left source.old) → bytes_of (S.left source.new) ≡ drop (end - place.old) (bytes_of (S.left source.old))) }
     ensures failed { IfErr result (λ e. told_fault e ≡ None) }
     ensures place { OnOk result (place.new ≡ end) }
+    ensures most { Lowers (S.most source.old) (S.most source.new) 0 }
     ensures becomes { GoesOn S.becomes source.old source.new }
     ensures cause { CountsFault (S.faults source.old) (S.faults source.new) (is_failed result) }
 {
@@ -90,6 +93,7 @@ fn pass_to<S: ByteSource>(source: &mut S, place: &mut u64, end: u64) -> Result<(
 }
 
 /// Reads the picture that begins here, in a frame of `frame` bytes with this header, and passes over what is left of it.
+#[tactic(auto, using(pr_head::proofs::Bounds::lowers_then))]
 fn read_picture<S: ByteSource>(
     alloc: Global,
     source: &mut S,
@@ -103,6 +107,7 @@ fn read_picture<S: ByteSource>(
     ensures bytes { Told (S.left source.old) (λ bytes. frame ≤ place.old + length bytes) → Gives told_fault (λ x. x) (S.left source.old) (S.left source.new) place.old place.new result (coded_picture_at frame header.now) }
     ensures picture { IfOk result (IsCodedPicture header.now) }
     ensures place { OnOk result (place.new ≤ frame) }
+    ensures most { Lowers (S.most source.old) (S.most source.new) 0 }
     ensures becomes { GoesOn S.becomes source.old source.new }
     ensures cause { CountsFault (S.faults source.old) (S.faults source.new) (is_failed result) }
 {
@@ -118,6 +123,7 @@ fn read_picture<S: ByteSource>(
 }
 
 /// Reads so many pictures, one behind the other, in a frame of `frame` bytes with this header.
+#[tactic(auto, using(pr_head::proofs::Bounds::lowers_then))]
 fn read_pictures<S: ByteSource>(
     alloc: Global,
     source: &mut S,
@@ -132,6 +138,7 @@ fn read_pictures<S: ByteSource>(
     ensures bytes { Told (S.left source.old) (λ bytes. frame ≤ place.old + length bytes) → Gives told_fault (λ x. x) (S.left source.old) (S.left source.new) place.old place.new result (coded_pictures_at count frame header.now) }
     ensures pictures { IfOk result (All (IsCodedPicture header.now)) }
     ensures count { IfOk result (λ x. length x ≡ count) }
+    ensures most { Lowers (S.most source.old) (S.most source.new) 0 }
     ensures becomes { GoesOn S.becomes source.old source.new }
     ensures cause { CountsFault (S.faults source.old) (S.faults source.new) (is_failed result) }
 {
@@ -165,6 +172,7 @@ fn is_built(header: &FrameHeader) -> bool
 }
 
 /// Reads the frame at the front of a sample of `size` bytes.
+#[tactic(auto, using(pr_head::proofs::Bounds::lowers_then))]
 fn frame_from<S: ByteSource>(
     alloc: Global,
     source: &mut S,
@@ -176,6 +184,7 @@ fn frame_from<S: ByteSource>(
     ensures bytes { Gives told_fault (λ x. x) (S.left source.old) (S.left source.new) place.old place.new result (frame_at size) }
     ensures coded { IfOk result IsCodedFrame }
     ensures built { IfOk result (λ f. IsBuilt f.header) }
+    ensures most { Lowers (S.most source.old) (S.most source.new) 0 }
     ensures becomes { GoesOn S.becomes source.old source.new }
     ensures cause { CountsFault (S.faults source.old) (S.faults source.new) (is_failed result) }
 {
@@ -212,6 +221,7 @@ pub fn read_frame<S: ByteSource>(
     ensures coded { IfOk result IsCodedFrame }
     ensures built { IfOk result (λ f. IsBuilt f.header) }
     ensures told { IsSome (S.left source.old) → OnOk result (IsSome (S.left source.new)) }
+    ensures most { Lowers (S.most source.old) (S.most source.new) 0 }
     ensures becomes { GoesOn S.becomes source.old source.new }
     // The error is `Failed` only where a call of the source failed, and each such call is answered by it.
     ensures cause { CountsFault (S.faults source.old) (S.faults source.new) (is_failed result) }

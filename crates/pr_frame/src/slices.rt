@@ -1,7 +1,7 @@
 //! The slices of a picture, read.
 
 ghost use Rattle.std.specs.Prelude.{◌≡◌, ◌+◌, ◌<◌, ◌≤◌, ◌^◌, [], length, sum, IfOk, OnOk, false};
-ghost use Rattle.pw_outside.specs.Ports.{CountsFault, GoesOn};
+ghost use Rattle.pw_outside.specs.Ports.{CountsFault, Lowers, GoesOn};
 ghost use Rattle.pw_outside.specs.Reading.{Gives, Told};
 ghost use Rattle.pw_planes.specs.declared.kinds.AlphaKind.TheVariants.{Absent};
 ghost use Rattle.pr_geom.specs.declared.places.TheConstants.{MAX_SLICES};
@@ -30,6 +30,7 @@ fn slice_header<S: ByteSource>(
     ensures bytes { Told (S.left source.old) (λ bytes. size ≤ length bytes) → Gives told_fault (λ x. x) (S.left source.old) (S.left source.new) place.old place.new result (slice_at size false) }
     ensures place { IfOk result (λ r. place.new ≡ place.old + r.header) }
     ensures slice { IfOk result (IsSliceHeader size false) }
+    ensures most { Lowers (S.most source.old) (S.most source.new) 0 }
     ensures becomes { GoesOn S.becomes source.old source.new }
     ensures cause { CountsFault (S.faults source.old) (S.faults source.new) (is_failed result) }
 {
@@ -39,7 +40,7 @@ fn slice_header<S: ByteSource>(
 }
 
 /// Reads the components of the slice at this place of the layout, whose header was read.
-#[tactic(auto, unfolding(crate::specs::Reading::components_at, pw_outside::specs::Reading::bind))]
+#[tactic(auto, using(pr_head::proofs::Bounds::lowers_then), unfolding(crate::specs::Reading::components_at, pw_outside::specs::Reading::bind))]
 fn read_components<S: ByteSource>(
     alloc: Global,
     source: &mut S,
@@ -57,6 +58,7 @@ fn read_components<S: ByteSource>(
     ensures cr { IfOk result (λ x. length x.cr ≡ length (blocks_of layout.now.chroma Cr slice.now)) }
     ensures alpha { IfOk result (λ x. x.alpha ≡ []) }
     ensures place { OnOk result (place.new ≡ place.old + head.now.y + head.now.cb + head.now.cr) }
+    ensures most { Lowers (S.most source.old) (S.most source.new) 0 }
     ensures becomes { GoesOn S.becomes source.old source.new }
     ensures cause { CountsFault (S.faults source.old) (S.faults source.new) (is_failed result) }
 {
@@ -74,6 +76,7 @@ fn read_components<S: ByteSource>(
 }
 
 /// Reads the slice at this place of the layout, in the next `size` bytes. The layout is that of a frame with this header.
+#[tactic(auto, using(pr_head::proofs::Bounds::lowers_then))]
 fn read_slice<S: ByteSource>(
     alloc: Global,
     source: &mut S,
@@ -90,6 +93,7 @@ fn read_slice<S: ByteSource>(
     ensures bytes { Told (S.left source.old) (λ bytes. size ≤ length bytes) → Gives told_fault (λ x. x) (S.left source.old) (S.left source.new) place.old place.new result (coded_slice_at header.now slice.now size) }
     ensures slice { IfOk result (IsCodedSlice header.now slice.now) }
     ensures place { OnOk result (place.new ≤ place.old + size) }
+    ensures most { Lowers (S.most source.old) (S.most source.new) 0 }
     ensures becomes { GoesOn S.becomes source.old source.new }
     ensures cause { CountsFault (S.faults source.old) (S.faults source.new) (is_failed result) }
 {
@@ -98,6 +102,7 @@ fn read_slice<S: ByteSource>(
 }
 
 /// Reads the slices of a picture with this layout, which have these sizes. The layout is that of a frame with this header.
+#[tactic(auto, using(pr_head::proofs::Bounds::lowers_then))]
 pub(crate) fn read_slices<S: ByteSource>(
     alloc: Global,
     source: &mut S,
@@ -114,6 +119,7 @@ pub(crate) fn read_slices<S: ByteSource>(
     ensures bytes { Told (S.left source.old) (λ bytes. sum sizes.now ≤ length bytes) → Gives told_fault (λ x. x) (S.left source.old) (S.left source.new) place.old place.new result (coded_slices_at header.now (slices_of layout.now) sizes.now) }
     ensures slices { IfOk result (AreCodedSlices header.now (slices_of layout.now)) }
     ensures place { OnOk result (place.new ≤ place.old + sum sizes.now) }
+    ensures most { Lowers (S.most source.old) (S.most source.new) 0 }
     ensures becomes { GoesOn S.becomes source.old source.new }
     ensures cause { CountsFault (S.faults source.old) (S.faults source.new) (is_failed result) }
 {

@@ -1,6 +1,7 @@
 use Rattle.std.proofs.Common.{Ok, ap, ◌∙◌}
 use Rattle.pw_outside.specs.Reading.{Rest}
 use Rattle.pw_bits.specs.Window.{Moves-same}
+use Rattle.pr_head.proofs.Bounds.{lowers_then}
 use Rattle.pr_frame.proofs.Steps.{rest-ahead, window-told, blocks-stand, blocks-window-fault}
 use Rattle.pr_frame.proofs.parts.read_window.Goals as goal
 
@@ -19,3 +20,20 @@ returns-in-Err-clause-fault g c = λ h.
     let w = c.args.window.now in
     let left = g.S.ByteSource.left w.source.now in
     blocks-window-fault c.args.scan _ w.left c.args.at left _ c.in-Err.fault c.fault_of.result h c.read_component.auto.blocks (c.in-Err.ensures.fault (window-told w.left left h)) c.fault_of.ensures.bad
+
+pub returns-in-Err-clause-most : goal.returns-in-Err-clause-most
+returns-in-Err-clause-most g c =
+    let w = c.args.window.now in
+    (c.read_component.ensures.becomes w (Moves-same g.S.ByteSource.becomes (g.S.ByteSource.most w.source.now) (g.S.ByteSource.left w.source.now) w.source.now w.source.ghost_name w.left)).bound
+
+pub returns-in_ok-skip-in-Ok-clause-most : goal.returns-in_ok-skip-in-Ok-clause-most
+returns-in_ok-skip-in-Ok-clause-most g c =
+    let w = c.args.window.now in
+    let m = c.read_component.ensures.becomes w (Moves-same g.S.ByteSource.becomes (g.S.ByteSource.most w.source.now) (g.S.ByteSource.left w.source.now) w.source.now w.source.ghost_name w.left) in
+    lowers_then _ _ _ _ _ m.bound c.skip.ensures.source_most
+
+pub returns-in_err-skip-in-Ok-clause-most : goal.returns-in_err-skip-in-Ok-clause-most
+returns-in_err-skip-in-Ok-clause-most g c =
+    let w = c.args.window.now in
+    let m = c.read_component.ensures.becomes w (Moves-same g.S.ByteSource.becomes (g.S.ByteSource.most w.source.now) (g.S.ByteSource.left w.source.now) w.source.now w.source.ghost_name w.left) in
+    lowers_then _ _ _ _ _ m.bound c.skip.ensures.source_most

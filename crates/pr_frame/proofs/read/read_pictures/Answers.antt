@@ -2,6 +2,7 @@ use Rattle.std.proofs.Common.{◌∷◌, [], arith, refl, ◌∙◌, length-appe
 use Rattle.std.proofs.lemmas.Result.{err_from_is_err_and}
 use Rattle.std.proofs.lemmas.List.Elements.{All-append, All-nil, All-cons}
 use Rattle.pw_outside.specs.Reading.{rest_of}
+use Rattle.pr_head.proofs.Bounds.{lowers_same, lowers_then}
 use Rattle.pr_frame.specs.Coded.{IsCodedPicture}
 use Rattle.pr_frame.proofs.FrameSteps.{pictures-first, picture-ahead, end-kept, pictures-more, pictures-end, pictures-all}
 use Rattle.pr_frame.proofs.read.read_pictures.Goals as goal
@@ -14,6 +15,7 @@ loop-init g c = rw c.new-pictures.ensures.items (record {
   more = λ e h. e h;
   bytes = λ e h. pictures-first c.args.frame c.args.header.now c.args.count (rest_of c.args.place.now (g.S.ByteSource.left c.args.source.now));
   pictures = All-nil (IsCodedPicture c.args.header.now);
+  most = lowers_same _;
   becomes = λ first h. h;
   cause = refl;
 })
@@ -45,6 +47,7 @@ loop-preserved g c =
           end-kept F a.0 s t a.1 (i.more e h);
       bytes = λ e h. pictures-more F hd c.args.count c.loop.counter s _ c.loop.pictures.items x t c.loop-test.true ((c.in_ok-picture.ensures.bytes (λ k. i.more e h)).answer (i.told e h)) (i.bytes e h);
       pictures = All-append (IsCodedPicture hd) c.loop.pictures.items (x ∷ []) i.pictures (All-cons (IsCodedPicture hd) x [] c.in_ok-picture.ensures.picture (All-nil (IsCodedPicture hd)));
+      most = lowers_then _ _ _ _ _ i.most c.in_ok-picture.ensures.most;
       becomes = λ first h. c.in_ok-picture.ensures.becomes first (i.becomes first h);
       cause = c.in_ok-picture.ensures.cause.kept ∙ i.cause;
     })

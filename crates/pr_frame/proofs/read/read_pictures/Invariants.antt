@@ -1,7 +1,7 @@
 use Rattle.std.proofs.Common.{◌≡◌, ◌+◌, ◌-◌, ◌≤◌, length}
 use Rattle.std.specs.Prelude.{IsSome}
 use Rattle.std.specs.List.{All}
-use Rattle.pw_outside.specs.Ports.{GoesOn}
+use Rattle.pw_outside.specs.Ports.{Lowers, GoesOn}
 use Rattle.pw_outside.specs.Reading.{Told, rest_of, bytes_of}
 use Rattle.pw_outside.proofs.Chains.{with_front}
 use Rattle.pr_frame.specs.Coded.{IsCodedPicture}
@@ -18,6 +18,7 @@ invariant-loop g l = record {
       → with_front l.pictures.items (coded_pictures_at (l.count - l.counter) l.frame l.header (rest_of l.place (g.S.ByteSource.left l.source)))
       ≡ coded_pictures_at l.count l.frame l.header (rest_of l.initial.place (g.S.ByteSource.left l.initial.source));
   pictures : All (IsCodedPicture l.header) l.pictures.items;
+  most : Lowers (g.S.ByteSource.most l.initial.source) (g.S.ByteSource.most l.source) 0;
   becomes : GoesOn g.S.ByteSource.becomes l.initial.source l.source;
   cause : g.S.ByteSource.faults l.source ≡ g.S.ByteSource.faults l.initial.source;
 }

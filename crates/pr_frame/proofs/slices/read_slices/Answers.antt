@@ -4,6 +4,7 @@ use Rattle.std.proofs.lemmas.List.{take_all}
 use Rattle.pw_outside.specs.Reading.{rest_of}
 use Rattle.pw_outside.proofs.Chains.{with_front_nil}
 use Rattle.pr_geom.specs.Layout.{slices_of}
+use Rattle.pr_head.proofs.Bounds.{lowers_same, lowers_then}
 use Rattle.pr_frame.specs.Coded.{AreCodedSlices}
 use Rattle.pr_frame.proofs.Rests.{coded-rest}
 use Rattle.pr_frame.proofs.SliceLoop.{sum-drop, slices-more, slices-end, slices-all, coded-more, ahead-length}
@@ -16,6 +17,7 @@ loop-number-init g c = rw c.new-slices.ensures.items (record {
   bytes = λ e h. with_front_nil _;
   more = λ e h. e h;
   slices = tt;
+  most = lowers_same _;
   becomes = λ first h. h;
   cause = refl;
 })
@@ -53,6 +55,7 @@ loop-number-preserved g c =
           ((c.in_ok-coded.ensures.bytes (λ k. omega (arith, i.more e h, step))).answer (i.told e h)) (i.bytes e h);
       more = λ e h. omega (arith, i.more e h, step, ahead-length size s t (coded-rest c.args.header.now c.slice-slice.result size s x t c.requires.alpha ((c.in_ok-coded.ensures.bytes (λ k. omega (arith, i.more e h, step))).answer (i.told e h))));
       slices = coded-more c.args.header.now places c.loop-number.slices.items n c.slice-slice.result x in_places c.slice-slice.ensures.value i.slices c.in_ok-coded.ensures.slice;
+      most = lowers_then _ _ _ _ _ i.most c.in_ok-coded.ensures.most;
       becomes = λ first h. c.in_ok-coded.ensures.becomes first (i.becomes first h);
       cause = c.in_ok-coded.ensures.cause.kept ∙ i.cause;
     })

@@ -1,6 +1,6 @@
 use Rattle.std.proofs.Common.{◌≡◌, ◌+◌, ◌≤◌, length, take, drop, sum}
 use Rattle.std.specs.Prelude.{IsSome}
-use Rattle.pw_outside.specs.Ports.{GoesOn}
+use Rattle.pw_outside.specs.Ports.{Lowers, GoesOn}
 use Rattle.pw_outside.specs.Reading.{Told, rest_of, bytes_of}
 use Rattle.pw_outside.proofs.Chains.{with_front}
 use Rattle.pr_geom.specs.Layout.{slices_of}
@@ -17,6 +17,7 @@ invariant-loop-number g l = record {
       ≡ coded_slices_at l.header (slices_of l.layout) l.sizes (rest_of l.initial.place (g.S.ByteSource.left l.initial.source));
   more : Told (g.S.ByteSource.left l.initial.source) (λ bytes. sum l.sizes ≤ length bytes) → IsSome (g.S.ByteSource.left l.initial.source) → sum (drop l.number l.sizes) ≤ length (bytes_of (g.S.ByteSource.left l.source));
   slices : AreCodedSlices l.header (take l.number (slices_of l.layout)) l.slices.items;
+  most : Lowers (g.S.ByteSource.most l.initial.source) (g.S.ByteSource.most l.source) 0;
   becomes : GoesOn g.S.ByteSource.becomes l.initial.source l.source;
   cause : g.S.ByteSource.faults l.source ≡ g.S.ByteSource.faults l.initial.source;
 }
