@@ -109,6 +109,7 @@ next-form r s after p e = by (eqb r.frames MAX_FRAMES) refl e
     ended : (b : Bool) → (if b then answer None s else bad kinds.TooManyFrames s.place) ≡ answer (Some p) after → ⊥
     ended true e = none-some p s after e
     ended false e = absurd cc
+
     by : (b : Bool) → eqb r.frames MAX_FRAMES ≡ b → (if b then (if length s.bytes == 0 then Ok (None, s) else bad kinds.TooManyFrames s.place) else frame_at r.head s) ≡ Ok (Some p, after)
         → (r.frames ≢ MAX_FRAMES) × IsPicture r.head p
     by true t e = absurd (ended (length s.bytes == 0) e)

@@ -32,7 +32,10 @@ impl AnyReader {
     ///
     /// The errors are those of [`Y4mReader::start`]; there is none where the form is said. No memory is taken.
     #[tactic(auto, unfolding(pw_outside::specs::Reading::bind))]
-    pub fn start<S: ByteSource>(source: &mut S, form: Option<Head>) -> Result<AnyReader, PictureFault>
+    pub fn start<S: ByteSource>(
+        source: &mut S,
+        form: Option<Head>,
+    ) -> Result<AnyReader, PictureFault>
         requires { IfSome form IsHead }
         // Where the source tells its bytes, the answer is the reader of their form, or the first fault of the head line.
         ensures bytes { Gives told_fault (λ r. r) (S.left source.old) (S.left source.new) 0 (place_after result) result (start_of form) }

@@ -11,9 +11,7 @@ ghost use Rattle.pic_y4m.specs.Frames.{has_alpha};
 ghost use Rattle.pic_y4m.specs.HeadLine.{IsHead};
 ghost use Rattle.pic_raw.specs.Raw.{luma_count, chroma_count, alpha_limit, alpha_at, alpha_in_range, plane_of, picture_of, picture_behind, frame_at, IsPicture};
 
-use pic_y4m::{
-    Head, PictureFault, SampleSize, check_range, limit_of, next_samples, read_samples,
-};
+use pic_y4m::{Head, PictureFault, SampleSize, check_range, limit_of, next_samples, read_samples};
 use pw_outside::ByteSource;
 use pw_planes::{AlphaKind, Picture, Plane};
 use std::alloc::Global;
@@ -86,11 +84,7 @@ fn alpha_of<S: ByteSource>(
 }
 
 /// Refuses samples of alpha that have more bits than their kind says. The plane begins at this place.
-fn check_alpha(
-    kind: AlphaKind,
-    samples: &Option<Vec<u16>>,
-    place: u64,
-) -> Result<(), PictureFault>
+fn check_alpha(kind: AlphaKind, samples: &Option<Vec<u16>>, place: u64) -> Result<(), PictureFault>
     requires few { IfSome samples.now (λ v. length v.items ≤ 2 ^ 26) }
     requires room { place < 2 ^ 62 }
     ensures answer { Answers told_fault (λ x. x) result (alpha_in_range kind (option_map (λ w. w.items) samples.now) place) }

@@ -8,23 +8,10 @@ ghost use Rattle.pic_y4m.specs.declared.samples.SampleSize.TheVariants.{Byte, Pa
 ghost use Rattle.pic_y4m.specs.Samples.{plane_bytes, Fit};
 
 use crate::samples::SampleSize;
-use pw_outside::{ByteSink, Failed, put};
+use pw_outside::{ByteSink, Failed, put_all};
 
 /// The number of samples that are made into bytes at a time.
 const PIECE: usize = 4096;
-
-/// Writes a whole text.
-pub(crate) fn put_all<K: ByteSink>(sink: &mut K, text: &[u8]) -> Result<(), Failed>
-    ensures ok { OnOk result (Puts (sink_state (K.held sink.old) (K.taken sink.old)) (sink_state (K.held sink.new) (K.taken sink.new)) text.now) }
-    ensures err { OnErr result (PutsPart (sink_state (K.held sink.old) (K.taken sink.old)) (sink_state (K.held sink.new) (K.taken sink.new)) text.now) }
-    ensures settled { K.settled sink.old ≤ K.settled sink.new }
-    ensures cause { CountsFault (K.faults sink.old) (K.faults sink.new) (is_err result) }
-{
-    match put(sink, text) {
-        Ok(()) => Ok(()),
-        Err(_) => Err(Failed),
-    }
-}
 
 /// Writes samples of one byte each over these bytes.
 fn pack_bytes(bytes: &mut [u8], samples: &[u16])

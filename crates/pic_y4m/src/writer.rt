@@ -7,9 +7,9 @@ ghost use Rattle.pic_y4m.specs.Frames.{HasForm, AreBelow};
 ghost use Rattle.pic_y4m.specs.Writing.{Writes, write_failed, mode_text, sampling_text, depth_text, head_bytes, frame_bytes};
 
 use crate::head::Head;
-use crate::pieces::{put_all, put_samples};
+use crate::pieces::put_samples;
 use crate::samples::size_of;
-use pw_outside::{ByteSink, Failed, NoMemory};
+use pw_outside::{ByteSink, Failed, NoMemory, put_all};
 use pw_planes::{Chroma, Depth, Interlace, Picture};
 use pw_text::{put_decimal, put_words};
 use std::alloc::Global;
