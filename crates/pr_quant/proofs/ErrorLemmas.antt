@@ -1,11 +1,10 @@
 -- The sum of a slice's errors.
-use Rattle.std.proofs.Common.{◌≡◌, ℕ, zero, suc, ◌+◌, ◌*◌, ◌^◌, ◌<◌, ◌≤◌, List, length, map, get_or, ℤ, pos, nat_abs, arith, refl, sym, ap, ◌∙◌, add-one, subst}
-use Rattle.std.specs.List.{All, sum, sum_by, range_with_len}
+use Rattle.std.proofs.Common.{◌≡◌, ℕ, zero, suc, ◌+◌, ◌*◌, ◌^◌, ◌<◌, ◌≤◌, List, length, map, get_or, ℤ, pos, nat_abs, arith, refl, ap, add-one, subst}
+use Rattle.std.specs.List.{All, sum, range_with_len}
 use Rattle.std.proofs.lemmas.List.Sums.{sum_by-le}
 use Rattle.std.proofs.lemmas.List.FromFn.{sum_by-map-range_with_len_more}
-use Rattle.pr_quant.specs.declared.weights.Weights.{Weights}
 use Rattle.pr_quant.specs.Quantised.{distance, quantised, error_of, greatest_coefficient}
-use Rattle.pr_quant.specs.Errors.{multipliers, block_error, part_error, slice_blocks, HasCoefficients, SliceErrorIsSmall}
+use Rattle.pr_quant.specs.Errors.{multipliers, block_error, part_error, HasCoefficients, SliceErrorIsSmall}
 use Rattle.pr_quant.proofs.NearestLemmas.{distance-quantised, square_small, error_small}
 
 -- at no multiplier all of the coefficient is lost

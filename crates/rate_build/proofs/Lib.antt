@@ -13,3 +13,4 @@ pub mod Finishing
 pub mod Layouts
 pub mod Limits
 pub mod Writable
+pub mod Grouped

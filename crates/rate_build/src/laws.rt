@@ -1,5 +1,6 @@
 //! Laws over the definitions alone.
 
+ghost use Rattle.rate_build.specs.Groups.{GroupTableIsTable};
 ghost use Rattle.rate_build.specs.Laws.{CoefficientsAreOfLayout, TableIsTable, CodedIsReady, ChoiceHasIndices, FrameHasTableSize};
 
 /// The coefficients of a picture are of its layout, in every chroma format and interlace mode, with alpha and without.
@@ -10,6 +11,12 @@ pub fn coefficients_are_of_layout()
 /// The table of coefficients is within the limits of tables.
 pub fn table_is_table()
     ensures { TableIsTable }
+{}
+
+/// The table of a group of frames under one budget is within the limits of tables, where the budgets and the slices of all its
+/// frames are.
+pub fn group_table_is_table()
+    ensures { GroupTableIsTable }
 {}
 
 /// What is coded by one index from 1 to 224 for each slice, as the indices of a choice of a table are, can be written.

@@ -12,7 +12,8 @@ mod walk;
 pub use coding::coded;
 pub use costs::{Measure, measure_all};
 pub use laws::{
-    coded_can_be_written, coefficients_are_of_layout, frame_has_table_size, table_is_table,
+    coded_can_be_written, coefficients_are_of_layout, frame_has_table_size, group_table_is_table,
+    table_is_table,
 };
 pub use slices::{CoefficientSlices, Coefficients, SliceCoefficients};
 pub use tables::build_table;
