@@ -4,5 +4,8 @@ pub mod Layered
 pub mod Recorded
 pub mod Grouped
 pub mod InTurn
+pub mod Gathering
 pub mod Headed
 pub mod Filed
+pub mod Spelling
+pub mod Recording

@@ -2,14 +2,17 @@
 #![tactic(auto)]
 
 mod field;
+mod gather;
 mod head;
 mod laws;
+mod layer_bytes;
 mod layers;
 mod progress;
 mod proof;
 mod reader;
 mod record;
 mod settings;
+mod writer;
 
 pub use laws::{
     head_is_read_again, number_is_read_again, proof_is_read_again, record_is_read_again,
@@ -17,3 +20,4 @@ pub use laws::{
 pub use proof::{FrameProof, Verdict};
 pub use reader::ProofReader;
 pub use settings::Settings;
+pub use writer::ProofWriter;
