@@ -4,12 +4,14 @@ use Rattle.std.specs.List.{All, flat_map}
 use Rattle.std.specs.Int.{w16, to_be_bytes}
 use Rattle.std.proofs.lemmas.List.Elements.{All-head, All-tail, All-nil, All-cons}
 use Rattle.pw_planes.specs.declared.kinds.AlphaKind.{AlphaKind}
-use Rattle.pw_planes.specs.declared.kinds.AlphaKind.TheVariants.{Absent}
+use Rattle.pw_planes.specs.declared.kinds.AlphaKind.TheVariants.{Absent, Eight, Sixteen}
 use Rattle.pw_planes.specs.declared.kinds.Interlace.{Interlace}
 use Rattle.pr_geom.specs.declared.places.SlicePlace.{SlicePlace}
 use Rattle.pr_geom.specs.declared.places.Part.TheVariants.{Y, Cb, Cr}
 use Rattle.pr_geom.specs.declared.places.TheConstants.{MAX_SLICES}
 use Rattle.pr_head.specs.Picture.{slices_in, picture_header_bytes}
+use Rattle.pr_alpha.specs.Alpha as values
+use Rattle.pr_alpha.proofs.RowLemmas.{alpha_cost}
 use Rattle.pr_coeff.specs.Component.{Block, component, AreBlocks}
 use Rattle.pr_coeff.proofs.WovenLemmas.{AreBlocks_from, AllSmall_from}
 use Rattle.pr_coeff.proofs.CostLemmas.{component_cost}
@@ -21,10 +23,10 @@ use Rattle.pr_head.specs.Laws.{sizes_bytes}
 use Rattle.pr_frame.specs.declared.coded.CodedSlice.{CodedSlice}
 use Rattle.pr_frame.specs.declared.coded.CodedPicture.{CodedPicture}
 use Rattle.pr_frame.specs.declared.coded.CodedFrame.{CodedFrame}
-use Rattle.pr_frame.specs.Forms.{scan_of, has_alpha, places_in}
+use Rattle.pr_frame.specs.Forms.{scan_of, has_alpha, places_in, alpha_count}
 use Rattle.pr_frame.specs.Coded.{IsCodedSlice, AreCodedSlices, IsCodedPicture, IsWritableBlock, IsWritableSlice, IsWritablePicture, HasArrays}
 use Rattle.pr_frame.specs.Ready.{IsReadyPart, IsReady, IsReadyPicture}
-use Rattle.pr_frame.specs.Written.{component_bytes, slice_header_of, slice_bytes, slice_length, slice_lengths, picture_length, picture_bytes, frame_length_of, written}
+use Rattle.pr_frame.specs.Written.{component_bytes, with_alpha, with_alpha_size, slice_header_of, slice_bytes, slice_length, slice_lengths, picture_length, picture_bytes, frame_length_of, written}
 use Rattle.pr_frame.proofs.Counts.{HasBlocksOf, AllHave, places-have, count-places}
 use Rattle.pr_frame.proofs.Standing.{scan-is}
 use Rattle.pr_frame.proofs.SliceLoop.{sum-front}
@@ -36,9 +38,15 @@ unfolding slice_header_bytes
 header-length r true = refl
 header-length r false = refl
 
-slice-is : (mode : Interlace) (alpha : AlphaKind) (s : CodedSlice) → slice_bytes mode alpha s ≡ slice_header_bytes (slice_header_of mode alpha s) (has_alpha alpha) ++ component_bytes mode s.y ++ component_bytes mode s.cb ++ component_bytes mode s.cr
+slice-is : (mode : Interlace) (alpha : AlphaKind) (s : CodedSlice) → slice_bytes mode alpha s
+    ≡ with_alpha alpha s.alpha (slice_header_bytes (slice_header_of mode alpha s) (has_alpha alpha) ++ component_bytes mode s.y ++ component_bytes mode s.cb ++ component_bytes mode s.cr)
 unfolding slice_bytes
 slice-is mode alpha s = refl
+
+length-with : (alpha : AlphaKind) (l b : List ℕ) → length (with_alpha alpha l b) ≡ with_alpha_size alpha l (length b)
+length-with Absent l b = refl
+length-with Eight l b = length-append b (values.alpha 8 l)
+length-with Sixteen l b = length-append b (values.alpha 16 l)
 
 pub length-slice : (mode : Interlace) (alpha : AlphaKind) (s : CodedSlice) → length (slice_bytes mode alpha s) ≡ slice_length mode alpha s
 length-slice mode alpha s =
@@ -46,8 +54,9 @@ length-slice mode alpha s =
     let y = component_bytes mode s.y in
     let cb = component_bytes mode s.cb in
     let cr = component_bytes mode s.cr in
-    let e : length (h ++ y ++ cb ++ cr) ≡ slice_length mode alpha s = omega (arith, length-append h y, length-append (h ++ y) cb, length-append (h ++ y ++ cb) cr, header-length (slice_header_of mode alpha s) (has_alpha alpha)) in
-    ap length (slice-is mode alpha s) ∙ e
+    let n = least_slice_header (has_alpha alpha) + length y + length cb + length cr in
+    let e : length (h ++ y ++ cb ++ cr) ≡ n = omega (arith, length-append h y, length-append (h ++ y) cb, length-append (h ++ y ++ cb) cr, header-length (slice_header_of mode alpha s) (has_alpha alpha)) in
+    ap length (slice-is mode alpha s) ∙ length-with alpha s.alpha (h ++ y ++ cb ++ cr) ∙ ap (with_alpha_size alpha s.alpha) e
 
 pub length-slices : (mode : Interlace) (alpha : AlphaKind) (xs : List CodedSlice) → length (flat_map (slice_bytes mode alpha) xs) ≡ sum (map (slice_length mode alpha) xs)
 length-slices mode alpha [] = refl
@@ -119,12 +128,24 @@ alpha-least : (alpha : Bool) → least_slice_header alpha ≤ 8
 alpha-least true = omega arith
 alpha-least false = omega arith
 
+-- alpha values are few
+few-values : (alpha : AlphaKind) (place : SlicePlace) → place.width ≤ 8 → alpha_count alpha place ≤ 2048
+few-values Absent place narrow = omega arith
+few-values Eight place narrow = omega arith
+few-values Sixteen place narrow = omega arith
+
+with-short : (alpha : AlphaKind) (l : List ℕ) (n : ℕ) → length l ≤ 2048 → n < 43784 → with_alpha_size alpha l n < 65535
+with-short Absent l n few short = omega arith
+with-short Eight l n few short = omega (arith, alpha_cost 8 l refl)
+with-short Sixteen l n few short = omega (arith, alpha_cost 16 l refl)
+
 pub slice-short : (h : FrameHeader) (place : SlicePlace) (s : CodedSlice) → HasBlocksOf h place → IsCodedSlice h place s → IsWritableSlice s → slice_length h.interlace h.alpha s < 65535
 slice-short h place s have is small =
     let y = component-short h.interlace s.y (omega (arith, is.y, have.some Y)) (omega (arith, is.y, have.few Y)) small.y in
     let cb = component-short h.interlace s.cb (omega (arith, is.cb, have.some Cb)) (omega (arith, is.cb, have.few Cb)) small.cb in
     let cr = component-short h.interlace s.cr (omega (arith, is.cr, have.some Cr)) (omega (arith, is.cr, have.few Cr)) small.cr in
-    omega (arith, y, cb, cr, alpha-least (has_alpha h.alpha))
+    let n = least_slice_header (has_alpha h.alpha) + length (component_bytes h.interlace s.y) + length (component_bytes h.interlace s.cb) + length (component_bytes h.interlace s.cr) in
+    with-short h.alpha s.alpha n (omega (arith, is.alpha, few-values h.alpha place have.narrow)) (omega (arith, y, cb, cr, alpha-least (has_alpha h.alpha)))
 
 pub slices-short : (h : FrameHeader) (places : List SlicePlace) (xs : List CodedSlice) → AllHave h places → AreCodedSlices h places xs → All IsWritableSlice xs → All (λ s. slice_length h.interlace h.alpha s < 65535) xs
 slices-short h [] [] have are small = All-nil (λ s. slice_length h.interlace h.alpha s < 65535)
@@ -137,9 +158,6 @@ slices-short h (p ∷ places) (x ∷ xs) have are small =
 
 pub part-short : (mode : Interlace) (blocks : List Block) → IsReadyPart blocks → length (component_bytes mode blocks) < 14592
 part-short mode blocks r = component-short mode blocks r.some r.few r.values
-
-pub ready-short : (mode : Interlace) (alpha : AlphaKind) (s : CodedSlice) → IsReady s → slice_length mode alpha s < 65535
-ready-short mode alpha s r = omega (arith, part-short mode s.y r.y, part-short mode s.cb r.cb, part-short mode s.cr r.cr, alpha-least (has_alpha alpha))
 
 slice-ready : (h : FrameHeader) (place : SlicePlace) (s : CodedSlice) → HasBlocksOf h place → IsCodedSlice h place s → IsWritableSlice s → IsReady s
 slice-ready h place s have is small = record {

@@ -3,7 +3,9 @@
 use Rattle.std.specs.Prelude.{ℕ, ◌+◌, ◌*◌, List, length, map, sum, ◌++◌}
 use Rattle.std.specs.List.{flat_map}
 use Rattle.pw_planes.specs.declared.kinds.AlphaKind.{AlphaKind}
+use Rattle.pw_planes.specs.declared.kinds.AlphaKind.TheVariants.{Absent, Eight, Sixteen}
 use Rattle.pw_planes.specs.declared.kinds.Interlace.{Interlace}
+use Rattle.pr_alpha.specs.Alpha as values
 use Rattle.pr_coeff.specs.Component.{Block, component}
 use Rattle.pr_head.specs.declared.slice.SliceHeader.{SliceHeader}
 use Rattle.pr_head.specs.Header.{frame_header_bytes}
@@ -21,6 +23,24 @@ use Rattle.pr_frame.specs.Forms.{scan_of, has_alpha}
 abbrev pub component_bytes : Interlace → List Block → List ℕ
 component_bytes mode blocks = component (scan_of mode) blocks
 
+-- how many bytes alpha values have, in a frame with alpha values
+abbrev pub alpha_size : AlphaKind → List ℕ → ℕ
+alpha_size Absent l = 0
+alpha_size Eight l = length (values.alpha 8 l)
+alpha_size Sixteen l = length (values.alpha 16 l)
+
+-- bytes with those of alpha values behind them, in a frame with alpha values
+abbrev pub with_alpha : AlphaKind → List ℕ → List ℕ → List ℕ
+with_alpha Absent l bytes = bytes
+with_alpha Eight l bytes = bytes ++ values.alpha 8 l
+with_alpha Sixteen l bytes = bytes ++ values.alpha 16 l
+
+-- how many bytes these are
+abbrev pub with_alpha_size : AlphaKind → List ℕ → ℕ → ℕ
+with_alpha_size Absent l n = n
+with_alpha_size Eight l n = n + length (values.alpha 8 l)
+with_alpha_size Sixteen l n = n + length (values.alpha 16 l)
+
 -- the header of a slice, with the sizes of its components
 abbrev pub slice_header_of : Interlace → AlphaKind → CodedSlice → SliceHeader
 slice_header_of mode alpha s = record {
@@ -29,20 +49,20 @@ slice_header_of mode alpha s = record {
   y = length (component_bytes mode s.y);
   cb = length (component_bytes mode s.cb);
   cr = length (component_bytes mode s.cr);
-  alpha = 0;
+  alpha = alpha_size alpha s.alpha;
 }
 
--- The bytes of a slice: its header, luma, Cb and Cr. Alpha, which comes last, isn't built.
+-- the bytes of a slice: its header, luma, Cb, Cr and alpha
 unfoldable pub slice_bytes : Interlace → AlphaKind → CodedSlice → List ℕ
-slice_bytes mode alpha s =
-    slice_header_bytes (slice_header_of mode alpha s) (has_alpha alpha)
-    ++ component_bytes mode s.y ++ component_bytes mode s.cb ++ component_bytes mode s.cr
+slice_bytes mode alpha s = with_alpha alpha s.alpha
+    (slice_header_bytes (slice_header_of mode alpha s) (has_alpha alpha)
+    ++ component_bytes mode s.y ++ component_bytes mode s.cb ++ component_bytes mode s.cr)
 
 -- how many bytes a slice has
 abbrev pub slice_length : Interlace → AlphaKind → CodedSlice → ℕ
-slice_length mode alpha s =
-    least_slice_header (has_alpha alpha)
-    + length (component_bytes mode s.y) + length (component_bytes mode s.cb) + length (component_bytes mode s.cr)
+slice_length mode alpha s = with_alpha_size alpha s.alpha
+    (least_slice_header (has_alpha alpha)
+    + length (component_bytes mode s.y) + length (component_bytes mode s.cb) + length (component_bytes mode s.cr))
 
 -- ---- a picture
 
