@@ -1,5 +1,5 @@
 -- The table of a group of frames is within the limits of tables.
-use Rattle.std.proofs.Common.{◌≡◌, ℕ, zero, suc, ◌+◌, ◌*◌, ◌^◌, ◌<◌, ◌≤◌, List, [], ◌∷◌, ◌++◌, length, length-append, map, refl, sym, ap, ◌∙◌, subst, arith}
+use Rattle.std.proofs.Common.{◌≡◌, ℕ, ◌+◌, ◌*◌, ◌^◌, ◌<◌, ◌≤◌, List, [], ◌∷◌, length, length-append, map, refl, arith}
 use Rattle.std.specs.List.{All, sum_by, flat_map}
 use Rattle.std.proofs.lemmas.Nat.{mul-le}
 use Rattle.std.proofs.lemmas.List.{length-map}
@@ -12,7 +12,7 @@ use Rattle.rate_table.specs.Table.{Table, IsTable, IsSlice}
 use Rattle.rate_build.specs.Coefficients.{FrameCoefficients, AreOfLayout}
 use Rattle.rate_build.specs.Tables.{table_of, fixed_bytes, AreWeights}
 use Rattle.rate_build.specs.Laws.{AreMatrices}
-use Rattle.rate_build.specs.Groups.{table_of_frames, group_slices, GroupTableIsTable}
+use Rattle.rate_build.specs.Groups.{group_slices, GroupTableIsTable}
 use Rattle.rate_build.proofs.Whole.{slices_number, pictures_few}
 use Rattle.rate_build.proofs.Limits.{table_within}
 
