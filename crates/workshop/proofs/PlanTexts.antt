@@ -19,6 +19,10 @@ pub on_true : {P Q : Type 0} (b : Bool) → (P → Q) → OnTrue b P → OnTrue 
 on_true true f p = f p
 on_true false f p = tt
 
+pub anyway : {P : Type 0} (b : Bool) → P → OnTrue b P
+anyway true p = p
+anyway false p = tt
+
 pub prints : (r : Result Table (Fault ProofKind)) (t : Table) (text lines : List ℕ) (before after : SinkState) → r ≡ Ok t → IsPlanText t text → lines ≡ text → Puts before after lines → PrintsPlan r before after
 prints r t text lines before after e is same p = subst (λ x. PrintsPlan x before after) (sym e) (text, is, subst (Puts before after) same p)
 

@@ -6,6 +6,8 @@ mod plan;
 mod ports;
 mod process;
 mod status;
+#[cfg(test)]
+mod tests;
 mod top;
 mod words;
 

@@ -9,6 +9,7 @@ ghost use Rattle.rate_table.specs.Reading.{tabled};
 ghost use Rattle.workshop.specs.Status.{is_done, is_read_fault, is_write_fault, has_written, usage_of};
 ghost use Rattle.workshop.specs.Plan.{spaced, outcome_text, AnswersPlan, PrintsPlan, PrintsPart};
 ghost use Rattle.pw_outside.specs.Writing.{sink_state, Puts, PutsFront};
+ghost use Rattle.run_look.specs.Listing.{Extends};
 
 use crate::status::Status;
 use pw_outside::{ByteSink, ByteSource, NoMemory, put};
@@ -62,7 +63,7 @@ fn text_of(alloc: Global, outcome: Outcome) -> Result<Vec<u8>, NoMemory>
 fn print<K: ByteSink>(sink: &mut K, lines: &[u8]) -> Status
     ensures kinds { (result ≡ Status.Done) ⊎ (result ≡ Status.WriteFault) }
     ensures text { OnTrue (is_done result) (Puts (sink_state (K.held sink.old) (K.taken sink.old)) (sink_state (K.held sink.new) (K.taken sink.new)) lines.now) }
-    ensures part { OnTrue (is_write_fault result) (PutsFront (sink_state (K.held sink.old) (K.taken sink.old)) (sink_state (K.held sink.new) (K.taken sink.new)) lines.now) }
+    ensures part { PutsFront (sink_state (K.held sink.old) (K.taken sink.old)) (sink_state (K.held sink.new) (K.taken sink.new)) lines.now }
     ensures settled { OnTrue (is_done result) (K.settled sink.new ≡ K.taken sink.new) }
     ensures cause { CountsFault (K.faults sink.old) (K.faults sink.new) (is_write_fault result) }
 {
@@ -76,6 +77,7 @@ fn print<K: ByteSink>(sink: &mut K, lines: &[u8]) -> Status
 }
 
 /// Reads a table file to its end, and prints its best choice.
+#[tactic(auto, using(run_look::proofs::Texts::none_extends, run_look::proofs::Texts::front_extends))]
 pub(crate) fn plan<S: ByteSource, K: ByteSink>(alloc: Global, proof: &mut S, text: &mut K) -> Status
     ensures answer { Told (S.left proof.old) (λ bytes. AnswersPlan (tabled bytes) result) }
     ensures usage { usage_of result ≡ None }
@@ -84,6 +86,7 @@ pub(crate) fn plan<S: ByteSource, K: ByteSink>(alloc: Global, proof: &mut S, tex
     ensures part { Told (S.left proof.old) (λ bytes. OnTrue (is_write_fault result)
         (PrintsPart (tabled bytes) (sink_state (K.held text.old) (K.taken text.old)) (sink_state (K.held text.new) (K.taken text.new)))) }
     ensures unwritten { OnFalse (has_written result) (text.new ≡ text.old) }
+    ensures extends { Extends (sink_state (K.held text.old) (K.taken text.old)) (sink_state (K.held text.new) (K.taken text.new)) }
     ensures end { OnTrue (is_done result) (IsAtEnd (S.left proof.new)) }
     ensures settled { OnTrue (is_done result) (K.settled text.new ≡ K.taken text.new) }
     ensures read { CountsFault (S.faults proof.old) (S.faults proof.new) (is_read_fault result) }

@@ -11,7 +11,7 @@ ghost use Rattle.workshop.specs.declared.words.Command.TheVariants as command;
 ghost use Rattle.workshop.specs.Words.{settings, usage_fault, IsRun, reads_proof, reads_movie};
 ghost use Rattle.pw_outside.specs.Writing.{sink_state};
 ghost use Rattle.qt_movie.specs.Movie.{movie_in};
-ghost use Rattle.run_look.specs.Listing.{PrintsList, PrintsListFront};
+ghost use Rattle.run_look.specs.Listing.{PrintsList, PrintsListFront, Extends};
 ghost use Rattle.workshop.specs.Plan.{AnswersPlan, PrintsPlan, PrintsPart, CompletesPlan};
 ghost use Rattle.workshop.specs.Listing.{AnswersList, CompletesList};
 
@@ -31,6 +31,7 @@ use std::alloc::Global;
 ///   index lists; or the line that says that none fits, with the least number of bytes.
 /// - `list MOVIE` reads a QuickTime movie through `movie`, and writes a line for its first track of ProRes and
 ///   one for each of the track's samples to `text`.
+#[tactic(auto, using(run_look::proofs::Texts::none_extends))]
 pub fn workshop<S: ByteSource, M: ByteStore, K: ByteSink>(
     alloc: Global,
     words: &[String],
@@ -49,6 +50,9 @@ pub fn workshop<S: ByteSource, M: ByteStore, K: ByteSink>(
     ensures proof_alone { OnFalse (reads_proof (settings (map string_bytes words.now))) (proof.new ≡ proof.old) }
     ensures movie_alone { OnFalse (reads_movie (settings (map string_bytes words.now))) (movie.new ≡ movie.old) }
     ensures others { (pictures.new ≡ pictures.old) × (out.new ≡ out.old) × (cert.new ≡ cert.old) }
+
+    // Whatever the answer, and whether the bytes that are read are told or not, the text extends what was held.
+    ensures extends { Extends (sink_state (K.held text.old) (K.taken text.old)) (sink_state (K.held text.new) (K.taken text.new)) }
 
     // After Done all that was written is settled.
     ensures settled { OnTrue (is_done result) (K.settled text.new ≡ K.taken text.new) }
@@ -103,6 +107,3 @@ pub fn workshop<S: ByteSource, M: ByteStore, K: ByteSink>(
         Command::List => status_of(list_run(alloc, movie, text)),
     }
 }
-
-#[cfg(test)]
-mod tests;

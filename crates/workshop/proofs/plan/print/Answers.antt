@@ -8,3 +8,9 @@ returns-in-Err-flush-clause-part g c = puts_front (record {
   bytes_held = Appends-kept _ _ _ _ c.in-Ok.ensures.bytes c.in-Err-flush.ensures.bytes;
   count = c.in-Err-flush.ensures.taken ∙ c.in-Ok.ensures.taken;
 })
+
+pub returns-in-Ok-flush-clause-part : goal.returns-in-Ok-flush-clause-part
+returns-in-Ok-flush-clause-part g c = puts_front (record {
+  bytes_held = Appends-kept _ _ _ _ c.in-Ok.ensures.bytes c.in-Ok-flush.ensures.bytes;
+  count = c.in-Ok-flush.ensures.taken ∙ c.in-Ok.ensures.taken;
+})
