@@ -9,3 +9,4 @@ pub mod Headed
 pub mod Filed
 pub mod Spelling
 pub mod Recording
+pub mod Spelled

@@ -1,5 +1,7 @@
 -- Laws of proof files in both formats, over the definitions alone.
 use Rattle.std.specs.Prelude.{◌≡◌, ℕ, ◌+◌, ◌<◌, ◌^◌, List, [], ◌∷◌, ◌++◌, length, Ok, Some}
+use Rattle.pw_outside.specs.Reading.{Rest}
+use Rattle.rate_table.specs.Spelled.{AreBytes, Took}
 use Rattle.rate_cert.specs.declared.settings.Settings.{Settings}
 use Rattle.rate_cert.specs.Settings.{IsSettings}
 use Rattle.rate_cert.specs.Numbers.{number_bytes, short_at}
@@ -33,3 +35,8 @@ AreWritten format s p (r ∷ rs) = MayStand p × IsWritten format r × AreWritte
 abbrev pub ProofIsReadAgain : Type 0
 ProofIsReadAgain = (format : ℕ) (s : Settings) (records : List Record) → IsFormat format → IsSettings s → AreWritten format s no_records records
     → proved (proof_bytes format s records) ≡ Ok (record { format = format; settings = s; records = records })
+
+-- A record that was read in format 2 can be written in it, and its bytes are those that are written of it: it has one spelling, and
+-- in its layers sizes rise and errors fall.
+abbrev pub RecordIsSpelled : Type 0
+RecordIsSpelled = (p : Progress) (s rest : Rest) (r : Record) → AreBytes s.bytes → next_at 2 p s ≡ Ok (Some r, rest) → IsWritten 2 r × Took s (record_bytes 2 r) rest

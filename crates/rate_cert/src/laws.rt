@@ -1,6 +1,6 @@
 //! Laws over the definitions alone.
 
-ghost use Rattle.rate_cert.specs.Laws.{NumberIsReadAgain, RecordIsReadAgain, HeadIsReadAgain, ProofIsReadAgain};
+ghost use Rattle.rate_cert.specs.Laws.{NumberIsReadAgain, RecordIsReadAgain, HeadIsReadAgain, ProofIsReadAgain, RecordIsSpelled};
 
 /// A number in groups of 7 bits that was written is read again, whatever stands behind it.
 pub fn number_is_read_again()
@@ -20,4 +20,9 @@ pub fn head_is_read_again()
 /// A proof that was written is read again, in either format.
 pub fn proof_is_read_again()
     ensures { ProofIsReadAgain }
+{}
+
+/// A record that was read in format 2 has one spelling, that which is written of it; in its layers sizes rise and errors fall.
+pub fn record_is_spelled()
+    ensures { RecordIsSpelled }
 {}

@@ -16,6 +16,7 @@ mod writer;
 
 pub use laws::{
     head_is_read_again, number_is_read_again, proof_is_read_again, record_is_read_again,
+    record_is_spelled,
 };
 pub use proof::{FrameProof, Verdict};
 pub use reader::ProofReader;
