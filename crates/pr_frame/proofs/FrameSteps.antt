@@ -13,7 +13,7 @@ use Rattle.pr_head.specs.Header.{Opened, opened_of, header_at}
 use Rattle.pr_head.proofs.Chain.{bind-ok}
 use Rattle.pr_frame.specs.declared.coded.CodedPicture.{CodedPicture}
 use Rattle.pr_frame.specs.declared.coded.CodedFrame.{CodedFrame}
-use Rattle.pr_frame.specs.Forms.{is_built}
+use Rattle.pr_frame.specs.Forms.{is_opaque}
 use Rattle.pr_frame.specs.Reading.{ahead, coded_picture_at, coded_pictures_at, frame_at, frame_of}
 use Rattle.pr_frame.proofs.Rests.{ok-both, header-rest}
 use Rattle.pr_frame.proofs.SliceLoop.{ahead-length}
@@ -64,15 +64,15 @@ unfolding frame_at bind
 frame-head-fails n s fault told = fails-whole told_fault fault (header_at n s.bytes) (frame_at n s) (λ f e. rw e refl) told
 
 module _ (n : ℕ) (s : Rest) (o : Opened) (t : Rest) (head : header_at n s.bytes ≡ Ok (o, t)) where
-  pub frame-unbuilt : is_built o.header ≡ false → frame_at n s ≡ bad kinds.NotBuilt 20
+  pub frame-alpha : is_opaque o.header ≡ false → frame_at n s ≡ bad kinds.NotBuilt 20
   unfolding frame_at bind
-  frame-unbuilt other = rw (head, other) refl
+  frame-alpha other = rw (head, other) refl
 
-  pub frame-pictures-fails : (fault : FrameFault) → is_built o.header ≡ true → Fails told_fault fault (coded_pictures_at (pictures_of o.header.interlace) o.size o.header t) → Fails told_fault fault (frame_at n s)
+  pub frame-pictures-fails : (fault : FrameFault) → is_opaque o.header ≡ true → Fails told_fault fault (coded_pictures_at (pictures_of o.header.interlace) o.size o.header t) → Fails told_fault fault (frame_at n s)
   unfolding frame_at bind
   frame-pictures-fails fault form told = fails-whole told_fault fault (coded_pictures_at (pictures_of o.header.interlace) o.size o.header t) (frame_at n s) (λ f e. rw (head, form, e) refl) told
 
-  pub frame-value : (xs : List CodedPicture) (u : Rest) → is_built o.header ≡ true → coded_pictures_at (pictures_of o.header.interlace) o.size o.header t ≡ Ok (xs, u)
+  pub frame-value : (xs : List CodedPicture) (u : Rest) → is_opaque o.header ≡ true → coded_pictures_at (pictures_of o.header.interlace) o.size o.header t ≡ Ok (xs, u)
       → frame_at n s ≡ Ok (record { header = o.header; pictures = xs }, u)
   unfolding frame_at bind
   frame-value xs u form e = rw (head, form, e) refl

@@ -25,10 +25,10 @@ use Rattle.pr_head.proofs.Whole.{sizes-found}
 use Rattle.pr_frame.specs.declared.coded.CodedSlice.{CodedSlice}
 use Rattle.pr_frame.specs.declared.coded.CodedPicture.{CodedPicture}
 use Rattle.pr_frame.specs.declared.coded.CodedFrame.{CodedFrame}
-use Rattle.pr_frame.specs.Forms.{places_in, IsBuilt, is_built, is_built_form}
+use Rattle.pr_frame.specs.Forms.{places_in, IsOpaque, is_opaque, is_opaque_form}
 use Rattle.pr_frame.specs.Stands.{SlicesStand, table_of, behind_table, PictureStands, PicturesStand, HeaderStands, header_taken}
 use Rattle.pr_frame.specs.Reading.{ahead, coded_slices_at, coded_picture_at, coded_pictures_at, frame_at, frame_of, frame_fault}
-use Rattle.pr_frame.specs.Laws.{StandsBuilt}
+use Rattle.pr_frame.specs.Laws.{StandsOpaque}
 use Rattle.pr_frame.proofs.Rests.{ok-both, header-rest, picture-rest, table-rest, coded-rest}
 use Rattle.pr_frame.proofs.SliceLoop.{sum-front}
 use Rattle.pr_frame.proofs.Standing.{slice-found, slice-again, or-false, false-or}
@@ -271,21 +271,18 @@ header-again s h p =
 
 -- ---- a frame
 
-form-built : (c : Chroma) (i : Interlace) (a : AlphaKind) → is_built_form c i a ≡ true → (c ≡ C422) × (i ≡ Progressive) × (a ≡ Absent)
-form-built C422 Progressive Absent e = (refl, refl, refl)
-form-built C422 Progressive Eight e = absurd cc
-form-built C422 Progressive Sixteen e = absurd cc
-form-built C422 TopFirst a e = absurd cc
-form-built C422 BottomFirst a e = absurd cc
-form-built C444 i a e = absurd cc
+form-opaque : (a : AlphaKind) → is_opaque_form a ≡ true → a ≡ Absent
+form-opaque Absent e = refl
+form-opaque Eight e = absurd cc
+form-opaque Sixteen e = absurd cc
 
-pub built-found : (h : FrameHeader) → is_built h ≡ true → IsBuilt h
-built-found h e = let p = form-built h.chroma h.interlace h.alpha e in record { chroma = p.0; interlace = p.1; alpha = p.2 }
+pub opaque-found : (h : FrameHeader) → is_opaque h ≡ true → IsOpaque h
+opaque-found h e = record { alpha = form-opaque h.alpha e }
 
-pub built-again : (h : FrameHeader) → IsBuilt h → is_built h ≡ true
-built-again h p = rw (p.chroma, p.interlace, p.alpha) refl
+pub opaque-again : (h : FrameHeader) → IsOpaque h → is_opaque h ≡ true
+opaque-again h p = rw p.alpha refl
 
-pub frame-found : (s : List ℕ) (f : CodedFrame) → frame_of s ≡ Ok f → StandsBuilt s f
+pub frame-found : (s : List ℕ) (f : CodedFrame) → frame_of s ≡ Ok f → StandsOpaque s f
 unfolding frame_of frame_at
 frame-found s f read =
     let e0 = bind-ok _ _ read in
@@ -293,7 +290,7 @@ frame-found s f read =
     let e2 = bind-ok _ _ e1.2 in
     let e3 = bind-ok _ _ e2.2 in
     let o = e1.0.0 in
-    let built = built-found o.header (not-false (is_built o.header) (refuse-ok _ _ _ e2.1)) in
+    let built = opaque-found o.header (not-false (is_opaque o.header) (refuse-ok _ _ _ e2.1)) in
     let header = header-found s o e1.0.1 e1.1 in
     let rest = header-rest (length s) s o e1.0.1 e1.1 in
     let r = start_of s in
@@ -302,32 +299,32 @@ frame-found s f read =
     let read1 : coded_pictures_at (pictures_of o.header.interlace) o.size o.header at ≡ Ok e3.0 = subst (λ (v : Rest). coded_pictures_at (pictures_of o.header.interlace) o.size o.header v ≡ Ok e3.0) rest.1 e3.1 in
     let room : header_taken s + (r.size - header_taken s) ≡ o.size = omega (arith, header.sizes.within, size-is) in
     let found = pictures-found (pictures_of o.header.interlace) o.size o.header at e3.0.1 (r.size - header_taken s) e3.0.0 built.alpha room read1 in
-    let all : StandsBuilt s (record { header = o.header; pictures = e3.0.0 }) = record {
+    let all : StandsOpaque s (record { header = o.header; pictures = e3.0.0 }) = record {
       stands = record { header = header; number = found.1; pictures = found.0 };
-      built = built;
+      opaque = built;
     } in
     let g-is = ok-both e3.2 in
     let f-is : e0.0.0 ≡ f = cc e0.2 in
-    subst (StandsBuilt s) (sym g-is.0 ∙ f-is) all
+    subst (StandsOpaque s) (sym g-is.0 ∙ f-is) all
 
-pub frame-again : (s : List ℕ) (f : CodedFrame) → StandsBuilt s f → frame_of s ≡ Ok f
+pub frame-again : (s : List ℕ) (f : CodedFrame) → StandsOpaque s f → frame_of s ≡ Ok f
 unfolding frame_of frame_at
 frame-again s f p =
     let h = f.header in
     let r = start_of s in
     let at : Rest = record { place = header_taken s; bytes = drop (header_taken s) s } in
     let head = header-again s h p.stands.header in
-    let built : not (is_built h) ≡ false = ap not (built-again h p.built) in
+    let built : not (is_opaque h) ≡ false = ap not (opaque-again h p.opaque) in
     let room : header_taken s + (r.size - header_taken s) ≡ r.size = omega (arith, p.stands.header.sizes.within) in
-    let found = pictures-again (pictures_of h.interlace) r.size h at (r.size - header_taken s) f.pictures p.built.alpha room p.stands.number p.stands.pictures in
+    let found = pictures-again (pictures_of h.interlace) r.size h at (r.size - header_taken s) f.pictures p.opaque.alpha room p.stands.number p.stands.pictures in
     bind-step _ _ (bind-step _ _ head ∙ refuse-step _ _ _ _ built ∙ bind-step _ _ found.1)
 
 pub same-frame : (f g : CodedFrame) (r : Result CodedFrame (Fault FrameKind)) → r ≡ Ok f → r ≡ Ok g → f ≡ g
 same-frame f g r d e = cc
 
-or-fault : (s : List ℕ) (r : Result CodedFrame (Fault FrameKind)) → frame_of s ≡ r → ((f : CodedFrame) × StandsBuilt s f) ⊎ ((fault : Fault FrameKind) × (frame_fault s ≡ Some fault))
+or-fault : (s : List ℕ) (r : Result CodedFrame (Fault FrameKind)) → frame_of s ≡ r → ((f : CodedFrame) × StandsOpaque s f) ⊎ ((fault : Fault FrameKind) × (frame_fault s ≡ Some fault))
 or-fault s (Ok f) e = inl (f, frame-found s f e)
 or-fault s (Err fault) e = inr (fault, ap result_err e)
 
-pub frame-or-fault : (s : List ℕ) → ((f : CodedFrame) × StandsBuilt s f) ⊎ ((fault : Fault FrameKind) × (frame_fault s ≡ Some fault))
+pub frame-or-fault : (s : List ℕ) → ((f : CodedFrame) × StandsOpaque s f) ⊎ ((fault : Fault FrameKind) × (frame_fault s ≡ Some fault))
 frame-or-fault s = or-fault s (frame_of s) refl

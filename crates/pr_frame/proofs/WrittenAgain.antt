@@ -27,14 +27,14 @@ use Rattle.pr_head.proofs.Chain.{bind-step, refuse-step}
 use Rattle.pr_frame.specs.declared.coded.CodedSlice.{CodedSlice}
 use Rattle.pr_frame.specs.declared.coded.CodedPicture.{CodedPicture}
 use Rattle.pr_frame.specs.declared.coded.CodedFrame.{CodedFrame}
-use Rattle.pr_frame.specs.Forms.{scan_of, places_in, block_count, alpha_count, is_built}
+use Rattle.pr_frame.specs.Forms.{scan_of, places_in, block_count, alpha_count, is_opaque}
 use Rattle.pr_frame.specs.Coded.{IsCodedSlice, AreCodedSlices, IsCodedPicture, IsWritableSlice, IsWritablePicture, HasArrays, HasBlocks, HasShape, CanBeWritten}
 use Rattle.pr_frame.specs.Written.{component_bytes, slice_header_of, slice_bytes, slice_length, slice_lengths, picture_length, picture_bytes, frame_length_of, written}
 use Rattle.pr_frame.specs.Reading.{ahead, blocks_at, components_at, coded_slice_at, coded_slices_at, coded_picture_at, coded_pictures_at, frame_at, frame_of}
 use Rattle.pr_frame.proofs.Counts.{HasBlocksOf, AllHave, places-have, count-places}
 use Rattle.pr_frame.proofs.Rests.{coded-is}
 use Rattle.pr_frame.proofs.Standing.{scan-is, blocks-again}
-use Rattle.pr_frame.proofs.WholeStanding.{built-again}
+use Rattle.pr_frame.proofs.WholeStanding.{opaque-again}
 use Rattle.pr_frame.proofs.SliceLoop.{sum-front}
 use Rattle.pr_frame.proofs.Short.{length-lengths, length-picture, length-written, few-slices, slices-short, slice-short, writable-blocks}
 
@@ -216,7 +216,7 @@ pub frame-written : (f : CodedFrame) → HasShape f → CanBeWritten f → frame
 unfolding frame_of frame_at written
 frame-written f has w =
     let h = f.header in
-    let absent = w.writable.built.alpha in
+    let absent = w.writable.opaque.alpha in
     let size = frame_length_of f in
     let pics = flat_map (picture_bytes h.interlace h.alpha) f.pictures in
     let n = length (frame_header_bytes h size ++ pics) in
@@ -228,5 +228,5 @@ frame-written f has w =
     let moved : coded_pictures_at (pictures_of h.interlace) size h (record { place = 156; bytes = pics }) ≡ Ok (f.pictures, t) =
     subst (λ c. coded_pictures_at c size h (record { place = 156; bytes = pics }) ≡ Ok (f.pictures, t)) w.writable.coded.number
     (subst (λ a. coded_pictures_at (length f.pictures) size h (record { place = 156; bytes = flat_map (picture_bytes h.interlace a) f.pictures }) ≡ Ok (f.pictures, t)) (sym absent) read.1) in
-    let built : not (is_built h) ≡ false = ap not (built-again h w.writable.built) in
+    let built : not (is_opaque h) ≡ false = ap not (opaque-again h w.writable.opaque) in
     bind-step _ _ (bind-step _ _ head ∙ refuse-step _ _ _ _ built ∙ bind-step _ _ moved)

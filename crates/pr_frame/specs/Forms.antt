@@ -45,16 +45,21 @@ alpha_depth Absent = 0
 alpha_depth Eight = 8
 alpha_depth Sixteen = 16
 
--- The forms that are built so far: progressive frames in 4:2:2 without alpha.
+-- A frame without alpha, the form that is read and written so far.
+pub record IsOpaque (h : FrameHeader) : Type 0 where
+  pub alpha : h.alpha ≡ Absent
+
+abbrev pub is_opaque_form : AlphaKind → Bool
+is_opaque_form Absent = true
+is_opaque_form Eight = false
+is_opaque_form Sixteen = false
+
+-- whether a frame is without alpha
+abbrev pub is_opaque : FrameHeader → Bool
+is_opaque h = is_opaque_form h.alpha
+
+-- The forms that are coded from pictures so far: progressive frames in 4:2:2 without alpha.
 pub record IsBuilt (h : FrameHeader) : Type 0 where
   pub chroma : h.chroma ≡ C422
   pub interlace : h.interlace ≡ Progressive
   pub alpha : h.alpha ≡ Absent
-
-abbrev pub is_built_form : Chroma → Interlace → AlphaKind → Bool
-is_built_form C422 Progressive Absent = true
-is_built_form _ _ _ = false
-
--- whether the form of a frame is built
-abbrev pub is_built : FrameHeader → Bool
-is_built h = is_built_form h.chroma h.interlace h.alpha

@@ -24,7 +24,7 @@ use Rattle.pr_head.specs.Slice.{slice_at}
 use Rattle.pr_frame.specs.declared.coded.CodedSlice.{CodedSlice}
 use Rattle.pr_frame.specs.declared.coded.CodedPicture.{CodedPicture}
 use Rattle.pr_frame.specs.declared.coded.CodedFrame.{CodedFrame}
-use Rattle.pr_frame.specs.Forms.{scan_of, has_alpha, places_in, block_count, is_built}
+use Rattle.pr_frame.specs.Forms.{scan_of, has_alpha, places_in, block_count, is_opaque}
 
 -- n bytes further on
 abbrev pub ahead : ℕ → Rest → Rest
@@ -90,11 +90,11 @@ coded_pictures_at (suc count) F h s = do
   others ← coded_pictures_at count F h first.1
   Ok (first.0 ∷ others.0, others.1)
 
--- The frame that a sample of n bytes begins with. A form that isn't built is refused behind the checks of the header.
+-- The frame that a sample of n bytes begins with. One with alpha, whose values aren't read yet, is refused behind the checks of the header.
 unfoldable pub frame_at : ℕ → Rest → Read FrameKind CodedFrame
 frame_at n s = do
   head ← header_at n s.bytes
-  _ ← refuse (not (is_built head.0.header)) kinds.NotBuilt 20
+  _ ← refuse (not (is_opaque head.0.header)) kinds.NotBuilt 20
   pictures ← coded_pictures_at (pictures_of head.0.header.interlace) head.0.size head.0.header head.1
   Ok (record { header = head.0.header; pictures = pictures.0 }, pictures.1)
 

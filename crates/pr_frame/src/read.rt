@@ -11,10 +11,10 @@ ghost use Rattle.pr_geom.specs.Layout.{IsLayoutOf};
 ghost use Rattle.pr_head.specs.Faults.{told_fault, is_failed};
 ghost use Rattle.pr_head.specs.Header.{HasLayoutSize, IsHeader, header_at};
 ghost use Rattle.pr_head.specs.Picture.{IsPicture, picture_at, table_at, picture_size};
-ghost use Rattle.pr_frame.specs.Forms.{IsBuilt, is_built};
+ghost use Rattle.pr_frame.specs.Forms.{IsOpaque, is_opaque};
 ghost use Rattle.pr_frame.specs.Coded.{IsCodedPicture, IsCodedFrame};
 ghost use Rattle.pr_frame.specs.Reading.{coded_picture_at, coded_pictures_at, frame_at, frame_fault};
-ghost use Rattle.pr_frame.specs.Laws.{StandsBuilt};
+ghost use Rattle.pr_frame.specs.Laws.{StandsOpaque};
 
 use crate::coded::{CodedFrame, CodedPicture, CodedPictures};
 use crate::parts::pass;
@@ -25,7 +25,7 @@ use pr_head::{
     read_slice_sizes,
 };
 use pw_outside::ByteSource;
-use pw_planes::{AlphaKind, Chroma, Interlace};
+use pw_planes::{AlphaKind, Interlace};
 use std::alloc::Global;
 
 /// Reads the header of the picture that begins here, in a frame of `frame` bytes.
@@ -160,14 +160,14 @@ fn pictures_in(interlace: Interlace) -> u8
     }
 }
 
-/// Whether frames of this form are read.
-fn is_built(header: &FrameHeader) -> bool
-    ensures value { result ≡ is_built header.now }
-    ensures built { OnTrue result (IsBuilt header.now) }
+/// Whether a frame is without alpha.
+fn is_opaque(header: &FrameHeader) -> bool
+    ensures value { result ≡ is_opaque header.now }
+    ensures opaque { OnTrue result (IsOpaque header.now) }
 {
-    match (header.chroma, header.interlace, header.alpha) {
-        (Chroma::C422, Interlace::Progressive, AlphaKind::Absent) => true,
-        _ => false,
+    match header.alpha {
+        AlphaKind::Absent => true,
+        AlphaKind::Eight | AlphaKind::Sixteen => false,
     }
 }
 
@@ -183,14 +183,14 @@ fn frame_from<S: ByteSource>(
     requires bytes { Told (S.left source.old) (λ bytes. size ≤ length bytes) }
     ensures bytes { Gives told_fault (λ x. x) (S.left source.old) (S.left source.new) place.old place.new result (frame_at size) }
     ensures coded { IfOk result IsCodedFrame }
-    ensures built { IfOk result (λ f. IsBuilt f.header) }
+    ensures opaque { IfOk result (λ f. IsOpaque f.header) }
     ensures most { Lowers (S.most source.old) (S.most source.new) 0 }
     ensures becomes { GoesOn S.becomes source.old source.new }
     ensures cause { CountsFault (S.faults source.old) (S.faults source.new) (is_failed result) }
 {
     let (header, taken, frame) = read_frame_header(source, size)?;
     *place = u64::from(taken);
-    if !is_built(&header) {
+    if !is_opaque(&header) {
         return Err(FrameFault::Bad {
             kind: FrameKind::NotBuilt,
             place: 20,
@@ -204,8 +204,8 @@ fn frame_from<S: ByteSource>(
 /// Reads the coded frame for which a sample of `size` bytes stands. The source holds the sample.
 ///
 /// The errors are `Bad` with the first fault of the sample and its place, counted from the sample's first byte; `Failed`
-/// where a call of the source failed; and `NoMemory`. Frames that are interlaced, 4:4:4 or with alpha are `Bad` with
-/// `NotBuilt`, place 20. Of a source that doesn't tell its bytes, what is answered has the counts of its header's layout.
+/// where a call of the source failed; and `NoMemory`. Frames with alpha, whose values
+/// aren't read yet, are `Bad` with `NotBuilt`, place 20. Of a source that doesn't tell its bytes, what is answered has the counts of its header's layout.
 pub fn read_frame<S: ByteSource>(
     alloc: Global,
     source: &mut S,
@@ -214,12 +214,12 @@ pub fn read_frame<S: ByteSource>(
     // Where the source tells its bytes, they are the sample.
     requires { Told (S.left source.old) (λ bytes. length bytes ≡ size) }
     // Where the source tells its bytes, the sample stands for the frame that is answered.
-    ensures stands { IfOk result (λ f. Told (S.left source.old) (λ sample. StandsBuilt sample f)) }
+    ensures stands { IfOk result (λ f. Told (S.left source.old) (λ sample. StandsOpaque sample f)) }
     // Where it tells them, a fault that is answered is the sample's first.
     ensures fault { IfErr result (λ e. Told (S.left source.old) (λ sample. IfSome (told_fault e) (λ fault. frame_fault sample ≡ Some fault))) }
-    // What is answered is a coded frame, of a form that is built.
+    // What is answered is a coded frame without alpha.
     ensures coded { IfOk result IsCodedFrame }
-    ensures built { IfOk result (λ f. IsBuilt f.header) }
+    ensures opaque { IfOk result (λ f. IsOpaque f.header) }
     ensures told { IsSome (S.left source.old) → OnOk result (IsSome (S.left source.new)) }
     ensures most { Lowers (S.most source.old) (S.most source.new) 0 }
     ensures becomes { GoesOn S.becomes source.old source.new }

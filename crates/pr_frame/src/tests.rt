@@ -102,7 +102,7 @@ fn a_grey_frame_is_read(rt: HostRuntime) {
 #[test]
 fn faults_have_their_places(rt: HostRuntime) {
     // the changes, how many bytes are kept, how many stand behind, and the fault
-    let cases: [(&[(usize, u8)], usize, usize, Option<(FrameKind, u64)>); 34] = [
+    let cases: [(&[(usize, u8)], usize, usize, Option<(FrameKind, u64)>); 31] = [
         (&[], 178, 0, None),
         (&[], 178, 22, None),
         (&[(3, 179)], 178, 0, Some((FrameKind::FrameSize, 0))),
@@ -113,10 +113,7 @@ fn faults_have_their_places(rt: HostRuntime) {
         (&[(20, 0x8c)], 178, 0, Some((FrameKind::Interlace, 20))),
         (&[], 27, 0, Some((FrameKind::FrameShort, 0))),
         (&[], 177, 0, Some((FrameKind::FrameSize, 0))),
-        // forms that aren't built, and what comes before them
-        (&[(20, 0xc0)], 178, 0, Some((FrameKind::NotBuilt, 20))),
-        (&[(20, 0x84)], 178, 0, Some((FrameKind::NotBuilt, 20))),
-        (&[(20, 0x88)], 178, 0, Some((FrameKind::NotBuilt, 20))),
+        // alpha, whose values aren't read yet, and what comes before it
         (&[(25, 1)], 178, 0, Some((FrameKind::NotBuilt, 20))),
         (&[(25, 2)], 178, 0, Some((FrameKind::NotBuilt, 20))),
         (
@@ -126,7 +123,7 @@ fn faults_have_their_places(rt: HostRuntime) {
             Some((FrameKind::OddInterlaced, 16)),
         ),
         (
-            &[(20, 0x84), (156, 0)],
+            &[(25, 1), (156, 0)],
             178,
             0,
             Some((FrameKind::NotBuilt, 20)),

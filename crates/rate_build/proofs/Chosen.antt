@@ -159,7 +159,7 @@ module _ (c : FrameCoefficients) (h : FrameHeader) (choice : List ℕ) (are : Ar
     pub frame_writable : (pictures : List CodedPicture) → pictures ≡ picture ∷ [] → IsWritable (whole_frame pictures)
     frame_writable pictures e = subst (λ p. IsWritable (whole_frame p)) (sym e) (record {
       coded = frame_coded;
-      built = built;
+      opaque = record { alpha = built.alpha };
       header = writable;
       values = one_of IsWritablePicture small;
     })

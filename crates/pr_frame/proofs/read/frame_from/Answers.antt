@@ -4,9 +4,9 @@ use Rattle.std.specs.Prelude.{IsSome}
 use Rattle.pw_outside.specs.Reading.{rest_of, bytes_of, Fails}
 use Rattle.pr_head.specs.Faults.{told_fault}
 use Rattle.pr_head.specs.Header.{Opened, header_at}
-use Rattle.pr_frame.specs.Forms.{is_built}
+use Rattle.pr_frame.specs.Forms.{is_opaque}
 use Rattle.pr_frame.specs.Reading.{coded_pictures_at}
-use Rattle.pr_frame.proofs.FrameSteps.{frame-head-fails, frame-unbuilt, frame-pictures-fails, frame-value, head-at, head-room}
+use Rattle.pr_frame.proofs.FrameSteps.{frame-head-fails, frame-alpha, frame-pictures-fails, frame-value, head-at, head-room}
 use Rattle.pr_frame.proofs.read.frame_from.Goals as goal
 
 pub returns-in_err-header-clause-bytes : goal.returns-in_err-header-clause-bytes
@@ -17,14 +17,14 @@ returns-in_err-header-clause-bytes g c =
       answer = λ h. frame-head-fails c.args.size (rest_of c.args.place.now (g.S.ByteSource.left c.args.source.now)) c.in_err-header.field-0.0 ((c.in_err-header.ensures.bytes.answer h).1);
     })
 
-pub returns-then-not-is_built-clause-bytes : goal.returns-then-not-is_built-clause-bytes
-returns-then-not-is_built-clause-bytes g c =
+pub returns-then-not-is_opaque-clause-bytes : goal.returns-then-not-is_opaque-clause-bytes
+returns-then-not-is_opaque-clause-bytes g c =
     let o : Opened = record { header = c.in_ok-header.header; taken = c.in_ok-header.taken; size = c.in_ok-header.frame } in
     let s = rest_of c.args.place.now (g.S.ByteSource.left c.args.source.now) in
-    let no : is_built c.in_ok-header.header ≡ false = sym c.is_built.ensures.value ∙ c.if-not-is_built.true in
+    let no : is_opaque c.in_ok-header.header ≡ false = sym c.is_opaque.ensures.value ∙ c.if-not-is_opaque.true in
     record {
       told = λ h. tt;
-      answer = λ h. let a = c.in_ok-header.ensures.bytes.answer h in frame-unbuilt c.args.size s o (rest_of a.0 (g.S.ByteSource.left c.read_frame_header.new.source)) a.1 no;
+      answer = λ h. let a = c.in_ok-header.ensures.bytes.answer h in frame-alpha c.args.size s o (rest_of a.0 (g.S.ByteSource.left c.read_frame_header.new.source)) a.1 no;
     }
 
 pub returns-in_err-pictures-clause-bytes : goal.returns-in_err-pictures-clause-bytes
@@ -35,7 +35,7 @@ returns-in_err-pictures-clause-bytes g c =
     let new = g.S.ByteSource.left c.read_frame_header.new.source in
     let s = rest_of c.args.place.now left in
     let t = rest_of c.from.result new in
-    let yes : is_built c.in_ok-header.header ≡ true = sym c.is_built.ensures.value ∙ c.if-not-is_built.false in
+    let yes : is_opaque c.in_ok-header.header ≡ true = sym c.is_opaque.ensures.value ∙ c.if-not-is_opaque.false in
     let fault = c.in_err-pictures.field-0.0 in
     rw (p.1, p.2) (record {
       told = λ h. tt;
@@ -56,7 +56,7 @@ returns-clause-bytes g c =
     let t = rest_of c.from.result new in
     let u = rest_of c.read_pictures.new.place (g.S.ByteSource.left c.read_pictures.new.source) in
     let xs = c.in_ok-pictures.pictures in
-    let yes : is_built c.in_ok-header.header ≡ true = sym c.is_built.ensures.value ∙ c.if-not-is_built.false in
+    let yes : is_opaque c.in_ok-header.header ≡ true = sym c.is_opaque.ensures.value ∙ c.if-not-is_opaque.false in
     let head : (h : IsSome left) → header_at c.args.size (bytes_of left) ≡ Ok (o, t) = λ h. let a = c.in_ok-header.ensures.bytes.answer h in head-at c.args.size left new o a.0 c.from.result a.1 c.from.ensures in
     let room : (h : IsSome left) → o.size ≤ c.from.result + length (bytes_of new) = λ h. head-room c.args.size left new o c.from.result (head h) c.in_ok-header.ensures.size (c.requires.bytes h) in
     record {
