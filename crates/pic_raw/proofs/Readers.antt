@@ -1,8 +1,7 @@
 -- Readers of any form.
-use Rattle.std.proofs.Common.{◌≡◌, ℕ, suc, ◌+◌, ◌-◌, ◌≤◌, List, length, Option, None, Some, Result, Ok, Err, refl, sym, ap, ◌∙◌, subst, arith}
+use Rattle.std.proofs.Common.{◌≡◌, suc, ◌+◌, ◌-◌, ◌≤◌, length, Option, None, Some, Result, Ok, Err, refl, subst, arith}
 use Rattle.std.specs.List.{All}
 use Rattle.pw_outside.specs.Reading.{Fault, Rest, bind}
-use Rattle.pw_planes.specs.declared.picture.Picture.{Picture}
 use Rattle.pic_y4m.specs.declared.fault.PictureKind.{PictureKind}
 use Rattle.pic_y4m.specs.declared.head.Head.{Head}
 use Rattle.pic_y4m.specs.declared.head.TheConstants.{MAX_FRAMES}
@@ -12,7 +11,7 @@ use Rattle.pic_y4m.proofs.Chain.{bind-ok, ok-same, ok-first}
 use Rattle.pic_y4m.proofs.Forms as y4m-forms
 use Rattle.pic_raw.specs.Raw as raw
 use Rattle.pic_raw.specs.Raw.{IsPicture}
-use Rattle.pic_raw.specs.Any.{IsReader, left_of, next_of, advanced, head_of, frames_of, start_of, pictures_of, NextIsFirst, LeftHaveForm, PicturesHaveForm, Y4mIsMeant}
+use Rattle.pic_raw.specs.Any.{left_of, head_of, start_of, pictures_of, NextIsFirst, LeftHaveForm, PicturesHaveForm, Y4mIsMeant}
 use Rattle.pic_raw.specs.declared.any.AnyReader.{AnyReader}
 use Rattle.pic_raw.specs.declared.any.AnyReader.TheVariants.{Y4m, Raw}
 use Rattle.pic_raw.proofs.Forms.{y4m-picture, left-form}
