@@ -1,0 +1,209 @@
+//! Runs of the top call over files in memory.
+
+ghost use Rattle.std.specs.Prelude.{◌≤◌};
+
+use crate::hex::bytes_of;
+use pw_outside::{MemSink, MemSource, MemStore};
+use std::io;
+use workshop::{Status, names_of, workshop};
+
+/// How many bytes a call of a port moves, and which of its calls fails.
+#[derive(Clone, Copy)]
+struct Ports {
+    step: usize,
+    reading: Option<u64>,
+    writing: Option<u64>,
+}
+
+/// The words of a command over a file.
+fn command_words(rt: &HostRuntime, command: &str) -> io::Result<Vec<String>> {
+    let mut words = Vec::new(rt.alloc());
+    words.push(command.to_string(rt.alloc())?)?;
+    words.push("file".to_string(rt.alloc())?)?;
+    Ok(words)
+}
+
+/// The calls that fail: none, or one.
+fn calls_of(rt: &HostRuntime, call: Option<u64>) -> io::Result<Vec<u64>> {
+    let mut calls = Vec::new(rt.alloc());
+    if let Some(call) = call {
+        calls.push(call)?;
+    }
+    Ok(calls)
+}
+
+/// A sink that takes so many bytes a call.
+fn sink_of(rt: &HostRuntime, step: usize, call: Option<u64>) -> io::Result<MemSink>
+    requires { 1 ≤ step }
+{
+    match MemSink::new(rt.alloc(), 0, step, calls_of(rt, call)?) {
+        Ok(sink) => Ok(sink),
+        Err(_) => Err(io::Error::from(io::ErrorKind::OutOfMemory)),
+    }
+}
+
+/// The status of the top call, where this file stands behind both ports that a command may read, and its text.
+fn ran(
+    rt: &HostRuntime,
+    words: &[String],
+    file: &[u8],
+    ports: &Ports,
+) -> io::Result<(Status, Vec<u8>)>
+    requires { 1 ≤ ports.now.step }
+{
+    let alloc = rt.alloc();
+    let step = ports.step;
+    let mut pictures = MemSource::new(Vec::new(alloc), 1, Vec::new(alloc));
+    let mut proof = MemSource::new(file.to_vec(alloc)?, step, calls_of(rt, ports.reading)?);
+    let mut movie = MemStore::new(file.to_vec(alloc)?, step, calls_of(rt, ports.reading)?);
+    let mut out = sink_of(rt, 1, None)?;
+    let mut cert = sink_of(rt, 1, None)?;
+    let mut text = sink_of(rt, step, ports.writing)?;
+    let status = workshop(
+        alloc,
+        words,
+        &mut pictures,
+        &mut proof,
+        &mut movie,
+        &mut out,
+        &mut cert,
+        &mut text,
+    );
+    Ok((status, text.bytes().to_vec(alloc)?))
+}
+
+/// An answer on one line: the text with `\n` for each line feed, or the fault.
+fn line_of(rt: &HostRuntime, status: Status, text: &[u8]) -> io::Result<String> {
+    let alloc = rt.alloc();
+    match status {
+        Status::Done => {
+            let mut line = "text ".to_string(alloc)?;
+            for part in String::from_utf8_lossy(alloc, text)?.lines() {
+                line.push_str(part)?;
+                line.push_str("\\n")?;
+            }
+            Ok(line)
+        }
+        Status::BadProof { kind, place } => Ok(format!(in alloc; "fault {kind:?} {place}")?),
+        Status::BadMovie { kind, place } => Ok(format!(in alloc; "fault {kind:?} {place}")?),
+        _ => Ok(format!(in alloc; "{status}")?),
+    }
+}
+
+/// What a command answers over a file whose ports move so many bytes a call.
+fn answer_of(rt: &HostRuntime, command: &str, file: &[u8], step: usize) -> io::Result<String>
+    requires { 1 ≤ step }
+{
+    let words = command_words(rt, command)?;
+    let ports = Ports {
+        step,
+        reading: None,
+        writing: None,
+    };
+    let (status, text) = ran(rt, &words, file, &ports)?;
+    line_of(rt, status, &text)
+}
+
+/// What a command answers over a file, whatever number of bytes a call moves.
+pub(crate) fn answer_over(rt: &HostRuntime, command: &str, file: &[u8]) -> io::Result<String> {
+    let answer = answer_of(rt, command, file, 4096)?;
+    for step in [1, 3] {
+        let other = answer_of(rt, command, file, step)?;
+        if other != answer {
+            return Ok(format!(in rt.alloc(); "{answer}, but in steps of {step} {other}")?);
+        }
+    }
+    Ok(answer)
+}
+
+/// The command of a case, and its file.
+fn case_of<'a>(rt: &HostRuntime, case: &'a str) -> io::Result<(&'a str, Vec<u8>)> {
+    let (command, word) = case.split_once(' ').unwrap_or((case, "-"));
+    Ok((command, bytes_of(rt, word)?))
+}
+
+pub(crate) fn told(rt: &HostRuntime, case: &str) -> io::Result<String> {
+    let (command, file) = case_of(rt, case)?;
+    answer_over(rt, command, &file)
+}
+
+pub(crate) fn fronts_told(rt: &HostRuntime, case: &str) -> io::Result<String> {
+    let alloc = rt.alloc();
+    let (command, file) = case_of(rt, case)?;
+    let mut all = String::new(alloc);
+    let mut last = String::new(alloc);
+    for length in 0..=file.len() {
+        let answer = answer_of(rt, command, &file[..length], 4096)?;
+        if answer != last {
+            all.push_str(&format!(in alloc; "{length} {answer}; ")?)?;
+            last = answer;
+        }
+    }
+    Ok(all)
+}
+
+/// How many calls of the port that is read, of the first 100, end the run with a read fault and no text when they fail. Each
+/// moves one byte.
+fn read_faults(rt: &HostRuntime, words: &[String], file: &[u8]) -> io::Result<u64> {
+    for call in 0..100 {
+        let ports = Ports {
+            step: 1,
+            reading: Some(call),
+            writing: None,
+        };
+        let (status, text) = ran(rt, words, file, &ports)?;
+        if status != Status::ReadFault || !text.is_empty() {
+            return Ok(call);
+        }
+    }
+    Ok(100)
+}
+
+/// The same of the calls of `text`, where a front of the whole text is there.
+fn write_faults(rt: &HostRuntime, words: &[String], file: &[u8], whole: &[u8]) -> io::Result<u64> {
+    for call in 0..100 {
+        let ports = Ports {
+            step: 1,
+            reading: None,
+            writing: Some(call),
+        };
+        let (status, text) = ran(rt, words, file, &ports)?;
+        if status != Status::WriteFault || !whole.starts_with(&text) {
+            return Ok(call);
+        }
+    }
+    Ok(100)
+}
+
+pub(crate) fn failing_told(rt: &HostRuntime, case: &str) -> io::Result<String> {
+    let (command, file) = case_of(rt, case)?;
+    let words = command_words(rt, command)?;
+    let ports = Ports {
+        step: 1,
+        reading: None,
+        writing: None,
+    };
+    let (status, text) = ran(rt, &words, &file, &ports)?;
+    let reads = read_faults(rt, &words, &file)?;
+    let writes = write_faults(rt, &words, &file, &text)?;
+    let answer = line_of(rt, status, &text)?;
+    Ok(format!(in rt.alloc(); "{reads} reads, {writes} writes, {answer}")?)
+}
+
+pub(crate) fn words_told(rt: &HostRuntime, case: &str) -> io::Result<String> {
+    let alloc = rt.alloc();
+    let mut words = Vec::new(alloc);
+    for word in case.split_whitespace() {
+        words.push(word.to_string(alloc)?)?;
+    }
+    let ports = Ports {
+        step: 1,
+        reading: None,
+        writing: None,
+    };
+    let names = names_of(&words);
+    let (status, text) = ran(rt, &words, &[], &ports)?;
+    let code = status.code();
+    let length = text.len();
+    Ok(format!(in alloc; "{names:?}, {code}, {status}, {length} bytes")?)
+}
