@@ -12,6 +12,8 @@ mod proof;
 mod reader;
 mod record;
 mod settings;
+#[cfg(test)]
+mod tests;
 mod writer;
 
 pub use laws::{
