@@ -129,12 +129,12 @@ alpha-least true = omega arith
 alpha-least false = omega arith
 
 -- alpha values are few
-few-values : (alpha : AlphaKind) (place : SlicePlace) → place.width ≤ 8 → alpha_count alpha place ≤ 2048
+pub few-values : (alpha : AlphaKind) (place : SlicePlace) → place.width ≤ 8 → alpha_count alpha place ≤ 2048
 few-values Absent place narrow = omega arith
 few-values Eight place narrow = omega arith
 few-values Sixteen place narrow = omega arith
 
-with-short : (alpha : AlphaKind) (l : List ℕ) (n : ℕ) → length l ≤ 2048 → n < 43784 → with_alpha_size alpha l n < 65535
+pub with-short : (alpha : AlphaKind) (l : List ℕ) (n : ℕ) → length l ≤ 2048 → n < 43784 → with_alpha_size alpha l n < 65535
 with-short Absent l n few short = omega arith
 with-short Eight l n few short = omega (arith, alpha_cost 8 l refl)
 with-short Sixteen l n few short = omega (arith, alpha_cost 16 l refl)

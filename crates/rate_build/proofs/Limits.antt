@@ -16,6 +16,9 @@ use Rattle.pr_geom.proofs.SliceLemmas.{picture_some, pictures_whole}
 use Rattle.pr_head.specs.Slice.{least_slice_header}
 use Rattle.pr_quant.specs.declared.weights.Weights.{Weights}
 use Rattle.pr_frame.specs.Forms.{scan_of, has_alpha}
+use Rattle.pr_frame.specs.Written.{component_bytes}
+use Rattle.pr_frame.proofs.Short.{with-short}
+use Rattle.rate_build.specs.Coding.{coded_slice}
 use Rattle.rate_table.specs.Table.{IsEntry, IndicesRise, IsSlice}
 use Rattle.rate_build.specs.declared.slices.SliceCoefficients.{SliceCoefficients}
 use Rattle.rate_build.specs.Tables.{entry_of, entries_of, fixed_bytes, HasParts, AreWeights}
@@ -40,13 +43,14 @@ module _ (mode : Interlace) (alpha : AlphaKind) (w : Weights) (whole : AreMatric
   entry_within index least most = record {
     index_from = least;
     index_to = most;
-    size = omega (
-      arith,
-      header_small alpha,
-      part_short w.luma index whole.luma weights.luma least most (scan_of mode) (mode_scan mode) s.y parts.y,
-      part_short w.chroma index whole.chroma weights.chroma least most (scan_of mode) (mode_scan mode) s.cb parts.cb,
-      part_short w.chroma index whole.chroma weights.chroma least most (scan_of mode) (mode_scan mode) s.cr parts.cr,
-    );
+    size =
+        let y = part_short w.luma index whole.luma weights.luma least most (scan_of mode) (mode_scan mode) s.y parts.y in
+        let cb = part_short w.chroma index whole.chroma weights.chroma least most (scan_of mode) (mode_scan mode) s.cb parts.cb in
+        let cr = part_short w.chroma index whole.chroma weights.chroma least most (scan_of mode) (mode_scan mode) s.cr parts.cr in
+        let coded = coded_slice w index s in
+        let n = least_slice_header (has_alpha alpha) + length (component_bytes mode coded.y) + length (component_bytes mode coded.cb) + length (component_bytes mode coded.cr) in
+        let short = with-short alpha s.alpha n parts.values (omega (arith, header_small alpha, y, cb, cr)) in
+        omega (arith, short);
     error = omega (
       arith,
       part_error_within w.luma index whole.luma weights.luma least most s.y parts.y,

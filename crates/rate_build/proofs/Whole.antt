@@ -1,5 +1,5 @@
 -- The table of a frame is within the limits of tables.
-use Rattle.std.proofs.Common.{◌≡◌, ◌*◌, ◌^◌, ◌<◌, ◌≤◌, List, [], ◌∷◌, ◌++◌, length, ◌∙◌, arith, length-append}
+use Rattle.std.proofs.Common.{◌≡◌, ◌*◌, ◌^◌, ◌<◌, ◌≤◌, List, [], ◌∷◌, ◌++◌, length, refl, ◌∙◌, arith, length-append}
 use Rattle.std.proofs.Math.Nat.{mul-le-mul_right}
 use Rattle.std.proofs.lemmas.Nat.{mul-le}
 use Rattle.std.proofs.lemmas.List.Sums.{sum_by-cons}
@@ -12,6 +12,9 @@ use Rattle.pw_planes.specs.declared.kinds.AlphaKind.{AlphaKind}
 use Rattle.pw_planes.specs.declared.kinds.Chroma.{Chroma}
 use Rattle.pr_geom.specs.declared.layout.Layout.{Layout}
 use Rattle.pr_geom.specs.declared.places.SlicePlace.{SlicePlace}
+use Rattle.pr_geom.specs.declared.places.Part.TheVariants.{Y}
+use Rattle.pr_geom.proofs.BlockLemmas.{luma_count}
+use Rattle.pr_frame.proofs.Short.{few-values}
 use Rattle.pr_geom.specs.Layout.{slices_of}
 use Rattle.pr_geom.specs.Slices.{pictures_of}
 use Rattle.rate_table.specs.declared.entry.Entry.{Entry}
@@ -22,11 +25,17 @@ use Rattle.rate_build.specs.Tables.{HasParts}
 
 -- ---- slices
 
+-- a slice has at most 2,048 alpha values
+few_values : (chroma : Chroma) (alpha : AlphaKind) (place : SlicePlace) (s : SliceCoefficients) → IsSliceAt chroma alpha place s → length s.alpha ≤ 2048
+few_values chroma alpha place s h =
+    let e = luma_count chroma Y place refl in
+    omega (arith, h.values, few-values alpha place (omega (arith, e, h.y, h.y_part.few)))
+
 pub parts_of : (chroma : Chroma) (alpha : AlphaKind) (places : List SlicePlace) (slices : List SliceCoefficients) → AllZip (IsSliceAt chroma alpha) places slices → All HasParts slices
 parts_of chroma alpha [] [] h = λ k d l. absurd (omega (arith, l))
 parts_of chroma alpha [] (s ∷ slices) h = absurd h
 parts_of chroma alpha (p ∷ places) [] h = absurd h
-parts_of chroma alpha (p ∷ places) (s ∷ slices) h = All-cons HasParts s slices (record { y = h.0.y_part; cb = h.0.cb_part; cr = h.0.cr_part }) (parts_of chroma alpha places slices h.1)
+parts_of chroma alpha (p ∷ places) (s ∷ slices) h = All-cons HasParts s slices (record { y = h.0.y_part; cb = h.0.cb_part; cr = h.0.cr_part; values = few_values chroma alpha p s h.0 }) (parts_of chroma alpha places slices h.1)
 
 -- how many slices a frame has
 repeated : (l : Layout) (mode : Interlace) → length (flat_map (λ picture. slices_of l) (range_with_len 0 (pictures_of mode))) ≡ pictures_of mode * length (slices_of l)

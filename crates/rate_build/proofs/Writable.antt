@@ -190,7 +190,7 @@ module _ (c : FrameCoefficients) (h : FrameHeader) (choice : List ℕ) (are : Ar
         };
         coded = frame_coded;
         values = values;
-        writable = λ built. record { coded = frame_coded; built = built; header = writable; values = values };
+        writable = λ built. record { coded = frame_coded; opaque = record { alpha = built.alpha }; header = writable; values = values };
       }
 
 pub coded_ready : CodedIsReady

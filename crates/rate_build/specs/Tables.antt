@@ -1,5 +1,5 @@
 -- The table of a frame: what each slice costs at each quantisation index (our own).
-use Rattle.std.specs.Prelude.{ℕ, ◌+◌, ◌-◌, ◌*◌, ◌<◌, List, length, map, get_or}
+use Rattle.std.specs.Prelude.{ℕ, ◌+◌, ◌-◌, ◌*◌, ◌<◌, ◌≤◌, List, length, map, get_or}
 use Rattle.std.specs.List.{All, range_with_len}
 use Rattle.pw_planes.specs.declared.kinds.AlphaKind.{AlphaKind}
 use Rattle.pw_planes.specs.declared.kinds.Interlace.{Interlace}
@@ -55,11 +55,12 @@ table_of c w lo hi budget = record {
   slices = map (entries_of c.layout.interlace c.alpha w lo hi) c.slices;
 }
 
--- each part of a slice has blocks of coefficients
+-- each part of a slice has blocks of coefficients, and there are at most 2,048 alpha values
 pub record HasParts (s : SliceCoefficients) : Type 0 where
   pub y : ArePart s.y
   pub cb : ArePart s.cb
   pub cr : ArePart s.cr
+  pub values : length s.alpha ≤ 2048
 
 -- weights of written frames
 pub record AreWeights (w : Weights) : Type 0 where
