@@ -8,12 +8,12 @@ use Rattle.pr_head.specs.declared.fault.FrameFault.TheVariants as faults
 use Rattle.pr_head.specs.Faults.{told_fault}
 use Rattle.pr_frame.specs.declared.coded.CodedFrame.{CodedFrame}
 use Rattle.pr_frame.specs.Reading.{frame_at, frame_of, frame_fault}
-use Rattle.pr_frame.specs.Laws.{StandsOpaque}
+use Rattle.pr_frame.specs.Stands.{FrameStands}
 use Rattle.pr_frame.proofs.FrameSteps.{sample-value, sample-fault}
 use Rattle.pr_frame.proofs.WholeStanding.{frame-found}
 
 pub answers-stand : (result : Result CodedFrame FrameFault) (size place : ℕ) (left new : Option (List ℕ)) → Told left (λ bytes. length bytes ≡ size)
-    → Gives told_fault (λ (f : CodedFrame). f) left new 0 place result (frame_at size) → IfOk result (λ f. Told left (λ sample. StandsOpaque sample f))
+    → Gives told_fault (λ (f : CodedFrame). f) left new 0 place result (frame_at size) → IfOk result (λ f. Told left (λ sample. FrameStands sample f))
 answers-stand (Ok f) size place left new told g = λ h. frame-found (bytes_of left) f (sample-value size (bytes_of left) f (rest_of place new) (told h) (g.answer h))
 answers-stand (Err e) size place left new told g = tt
 

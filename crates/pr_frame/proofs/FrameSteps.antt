@@ -1,11 +1,10 @@
 -- The pictures of a frame, and the frame, read.
-use Rattle.std.proofs.Common.{◌≡◌, ℕ, suc, ◌+◌, ◌-◌, ◌<◌, ◌≤◌, Bool, true, false, not, List, [], ◌∷◌, ◌++◌, length, Option, Ok, refl, sym, ap, ◌∙◌, subst, arith, length-drop}
+use Rattle.std.proofs.Common.{◌≡◌, ℕ, suc, ◌+◌, ◌-◌, ◌<◌, ◌≤◌, List, [], ◌∷◌, ◌++◌, length, Option, Ok, refl, sym, ap, ◌∙◌, subst, arith, length-drop}
 use Rattle.std.proofs.lemmas.List.{append-nil}
-use Rattle.pw_outside.specs.Reading.{Rest, Read, bind, Fails, bad, bytes_of, rest_of}
+use Rattle.pw_outside.specs.Reading.{Rest, Read, bind, Fails, bytes_of, rest_of}
 use Rattle.pw_outside.proofs.Chains.{with_front, with_front-more, with_front_nil, fails-whole}
 use Rattle.pr_geom.specs.Slices.{pictures_of}
 use Rattle.pr_head.specs.declared.fault.FrameKind.{FrameKind}
-use Rattle.pr_head.specs.declared.fault.FrameKind.TheVariants as kinds
 use Rattle.pr_head.specs.declared.fault.FrameFault.{FrameFault}
 use Rattle.pr_head.specs.declared.frame.FrameHeader.{FrameHeader}
 use Rattle.pr_head.specs.Faults.{told_fault}
@@ -13,7 +12,6 @@ use Rattle.pr_head.specs.Header.{Opened, opened_of, header_at}
 use Rattle.pr_head.proofs.Chain.{bind-ok}
 use Rattle.pr_frame.specs.declared.coded.CodedPicture.{CodedPicture}
 use Rattle.pr_frame.specs.declared.coded.CodedFrame.{CodedFrame}
-use Rattle.pr_frame.specs.Forms.{is_opaque}
 use Rattle.pr_frame.specs.Reading.{ahead, coded_picture_at, coded_pictures_at, frame_at, frame_of}
 use Rattle.pr_frame.proofs.Rests.{ok-both, header-rest}
 use Rattle.pr_frame.proofs.SliceLoop.{ahead-length}
@@ -64,18 +62,14 @@ unfolding frame_at bind
 frame-head-fails n s fault told = fails-whole told_fault fault (header_at n s.bytes) (frame_at n s) (λ f e. rw e refl) told
 
 module _ (n : ℕ) (s : Rest) (o : Opened) (t : Rest) (head : header_at n s.bytes ≡ Ok (o, t)) where
-  pub frame-alpha : is_opaque o.header ≡ false → frame_at n s ≡ bad kinds.NotBuilt 20
+  pub frame-pictures-fails : (fault : FrameFault) → Fails told_fault fault (coded_pictures_at (pictures_of o.header.interlace) o.size o.header t) → Fails told_fault fault (frame_at n s)
   unfolding frame_at bind
-  frame-alpha other = rw (head, other) refl
+  frame-pictures-fails fault told = fails-whole told_fault fault (coded_pictures_at (pictures_of o.header.interlace) o.size o.header t) (frame_at n s) (λ f e. rw (head, e) refl) told
 
-  pub frame-pictures-fails : (fault : FrameFault) → is_opaque o.header ≡ true → Fails told_fault fault (coded_pictures_at (pictures_of o.header.interlace) o.size o.header t) → Fails told_fault fault (frame_at n s)
-  unfolding frame_at bind
-  frame-pictures-fails fault form told = fails-whole told_fault fault (coded_pictures_at (pictures_of o.header.interlace) o.size o.header t) (frame_at n s) (λ f e. rw (head, form, e) refl) told
-
-  pub frame-value : (xs : List CodedPicture) (u : Rest) → is_opaque o.header ≡ true → coded_pictures_at (pictures_of o.header.interlace) o.size o.header t ≡ Ok (xs, u)
+  pub frame-value : (xs : List CodedPicture) (u : Rest) → coded_pictures_at (pictures_of o.header.interlace) o.size o.header t ≡ Ok (xs, u)
       → frame_at n s ≡ Ok (record { header = o.header; pictures = xs }, u)
   unfolding frame_at bind
-  frame-value xs u form e = rw (head, form, e) refl
+  frame-value xs u e = rw (head, e) refl
 
 -- the whole sample
 pub sample-value : (n : ℕ) (bytes : List ℕ) (f : CodedFrame) (u : Rest) → length bytes ≡ n → frame_at n (record { place = 0; bytes = bytes }) ≡ Ok (f, u) → frame_of bytes ≡ Ok f
@@ -99,11 +93,3 @@ pub head-room : (n : ℕ) (left new : Option (List ℕ)) (o : Opened) (place : �
 head-room n left new o place e within enough =
     let r = header-rest n (bytes_of left) o (rest_of place new) e in
     omega (arith, ap (λ (t : Rest). length t.bytes) r.1, length-drop (opened_of (bytes_of left)).taken (bytes_of left), ap (λ (t : Rest). t.place) r.1)
-
-pub not-true : (b : Bool) → not b ≡ true → b ≡ false
-not-true true e = absurd cc
-not-true false e = refl
-
-pub not-false : (b : Bool) → not b ≡ false → b ≡ true
-not-false true e = refl
-not-false false e = absurd cc

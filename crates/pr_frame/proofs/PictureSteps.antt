@@ -3,7 +3,6 @@ use Rattle.std.proofs.Common.{◌≡◌, ℕ, ◌+◌, ◌-◌, ◌*◌, ◌≤�
 use Rattle.std.proofs.lemmas.List.{drop-drop}
 use Rattle.pw_outside.specs.Reading.{Rest, bind, Fails, bytes_of, rest_of}
 use Rattle.pw_outside.proofs.Chains.{fails-whole}
-use Rattle.pw_planes.specs.declared.kinds.AlphaKind.TheVariants.{Absent}
 use Rattle.pr_geom.specs.declared.places.SlicePlace.{SlicePlace}
 use Rattle.pr_geom.specs.declared.layout.Layout.{Layout}
 use Rattle.pr_geom.specs.Faults.{slice_count}
@@ -22,17 +21,17 @@ use Rattle.pr_frame.proofs.Rests.{ok-both, picture-rest, table-rest, coded-rest}
 use Rattle.pr_frame.proofs.SliceLoop.{sum-front, ahead-length}
 
 -- the slices' bytes are gone
-pub slices-rest : (h : FrameHeader) (places : List SlicePlace) (sizes : List ℕ) (s : Rest) (xs : List CodedSlice) (t : Rest) → h.alpha ≡ Absent → length sizes ≡ length places
+pub slices-rest : (h : FrameHeader) (places : List SlicePlace) (sizes : List ℕ) (s : Rest) (xs : List CodedSlice) (t : Rest) → length sizes ≡ length places
     → coded_slices_at h places sizes s ≡ Ok (xs, t) → t ≡ ahead (sum sizes) s
 unfolding coded_slices_at
-slices-rest h [] [] s xs t absent same e = (ok-both e).1 ∙ sym (ahead-none s)
-slices-rest h [] (z ∷ sizes) s xs t absent same e = absurd (omega arith)
-slices-rest h (p ∷ places) [] s xs t absent same e = absurd (omega arith)
-slices-rest h (p ∷ places) (z ∷ sizes) s xs t absent same e =
+slices-rest h [] [] s xs t same e = (ok-both e).1 ∙ sym (ahead-none s)
+slices-rest h [] (z ∷ sizes) s xs t same e = absurd (omega arith)
+slices-rest h (p ∷ places) [] s xs t same e = absurd (omega arith)
+slices-rest h (p ∷ places) (z ∷ sizes) s xs t same e =
     let e1 = bind-ok _ _ e in
-    let first = coded-rest h p z s _ _ absent e1.1 in
+    let first = coded-rest h p z s _ _ e1.1 in
     let e2 = bind-ok _ _ e1.2 in
-    let others = slices-rest h places sizes _ _ _ absent (omega arith) e2.1 in
+    let others = slices-rest h places sizes _ _ _ (omega arith) e2.1 in
     (ok-both e2.2).1 ∙ others ∙ ap (ahead (sum sizes)) first ∙ ahead-ahead (sum sizes) z s ∙ ap (λ n. ahead n s) (sym (sum-front z sizes))
 
 -- the slices of a layout are those that the header says

@@ -4,12 +4,6 @@ use Rattle.std.specs.Prelude.{◌⊎◌}
 use Rattle.std.specs.Result.{result_err}
 use Rattle.std.proofs.lemmas.Bool.{le-ltb, ltb-false, ne_eqb, eqb-false, eqb-true, eq-eqb}
 use Rattle.pw_outside.specs.Reading.{Fault, Rest}
-use Rattle.pw_planes.specs.declared.kinds.AlphaKind.{AlphaKind}
-use Rattle.pw_planes.specs.declared.kinds.AlphaKind.TheVariants.{Absent, Eight, Sixteen}
-use Rattle.pw_planes.specs.declared.kinds.Chroma.{Chroma}
-use Rattle.pw_planes.specs.declared.kinds.Chroma.TheVariants.{C422, C444}
-use Rattle.pw_planes.specs.declared.kinds.Interlace.{Interlace}
-use Rattle.pw_planes.specs.declared.kinds.Interlace.TheVariants.{Progressive, TopFirst, BottomFirst}
 use Rattle.pw_planes.specs.declared.plane.TheConstants.{MAX_WIDTH, MAX_HEIGHT}
 use Rattle.pr_geom.specs.declared.places.SlicePlace.{SlicePlace}
 use Rattle.pr_geom.specs.declared.places.TheConstants.{MAX_SLICES}
@@ -25,10 +19,9 @@ use Rattle.pr_head.proofs.Whole.{sizes-found}
 use Rattle.pr_frame.specs.declared.coded.CodedSlice.{CodedSlice}
 use Rattle.pr_frame.specs.declared.coded.CodedPicture.{CodedPicture}
 use Rattle.pr_frame.specs.declared.coded.CodedFrame.{CodedFrame}
-use Rattle.pr_frame.specs.Forms.{places_in, IsOpaque, is_opaque, is_opaque_form}
-use Rattle.pr_frame.specs.Stands.{SlicesStand, table_of, behind_table, PictureStands, PicturesStand, HeaderStands, header_taken}
+use Rattle.pr_frame.specs.Forms.{places_in}
+use Rattle.pr_frame.specs.Stands.{SlicesStand, table_of, behind_table, PictureStands, PicturesStand, HeaderStands, header_taken, FrameStands}
 use Rattle.pr_frame.specs.Reading.{ahead, coded_slices_at, coded_picture_at, coded_pictures_at, frame_at, frame_of, frame_fault}
-use Rattle.pr_frame.specs.Laws.{StandsOpaque}
 use Rattle.pr_frame.proofs.Rests.{ok-both, header-rest, picture-rest, table-rest, coded-rest}
 use Rattle.pr_frame.proofs.SliceLoop.{sum-front}
 use Rattle.pr_frame.proofs.Standing.{slice-found, slice-again, or-false, false-or}
@@ -40,32 +33,32 @@ not-false : (b : Bool) → not b ≡ false → b ≡ true
 not-false true e = refl
 not-false false e = absurd cc
 
-pub slices-found : (h : FrameHeader) (places : List SlicePlace) (sizes : List ℕ) (s t : Rest) (xs : List CodedSlice) → h.alpha ≡ Absent → AllHave h places → length sizes ≡ length places
+pub slices-found : (h : FrameHeader) (places : List SlicePlace) (sizes : List ℕ) (s t : Rest) (xs : List CodedSlice) → AllHave h places → length sizes ≡ length places
     → coded_slices_at h places sizes s ≡ Ok (xs, t) → SlicesStand h places sizes s.bytes xs
 unfolding coded_slices_at
-slices-found h [] [] s t xs absent have same e = subst (SlicesStand h [] [] s.bytes) (sym (ok-both e).0) tt
-slices-found h [] (z ∷ sizes) s t xs absent have same e = absurd (omega arith)
-slices-found h (p ∷ places) [] s t xs absent have same e = absurd (omega arith)
-slices-found h (p ∷ places) (z ∷ sizes) s t xs absent have same e =
+slices-found h [] [] s t xs have same e = subst (SlicesStand h [] [] s.bytes) (sym (ok-both e).0) tt
+slices-found h [] (z ∷ sizes) s t xs have same e = absurd (omega arith)
+slices-found h (p ∷ places) [] s t xs have same e = absurd (omega arith)
+slices-found h (p ∷ places) (z ∷ sizes) s t xs have same e =
     let e1 = bind-ok _ _ e in
     let e2 = bind-ok _ _ e1.2 in
-    let first = slice-found h p z s e1.0.1 e1.0.0 absent have.0 e1.1 in
-    let rest = coded-rest h p z s e1.0.0 e1.0.1 absent e1.1 in
-    let others = slices-found h places sizes e1.0.1 e2.0.1 e2.0.0 absent have.1 (omega arith) e2.1 in
+    let first = slice-found h p z s e1.0.1 e1.0.0 have.0 e1.1 in
+    let rest = coded-rest h p z s e1.0.0 e1.0.1 e1.1 in
+    let others = slices-found h places sizes e1.0.1 e2.0.1 e2.0.0 have.1 (omega arith) e2.1 in
     let moved : SlicesStand h places sizes (drop z s.bytes) e2.0.0 = subst (λ (v : Rest). SlicesStand h places sizes v.bytes e2.0.0) rest others in
     subst (SlicesStand h (p ∷ places) (z ∷ sizes) s.bytes) (sym (ok-both e2.2).0) (first, moved)
 
-pub slices-again : (h : FrameHeader) (places : List SlicePlace) (sizes : List ℕ) (s : Rest) (xs : List CodedSlice) → h.alpha ≡ Absent → AllHave h places
+pub slices-again : (h : FrameHeader) (places : List SlicePlace) (sizes : List ℕ) (s : Rest) (xs : List CodedSlice) → AllHave h places
     → SlicesStand h places sizes s.bytes xs → coded_slices_at h places sizes s ≡ Ok (xs, ahead (sum sizes) s)
 unfolding coded_slices_at
-slices-again h [] [] s [] absent have stand = ap (λ (t : Rest). Ok ([], t)) (sym (ahead-none s))
-slices-again h [] (z ∷ sizes) s xs absent have stand = absurd stand
-slices-again h [] [] s (x ∷ xs) absent have stand = absurd stand
-slices-again h (p ∷ places) [] s xs absent have stand = absurd stand
-slices-again h (p ∷ places) (z ∷ sizes) s [] absent have stand = absurd stand
-slices-again h (p ∷ places) (z ∷ sizes) s (x ∷ xs) absent have stand =
-    let first = slice-again h p z s x absent have.0 stand.0 in
-    let others = slices-again h places sizes (ahead z s) xs absent have.1 stand.1 in
+slices-again h [] [] s [] have stand = ap (λ (t : Rest). Ok ([], t)) (sym (ahead-none s))
+slices-again h [] (z ∷ sizes) s xs have stand = absurd stand
+slices-again h [] [] s (x ∷ xs) have stand = absurd stand
+slices-again h (p ∷ places) [] s xs have stand = absurd stand
+slices-again h (p ∷ places) (z ∷ sizes) s [] have stand = absurd stand
+slices-again h (p ∷ places) (z ∷ sizes) s (x ∷ xs) have stand =
+    let first = slice-again h p z s x have.0 stand.0 in
+    let others = slices-again h places sizes (ahead z s) xs have.1 stand.1 in
     bind-step _ _ first ∙ bind-step _ _ others ∙ ap (λ (t : Rest). Ok (x ∷ xs, t)) (ahead-ahead (sum sizes) z s ∙ ap (λ n. ahead n s) (sym (sum-front z sizes)))
 
 -- ---- a picture
@@ -87,17 +80,17 @@ table-none r count s within =
     refuse-step _ _ _ _ (le-ltb r.size (r.header + 2 * count) (omega (arith, n, within)))
     ∙ refuse-step _ _ _ _ (le-ltb r.size (r.header + 2 * count + sum (sizes_of count s.bytes)) (omega (arith, n, within)))
 
-pub picture-again : (F : ℕ) (h : FrameHeader) (s : Rest) (room : ℕ) (x : CodedPicture) → h.alpha ≡ Absent → s.place + room ≡ F → x.log2 ≤ 3 → PictureStands h room s.bytes x
+pub picture-again : (F : ℕ) (h : FrameHeader) (s : Rest) (room : ℕ) (x : CodedPicture) → s.place + room ≡ F → x.log2 ≤ 3 → PictureStands h room s.bytes x
     → coded_picture_at F h s ≡ Ok (x, ahead (picture_of s.bytes).size s)
 unfolding coded_picture_at
-picture-again F h s room x absent e small p =
+picture-again F h s room x e small p =
     let r = picture_of s.bytes in
     let sizes = table_of h s.bytes in
     let t = ahead (2 * slices_in h r) (ahead r.header s) in
     let places : SlicesStand h (places_in h r.log2) sizes (behind_table h s.bytes) x.slices = subst (λ k. SlicesStand h (places_in h k) sizes (behind_table h s.bytes) x.slices) (sym p.log2) p.slices in
     let at : SlicesStand h (places_in h r.log2) sizes t.bytes x.slices = subst (λ (v : Rest). SlicesStand h (places_in h r.log2) sizes v.bytes x.slices) (sym (ahead-ahead (2 * slices_in h r) r.header s)) places in
     let low : r.log2 ≤ 3 = subst (λ k. k ≤ 3) (sym p.log2) small in
-    let read = slices-again h (places_in h r.log2) sizes t x.slices absent (places-have h r.log2 low) at in
+    let read = slices-again h (places_in h r.log2) sizes t x.slices (places-have h r.log2 low) at in
     let x-is : record { log2 = r.log2; slices = x.slices } ≡ x = λ j. record { log2 = p.log2 j; slices = x.slices } in
     bind-step _ _ (picture-none F h s room x e p) ∙ bind-step _ _ (table-none r (slices_in h r) (ahead r.header s) p.table) ∙ bind-step _ _ read
     ∙ ap (λ (y : CodedPicture). Ok (y, ahead r.size s)) x-is
@@ -138,10 +131,10 @@ table-judged r count s t sizes e =
     let e2 = bind-ok _ _ e1.2 in
     omega (arith, ltb-false _ _ (refuse-ok _ _ _ e2.1), length-sizes count s.bytes)
 
-pub picture-found : (F : ℕ) (h : FrameHeader) (s t : Rest) (room : ℕ) (x : CodedPicture) → h.alpha ≡ Absent → s.place + room ≡ F → coded_picture_at F h s ≡ Ok (x, t)
+pub picture-found : (F : ℕ) (h : FrameHeader) (s t : Rest) (room : ℕ) (x : CodedPicture) → s.place + room ≡ F → coded_picture_at F h s ≡ Ok (x, t)
     → PictureStands h room s.bytes x × (t ≡ ahead (picture_of s.bytes).size s)
 unfolding coded_picture_at
-picture-found F h s t room x absent e read =
+picture-found F h s t room x e read =
     let e1 = bind-ok _ _ read in
     let e2 = bind-ok _ _ e1.2 in
     let e3 = bind-ok _ _ e2.2 in
@@ -157,7 +150,7 @@ picture-found F h s t room x absent e read =
     let fits = table-judged r (slices_in h r) (ahead r.header s) e2.0.1 e2.0.0 table1 in
     let slices0 : coded_slices_at h (places_in h r.log2) e2.0.0 e2.0.1 ≡ Ok e3.0 = subst (λ (q : PictureHeader). coded_slices_at h (places_in h q.log2) e2.0.0 e2.0.1 ≡ Ok e3.0) r-is e3.1 in
     let same : length e2.0.0 ≡ length (places_in h r.log2) = ap length behind.0 ∙ length-sizes (slices_in h r) (drop r.header s.bytes) ∙ count-places h r in
-    let found = slices-found h (places_in h r.log2) e2.0.0 e2.0.1 e3.0.1 e3.0.0 absent (places-have h r.log2 (log2-small s.bytes)) same slices0 in
+    let found = slices-found h (places_in h r.log2) e2.0.0 e2.0.1 e3.0.1 e3.0.0 (places-have h r.log2 (log2-small s.bytes)) same slices0 in
     let t2-is : e2.0.1 ≡ ahead (r.header + 2 * slices_in h r) s = behind.1 ∙ ahead-ahead (2 * slices_in h r) r.header s in
     let moved : SlicesStand h (places_in h r.log2) (table_of h s.bytes) (behind_table h s.bytes) e3.0.0 =
     subst (λ zs. SlicesStand h (places_in h r.log2) zs (behind_table h s.bytes) e3.0.0) behind.0 (subst (λ (v : Rest). SlicesStand h (places_in h r.log2) e2.0.0 v.bytes e3.0.0) t2-is found) in
@@ -178,34 +171,34 @@ picture-found F h s t room x absent e read =
 
 -- ---- pictures
 
-pub pictures-found : (count F : ℕ) (h : FrameHeader) (s t : Rest) (room : ℕ) (xs : List CodedPicture) → h.alpha ≡ Absent → s.place + room ≡ F → coded_pictures_at count F h s ≡ Ok (xs, t)
+pub pictures-found : (count F : ℕ) (h : FrameHeader) (s t : Rest) (room : ℕ) (xs : List CodedPicture) → s.place + room ≡ F → coded_pictures_at count F h s ≡ Ok (xs, t)
     → PicturesStand h room s.bytes xs × (length xs ≡ count)
 unfolding coded_pictures_at
-pictures-found zero F h s t room xs absent e read =
+pictures-found zero F h s t room xs e read =
     let is = (ok-both read).0 in
     (subst (PicturesStand h room s.bytes) (sym is) tt, ap length is)
-pictures-found (suc count) F h s t room xs absent e read =
+pictures-found (suc count) F h s t room xs e read =
     let e1 = bind-ok _ _ read in
     let e2 = bind-ok _ _ e1.2 in
     let x = e1.0.0 in
-    let first = picture-found F h s e1.0.1 room x absent e e1.1 in
+    let first = picture-found F h s e1.0.1 room x e e1.1 in
     let size = (picture_of s.bytes).size in
     let read2 : coded_pictures_at count F h (ahead size s) ≡ Ok e2.0 = subst (λ (v : Rest). coded_pictures_at count F h v ≡ Ok e2.0) first.1 e2.1 in
-    let others = pictures-found count F h (ahead size s) e2.0.1 (room - size) e2.0.0 absent (omega (arith, e, first.0.within)) read2 in
+    let others = pictures-found count F h (ahead size s) e2.0.1 (room - size) e2.0.0 (omega (arith, e, first.0.within)) read2 in
     let is = (ok-both e2.2).0 in
     (subst (PicturesStand h room s.bytes) (sym is) (first.0, others.0), ap length is ∙ ap suc others.1)
 
-pub pictures-again : (count F : ℕ) (h : FrameHeader) (s : Rest) (room : ℕ) (xs : List CodedPicture) → h.alpha ≡ Absent → s.place + room ≡ F → length xs ≡ count
+pub pictures-again : (count F : ℕ) (h : FrameHeader) (s : Rest) (room : ℕ) (xs : List CodedPicture) → s.place + room ≡ F → length xs ≡ count
     → PicturesStand h room s.bytes xs → (t : Rest) × (coded_pictures_at count F h s ≡ Ok (xs, t))
 unfolding coded_pictures_at
-pictures-again zero F h s room [] absent e same stand = (s, refl)
-pictures-again zero F h s room (x ∷ xs) absent e same stand = absurd (omega arith)
-pictures-again (suc count) F h s room [] absent e same stand = absurd (omega arith)
-pictures-again (suc count) F h s room (x ∷ xs) absent e same stand =
+pictures-again zero F h s room [] e same stand = (s, refl)
+pictures-again zero F h s room (x ∷ xs) e same stand = absurd (omega arith)
+pictures-again (suc count) F h s room [] e same stand = absurd (omega arith)
+pictures-again (suc count) F h s room (x ∷ xs) e same stand =
     let size = (picture_of s.bytes).size in
     let small : x.log2 ≤ 3 = subst (λ k. k ≤ 3) stand.0.log2 (log2-small s.bytes) in
-    let first = picture-again F h s room x absent e small stand.0 in
-    let others = pictures-again count F h (ahead size s) (room - size) xs absent (omega (arith, e, stand.0.within)) (omega arith) stand.1 in
+    let first = picture-again F h s room x e small stand.0 in
+    let others = pictures-again count F h (ahead size s) (room - size) xs (omega (arith, e, stand.0.within)) (omega arith) stand.1 in
     (others.0, bind-step _ _ first ∙ bind-step _ _ others.1)
 
 -- ---- the header of a frame
@@ -271,60 +264,43 @@ header-again s h p =
 
 -- ---- a frame
 
-form-opaque : (a : AlphaKind) → is_opaque_form a ≡ true → a ≡ Absent
-form-opaque Absent e = refl
-form-opaque Eight e = absurd cc
-form-opaque Sixteen e = absurd cc
-
-pub opaque-found : (h : FrameHeader) → is_opaque h ≡ true → IsOpaque h
-opaque-found h e = record { alpha = form-opaque h.alpha e }
-
-pub opaque-again : (h : FrameHeader) → IsOpaque h → is_opaque h ≡ true
-opaque-again h p = rw p.alpha refl
-
-pub frame-found : (s : List ℕ) (f : CodedFrame) → frame_of s ≡ Ok f → StandsOpaque s f
+pub frame-found : (s : List ℕ) (f : CodedFrame) → frame_of s ≡ Ok f → FrameStands s f
 unfolding frame_of frame_at
 frame-found s f read =
     let e0 = bind-ok _ _ read in
     let e1 = bind-ok _ _ e0.1 in
     let e2 = bind-ok _ _ e1.2 in
-    let e3 = bind-ok _ _ e2.2 in
     let o = e1.0.0 in
-    let built = opaque-found o.header (not-false (is_opaque o.header) (refuse-ok _ _ _ e2.1)) in
     let header = header-found s o e1.0.1 e1.1 in
     let rest = header-rest (length s) s o e1.0.1 e1.1 in
     let r = start_of s in
     let size-is : o.size ≡ r.size = ap (λ (q : Opened). q.size) rest.0 in
     let at : Rest = record { place = header_taken s; bytes = drop (header_taken s) s } in
-    let read1 : coded_pictures_at (pictures_of o.header.interlace) o.size o.header at ≡ Ok e3.0 = subst (λ (v : Rest). coded_pictures_at (pictures_of o.header.interlace) o.size o.header v ≡ Ok e3.0) rest.1 e3.1 in
+    let read1 : coded_pictures_at (pictures_of o.header.interlace) o.size o.header at ≡ Ok e2.0 = subst (λ (v : Rest). coded_pictures_at (pictures_of o.header.interlace) o.size o.header v ≡ Ok e2.0) rest.1 e2.1 in
     let room : header_taken s + (r.size - header_taken s) ≡ o.size = omega (arith, header.sizes.within, size-is) in
-    let found = pictures-found (pictures_of o.header.interlace) o.size o.header at e3.0.1 (r.size - header_taken s) e3.0.0 built.alpha room read1 in
-    let all : StandsOpaque s (record { header = o.header; pictures = e3.0.0 }) = record {
-      stands = record { header = header; number = found.1; pictures = found.0 };
-      opaque = built;
-    } in
-    let g-is = ok-both e3.2 in
+    let found = pictures-found (pictures_of o.header.interlace) o.size o.header at e2.0.1 (r.size - header_taken s) e2.0.0 room read1 in
+    let all : FrameStands s (record { header = o.header; pictures = e2.0.0 }) = record { header = header; number = found.1; pictures = found.0 } in
+    let g-is = ok-both e2.2 in
     let f-is : e0.0.0 ≡ f = cc e0.2 in
-    subst (StandsOpaque s) (sym g-is.0 ∙ f-is) all
+    subst (FrameStands s) (sym g-is.0 ∙ f-is) all
 
-pub frame-again : (s : List ℕ) (f : CodedFrame) → StandsOpaque s f → frame_of s ≡ Ok f
+pub frame-again : (s : List ℕ) (f : CodedFrame) → FrameStands s f → frame_of s ≡ Ok f
 unfolding frame_of frame_at
 frame-again s f p =
     let h = f.header in
     let r = start_of s in
     let at : Rest = record { place = header_taken s; bytes = drop (header_taken s) s } in
-    let head = header-again s h p.stands.header in
-    let built : not (is_opaque h) ≡ false = ap not (opaque-again h p.opaque) in
-    let room : header_taken s + (r.size - header_taken s) ≡ r.size = omega (arith, p.stands.header.sizes.within) in
-    let found = pictures-again (pictures_of h.interlace) r.size h at (r.size - header_taken s) f.pictures p.opaque.alpha room p.stands.number p.stands.pictures in
-    bind-step _ _ (bind-step _ _ head ∙ refuse-step _ _ _ _ built ∙ bind-step _ _ found.1)
+    let head = header-again s h p.header in
+    let room : header_taken s + (r.size - header_taken s) ≡ r.size = omega (arith, p.header.sizes.within) in
+    let found = pictures-again (pictures_of h.interlace) r.size h at (r.size - header_taken s) f.pictures room p.number p.pictures in
+    bind-step _ _ (bind-step _ _ head ∙ bind-step _ _ found.1)
 
 pub same-frame : (f g : CodedFrame) (r : Result CodedFrame (Fault FrameKind)) → r ≡ Ok f → r ≡ Ok g → f ≡ g
 same-frame f g r d e = cc
 
-or-fault : (s : List ℕ) (r : Result CodedFrame (Fault FrameKind)) → frame_of s ≡ r → ((f : CodedFrame) × StandsOpaque s f) ⊎ ((fault : Fault FrameKind) × (frame_fault s ≡ Some fault))
+or-fault : (s : List ℕ) (r : Result CodedFrame (Fault FrameKind)) → frame_of s ≡ r → ((f : CodedFrame) × FrameStands s f) ⊎ ((fault : Fault FrameKind) × (frame_fault s ≡ Some fault))
 or-fault s (Ok f) e = inl (f, frame-found s f e)
 or-fault s (Err fault) e = inr (fault, ap result_err e)
 
-pub frame-or-fault : (s : List ℕ) → ((f : CodedFrame) × StandsOpaque s f) ⊎ ((fault : Fault FrameKind) × (frame_fault s ≡ Some fault))
+pub frame-or-fault : (s : List ℕ) → ((f : CodedFrame) × FrameStands s f) ⊎ ((fault : Fault FrameKind) × (frame_fault s ≡ Some fault))
 frame-or-fault s = or-fault s (frame_of s) refl

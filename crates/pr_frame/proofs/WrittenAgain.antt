@@ -1,5 +1,5 @@
 -- What was written is read again.
-use Rattle.std.proofs.Common.{◌≡◌, ℕ, suc, ◌+◌, ◌-◌, ◌*◌, ◌%◌, ◌^◌, ◌<◌, ◌≤◌, false, not, List, [], ◌∷◌, ◌++◌, length, take, map, sum, Ok, refl, sym, ap, ◌∙◌, subst, arith, append_assoc}
+use Rattle.std.proofs.Common.{◌≡◌, ℕ, suc, ◌+◌, ◌-◌, ◌*◌, ◌%◌, ◌^◌, ◌<◌, ◌≤◌, false, List, [], ◌∷◌, ◌++◌, length, take, map, sum, Ok, refl, sym, ap, ◌∙◌, subst, arith, append_assoc}
 use Rattle.std.specs.List.{All, flat_map}
 use Rattle.std.proofs.lemmas.List.Elements.{All-head, All-tail, All-nil, All-cons}
 use Rattle.pw_outside.specs.Reading.{Rest}
@@ -23,18 +23,17 @@ use Rattle.pr_head.specs.Laws.{sizes_bytes}
 use Rattle.pr_head.specs.Own.{version_of}
 use Rattle.pr_head.proofs.Again.{frame-again, picture-again, sizes-again, slice-again}
 use Rattle.pr_head.proofs.Places.{take_front, drop_front}
-use Rattle.pr_head.proofs.Chain.{bind-step, refuse-step}
+use Rattle.pr_head.proofs.Chain.{bind-step}
 use Rattle.pr_frame.specs.declared.coded.CodedSlice.{CodedSlice}
 use Rattle.pr_frame.specs.declared.coded.CodedPicture.{CodedPicture}
 use Rattle.pr_frame.specs.declared.coded.CodedFrame.{CodedFrame}
-use Rattle.pr_frame.specs.Forms.{scan_of, places_in, block_count, alpha_count, is_opaque}
+use Rattle.pr_frame.specs.Forms.{scan_of, has_alpha, places_in, block_count, alpha_count}
 use Rattle.pr_frame.specs.Coded.{IsCodedSlice, AreCodedSlices, IsCodedPicture, IsWritableSlice, IsWritablePicture, HasArrays, HasBlocks, HasShape, CanBeWritten}
 use Rattle.pr_frame.specs.Written.{component_bytes, slice_header_of, slice_bytes, slice_length, slice_lengths, picture_length, picture_bytes, frame_length_of, written}
-use Rattle.pr_frame.specs.Reading.{ahead, blocks_at, components_at, coded_slice_at, coded_slices_at, coded_picture_at, coded_pictures_at, frame_at, frame_of}
+use Rattle.pr_frame.specs.Reading.{ahead, blocks_at, alpha_at, components_at, coded_slice_at, coded_slices_at, coded_picture_at, coded_pictures_at, frame_at, frame_of}
 use Rattle.pr_frame.proofs.Counts.{HasBlocksOf, AllHave, places-have, count-places}
 use Rattle.pr_frame.proofs.Rests.{coded-is}
 use Rattle.pr_frame.proofs.Standing.{scan-is, blocks-again}
-use Rattle.pr_frame.proofs.WholeStanding.{opaque-again}
 use Rattle.pr_frame.proofs.SliceLoop.{sum-front}
 use Rattle.pr_frame.proofs.Short.{length-lengths, length-picture, length-written, few-slices, slices-short, slice-short, writable-blocks}
 
@@ -74,11 +73,16 @@ blocks-are s has small = (
   writable-blocks s.cr (λ i lt. has.cr i [] lt) small.cr,
 )
 
-parts-written : (h : FrameHeader) (place : SlicePlace) (s : CodedSlice) (k : ℕ) (rest : List ℕ) → HasBlocksOf h place → IsCodedSlice h place s → HasBlocks s → IsWritableSlice s → s.alpha ≡ []
+alpha-none : (kind : AlphaKind) (count size : ℕ) (s : Rest) → kind ≡ Absent → alpha_at kind count size s ≡ Ok ([], s)
+alpha-none Absent count size s e = refl
+alpha-none Eight count size s e = absurd cc
+alpha-none Sixteen count size s e = absurd cc
+
+parts-written : (h : FrameHeader) (place : SlicePlace) (s : CodedSlice) (k : ℕ) (rest : List ℕ) → HasBlocksOf h place → IsCodedSlice h place s → HasBlocks s → IsWritableSlice s → s.alpha ≡ [] → h.alpha ≡ Absent
     → components_at h place (slice_header_of h.interlace Absent s, record { place = k; bytes = component_bytes h.interlace s.y ++ (component_bytes h.interlace s.cb ++ (component_bytes h.interlace s.cr ++ rest)) })
     ≡ Ok (s, record { place = k + length (component_bytes h.interlace s.y) + length (component_bytes h.interlace s.cb) + length (component_bytes h.interlace s.cr); bytes = rest })
 unfolding components_at
-parts-written h place s k rest have is has small none =
+parts-written h place s k rest have is has small none absent =
     let mode = h.interlace in
     let scan = scan_of mode in
     let y = component_bytes mode s.y in
@@ -89,6 +93,7 @@ parts-written h place s k rest have is has small none =
     bind-step _ _ (blocks-written scan s.y (block_count h place Y) k (cb ++ (cr ++ rest)) (scan-is mode) are.0 is.y (have.few Y))
     ∙ bind-step _ _ (blocks-written scan s.cb (block_count h place Cb) (k + length y) (cr ++ rest) (scan-is mode) are.1 is.cb (have.few Cb))
     ∙ bind-step _ _ (blocks-written scan s.cr (block_count h place Cr) (k + length y + length cb) rest (scan-is mode) are.2 is.cr (have.few Cr))
+    ∙ bind-step _ _ (alpha-none h.alpha (alpha_count h.alpha place) 0 (record { place = k + length y + length cb + length cr; bytes = rest }) absent)
     ∙ ap (λ (v : CodedSlice). Ok (v, record { place = k + length y + length cb + length cr; bytes = rest })) s-is
 
 slice-written : (h : FrameHeader) (place : SlicePlace) (s : CodedSlice) (k : ℕ) (rest : List ℕ) → h.alpha ≡ Absent → HasBlocksOf h place → IsCodedSlice h place s → HasBlocks s → IsWritableSlice s
@@ -108,8 +113,8 @@ slice-written h place s k rest absent have is has small =
     slice-again size k false r body (record { least = omega arith; most = omega arith; index_from = is.index_from; index_to = is.index_to; whole = omega arith }) (omega arith) refl refl in
     let end : k + 6 + length y + length cb + length cr ≡ k + size = omega arith in
     ap (λ l. coded_slice_at h place size (record { place = k; bytes = l })) (slice-bytes-are mode s rest)
-    ∙ coded-is h place size (record { place = k; bytes = slice_header_bytes r false ++ body }) r (record { place = k + 6; bytes = body }) absent head
-    ∙ parts-written h place s (k + 6) rest have is has small none
+    ∙ coded-is h place size (record { place = k; bytes = slice_header_bytes r false ++ body }) r (record { place = k + 6; bytes = body }) (subst (λ kind. slice_at size (has_alpha kind) (record { place = k; bytes = slice_header_bytes r false ++ body }) ≡ Ok (r, record { place = k + 6; bytes = body })) (sym absent) head)
+    ∙ parts-written h place s (k + 6) rest have is has small none absent
     ∙ ap (λ n. Ok (s, record { place = n; bytes = rest })) end
 
 -- ---- slices
@@ -228,5 +233,4 @@ frame-written f has w =
     let moved : coded_pictures_at (pictures_of h.interlace) size h (record { place = 156; bytes = pics }) ≡ Ok (f.pictures, t) =
     subst (λ c. coded_pictures_at c size h (record { place = 156; bytes = pics }) ≡ Ok (f.pictures, t)) w.writable.coded.number
     (subst (λ a. coded_pictures_at (length f.pictures) size h (record { place = 156; bytes = flat_map (picture_bytes h.interlace a) f.pictures }) ≡ Ok (f.pictures, t)) (sym absent) read.1) in
-    let built : not (is_opaque h) ≡ false = ap not (opaque-again h w.writable.opaque) in
-    bind-step _ _ (bind-step _ _ head ∙ refuse-step _ _ _ _ built ∙ bind-step _ _ moved)
+    bind-step _ _ (bind-step _ _ head ∙ bind-step _ _ moved)

@@ -1,6 +1,5 @@
 -- What the header of a frame says of its pictures and slices (SMPTE RDD 36, picture, slice and component).
 use Rattle.std.specs.Prelude.{◌≡◌, ℕ, ◌*◌, ◌/◌, Bool, true, false, List, length}
-use Rattle.pw_planes.specs.declared.kinds.Chroma.{Chroma}
 use Rattle.pw_planes.specs.declared.kinds.Chroma.TheVariants.{C422}
 use Rattle.pw_planes.specs.declared.kinds.AlphaKind.{AlphaKind}
 use Rattle.pw_planes.specs.declared.kinds.AlphaKind.TheVariants.{Absent, Eight, Sixteen}
@@ -33,7 +32,7 @@ places_in h log2 = picture_slices (macroblocks h.width) (macroblocks (h.height /
 abbrev pub block_count : FrameHeader → SlicePlace → Part → ℕ
 block_count h place part = length (blocks_of h.chroma part place)
 
--- how many alpha values a slice has: those of its 16 rows
+-- how many alpha values a slice has: those of its 16 rows, 16 for each macroblock of a row
 abbrev pub alpha_count : AlphaKind → SlicePlace → ℕ
 alpha_count Absent place = 0
 alpha_count Eight place = 256 * place.width
@@ -45,18 +44,9 @@ alpha_depth Absent = 0
 alpha_depth Eight = 8
 alpha_depth Sixteen = 16
 
--- A frame without alpha, the form that is read and written so far.
+-- A frame without alpha, the form that is written so far.
 pub record IsOpaque (h : FrameHeader) : Type 0 where
   pub alpha : h.alpha ≡ Absent
-
-abbrev pub is_opaque_form : AlphaKind → Bool
-is_opaque_form Absent = true
-is_opaque_form Eight = false
-is_opaque_form Sixteen = false
-
--- whether a frame is without alpha
-abbrev pub is_opaque : FrameHeader → Bool
-is_opaque h = is_opaque_form h.alpha
 
 -- The forms that are coded from pictures so far: progressive frames in 4:2:2 without alpha.
 pub record IsBuilt (h : FrameHeader) : Type 0 where

@@ -6,28 +6,23 @@ use Rattle.std.specs.List.{All}
 use Rattle.pr_head.specs.declared.frame.FrameHeader.{FrameHeader}
 use Rattle.pr_frame.specs.declared.coded.CodedSlice.{CodedSlice}
 use Rattle.pr_frame.specs.declared.coded.CodedFrame.{CodedFrame}
-use Rattle.pr_frame.specs.Forms.{IsOpaque, places_in}
+use Rattle.pr_frame.specs.Forms.{places_in}
 use Rattle.pr_frame.specs.Coded.{AreCodedSlices, IsWritableSlice, CanBeWritten, HasArrays, HasShape}
 use Rattle.pr_frame.specs.Written.{slice_length, written, frame_length_of}
 use Rattle.pr_frame.specs.Stands.{FrameStands}
 use Rattle.pr_frame.specs.Reading.{frame_fault}
 
--- a sample stands for a coded frame without alpha
-pub record StandsOpaque (sample : List ℕ) (f : CodedFrame) : Type 0 where
-  pub stands : FrameStands sample f
-  pub opaque : IsOpaque f.header
-
 -- a sample stands for one coded frame at most
 abbrev pub OneFrame : Type 0
-OneFrame = (sample : List ℕ) (f g : CodedFrame) → StandsOpaque sample f → StandsOpaque sample g → f ≡ g
+OneFrame = (sample : List ℕ) (f g : CodedFrame) → FrameStands sample f → FrameStands sample g → f ≡ g
 
 -- a sample stands for a coded frame, or has a fault
 abbrev pub FrameOrFault : Type 0
-FrameOrFault = (sample : List ℕ) → ((f : CodedFrame) × StandsOpaque sample f) ⊎ ((fault : Fault FrameKind) × (frame_fault sample ≡ Some fault))
+FrameOrFault = (sample : List ℕ) → ((f : CodedFrame) × FrameStands sample f) ⊎ ((fault : Fault FrameKind) × (frame_fault sample ≡ Some fault))
 
 -- and never both
 abbrev pub FrameHasNoFault : Type 0
-FrameHasNoFault = (sample : List ℕ) (f : CodedFrame) → StandsOpaque sample f → frame_fault sample ≡ None
+FrameHasNoFault = (sample : List ℕ) (f : CodedFrame) → FrameStands sample f → frame_fault sample ≡ None
 
 -- what was written stands for what was written
 abbrev pub WrittenStands : Type 0
@@ -44,8 +39,8 @@ SlicesAreShort = (h : FrameHeader) (log2 : ℕ) (slices : List CodedSlice) → l
 
 -- Reading what was written gives the coded frame back: the bytes stand for it and for no other, and have no fault.
 pub record IsReadAs (sample : List ℕ) (f : CodedFrame) : Type 0 where
-  pub stands : StandsOpaque sample f
-  pub only : (g : CodedFrame) → StandsOpaque sample g → g ≡ f
+  pub stands : FrameStands sample f
+  pub only : (g : CodedFrame) → FrameStands sample g → g ≡ f
   pub no_fault : frame_fault sample ≡ None
 
 abbrev pub WrittenIsReadAgain : Type 0

@@ -1,13 +1,18 @@
 -- Reading a frame from left to right: the coded frame, or the first fault and its place, in the order of reading (our own).
--- A slice's header is judged before its components are read, these in their order, and the slices of a picture before the
--- next picture.
-use Rattle.std.specs.Prelude.{◌≡◌, ℕ, zero, suc, ◌+◌, not, List, [], ◌∷◌, length, take, drop, Option, Result, Ok, Err}
+-- A slice's header is judged before its components are read, these in their order with alpha at last, and the slices of a
+-- picture before the next picture.
+use Rattle.std.specs.Prelude.{◌≡◌, ℕ, zero, suc, ◌+◌, List, [], ◌∷◌, length, take, drop, Option, Result, Ok, Err}
 use Rattle.std.specs.Result.{result_err}
-use Rattle.pw_outside.specs.Reading.{Fault, Rest, Read, ◌>>=◌, bad, refuse}
+use Rattle.pw_outside.specs.Reading.{Fault, Rest, Read, ◌>>=◌, bad}
 use Rattle.pw_bits.specs.Bits.{bits}
+use Rattle.pw_planes.specs.declared.kinds.AlphaKind.{AlphaKind}
+use Rattle.pw_planes.specs.declared.kinds.AlphaKind.TheVariants.{Absent, Eight, Sixteen}
 use Rattle.pr_geom.specs.declared.places.SlicePlace.{SlicePlace}
 use Rattle.pr_geom.specs.declared.places.Part.TheVariants.{Y, Cb, Cr}
 use Rattle.pr_geom.specs.Slices.{pictures_of}
+use Rattle.pr_alpha.specs.Reading as values
+use Rattle.pr_alpha.specs.declared.read.AlphaFault.{AlphaFault}
+use Rattle.pr_alpha.specs.declared.read.AlphaFault.TheVariants as wrong
 use Rattle.pr_coeff.specs.Component.{Block}
 use Rattle.pr_coeff.specs.Reading as coefficients
 use Rattle.pr_coeff.specs.declared.read.CoeffFault.{CoeffFault}
@@ -24,7 +29,9 @@ use Rattle.pr_head.specs.Slice.{slice_at}
 use Rattle.pr_frame.specs.declared.coded.CodedSlice.{CodedSlice}
 use Rattle.pr_frame.specs.declared.coded.CodedPicture.{CodedPicture}
 use Rattle.pr_frame.specs.declared.coded.CodedFrame.{CodedFrame}
-use Rattle.pr_frame.specs.Forms.{scan_of, has_alpha, places_in, block_count, is_opaque}
+use Rattle.pr_frame.specs.Forms.{scan_of, has_alpha, places_in, block_count, alpha_count}
+
+-- ---- components
 
 -- n bytes further on
 abbrev pub ahead : ℕ → Rest → Rest
@@ -54,13 +61,46 @@ blocks_at scan count size s = do
   blocks ← placed s.place (coefficients.component_at count scan (bits (take size s.bytes)))
   Ok (blocks, ahead size s)
 
--- The components of a slice, behind its header. Alpha values, which come last, aren't built: there are none.
+-- ---- alpha values
+
+-- the kind of a fault of alpha values
+abbrev pub kind_of_alpha : values.Fault → FrameKind
+kind_of_alpha values.wanting = kinds.AlphaShort
+kind_of_alpha values.past = kinds.AlphaPast
+
+-- a fault of alpha values is at their first byte
+abbrev pub placed_alpha : {A : Type 0} → ℕ → Result A values.Fault → Result A (Fault FrameKind)
+placed_alpha place (Ok l) = Ok l
+placed_alpha place (Err fault) = bad (kind_of_alpha fault) place
+
+-- the error of a frame that an error of its alpha values at this place is
+abbrev pub IsAlphaFaultOf : AlphaFault → ℕ → FrameFault → Type 0
+IsAlphaFaultOf wrong.AlphaShort place fault = fault ≡ faults.Bad kinds.AlphaShort place
+IsAlphaFaultOf wrong.AlphaPast place fault = fault ≡ faults.Bad kinds.AlphaPast place
+IsAlphaFaultOf wrong.Failed place fault = fault ≡ faults.Failed
+
+-- so many alpha values of n bits in the next `size` bytes
+unfoldable pub values_at : ℕ → ℕ → ℕ → Rest → Read FrameKind (List ℕ)
+values_at n count size s = do
+  l ← placed_alpha s.place (values.alpha_at count n (bits (take size s.bytes)))
+  Ok (l, ahead size s)
+
+-- the alpha values of a slice, so many, in the next `size` bytes; none in a frame without alpha
+abbrev pub alpha_at : AlphaKind → ℕ → ℕ → Rest → Read FrameKind (List ℕ)
+alpha_at Absent count size s = Ok ([], s)
+alpha_at Eight count size s = values_at 8 count size s
+alpha_at Sixteen count size s = values_at 16 count size s
+
+-- ---- slices
+
+-- the components of a slice, behind its header, with alpha at last
 unfoldable pub components_at : FrameHeader → SlicePlace → SliceHeader × Rest → Read FrameKind CodedSlice
 components_at h place head = do
   y ← blocks_at (scan_of h.interlace) (block_count h place Y) head.0.y head.1
   cb ← blocks_at (scan_of h.interlace) (block_count h place Cb) head.0.cb y.1
   cr ← blocks_at (scan_of h.interlace) (block_count h place Cr) head.0.cr cb.1
-  Ok (record { index = head.0.index; y = y.0; cb = cb.0; cr = cr.0; alpha = [] }, cr.1)
+  alpha ← alpha_at h.alpha (alpha_count h.alpha place) head.0.alpha cr.1
+  Ok (record { index = head.0.index; y = y.0; cb = cb.0; cr = cr.0; alpha = alpha.0 }, alpha.1)
 
 -- the slice at this place in the next `size` bytes
 unfoldable pub coded_slice_at : FrameHeader → SlicePlace → ℕ → Rest → Read FrameKind CodedSlice
@@ -73,6 +113,8 @@ coded_slices_at h (place ∷ places) (size ∷ sizes) s = do
   others ← coded_slices_at h places sizes first.1
   Ok (first.0 ∷ others.0, others.1)
 coded_slices_at h _ _ s = Ok ([], s)
+
+-- ---- pictures and the frame
 
 -- the picture that begins here, in a frame of F bytes
 unfoldable pub coded_picture_at : ℕ → FrameHeader → Rest → Read FrameKind CodedPicture
@@ -90,11 +132,10 @@ coded_pictures_at (suc count) F h s = do
   others ← coded_pictures_at count F h first.1
   Ok (first.0 ∷ others.0, others.1)
 
--- The frame that a sample of n bytes begins with. One with alpha, whose values aren't read yet, is refused behind the checks of the header.
+-- the frame that a sample of n bytes begins with
 unfoldable pub frame_at : ℕ → Rest → Read FrameKind CodedFrame
 frame_at n s = do
   head ← header_at n s.bytes
-  _ ← refuse (not (is_opaque head.0.header)) kinds.NotBuilt 20
   pictures ← coded_pictures_at (pictures_of head.0.header.interlace) head.0.size head.0.header head.1
   Ok (record { header = head.0.header; pictures = pictures.0 }, pictures.1)
 

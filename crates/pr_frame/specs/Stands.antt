@@ -3,10 +3,13 @@
 -- a picture behind its slices, those of the frame behind its pictures and those of the sample behind the frame are free.
 use Rattle.std.specs.Prelude.{◌≡◌, ◌≢◌, ℕ, ◌+◌, ◌-◌, ◌*◌, ◌≤◌, Bool, List, [], ◌∷◌, length, take, drop}
 use Rattle.pw_bits.specs.Bits.{bits}
+use Rattle.pw_planes.specs.declared.kinds.AlphaKind.{AlphaKind}
+use Rattle.pw_planes.specs.declared.kinds.AlphaKind.TheVariants.{Absent, Eight, Sixteen}
 use Rattle.pr_geom.specs.declared.places.TheConstants.{MAX_SLICES}
 use Rattle.pr_geom.specs.declared.places.SlicePlace.{SlicePlace}
 use Rattle.pr_geom.specs.declared.places.Part.TheVariants.{Y, Cb, Cr}
 use Rattle.pr_geom.specs.Slices.{pictures_of}
+use Rattle.pr_alpha.specs.Alpha as values
 use Rattle.pr_coeff.specs.Component.{Block, Stands}
 use Rattle.pr_head.specs.declared.frame.FrameHeader.{FrameHeader}
 use Rattle.pr_head.specs.declared.slice.SliceHeader.{SliceHeader}
@@ -16,7 +19,7 @@ use Rattle.pr_head.specs.Slice.{least_slice_header, slice_size, stated_of, with_
 use Rattle.pr_frame.specs.declared.coded.CodedSlice.{CodedSlice}
 use Rattle.pr_frame.specs.declared.coded.CodedPicture.{CodedPicture}
 use Rattle.pr_frame.specs.declared.coded.CodedFrame.{CodedFrame}
-use Rattle.pr_frame.specs.Forms.{scan_of, has_alpha, places_in, block_count}
+use Rattle.pr_frame.specs.Forms.{scan_of, has_alpha, places_in, block_count, alpha_count}
 
 -- ---- a slice
 
@@ -25,12 +28,23 @@ pub record ComponentStands (scan : List ℕ) (count : ℕ) (bytes : List ℕ) (b
   pub number : length blocks ≡ count
   pub stands : Stands (bits bytes) blocks scan
 
+-- the bytes stand for so many alpha values of n bits; no bytes stand for the greatest value everywhere
+pub record ValuesStand (n : ℕ) (count : ℕ) (bytes : List ℕ) (l : List ℕ) : Type 0 where
+  pub number : length l ≡ count
+  pub stands : values.Stands (bits bytes) l n
+
+-- the bytes stand for so many alpha values of a slice: 16 rows, each from the left; a frame without alpha has none
+abbrev pub AlphaStands : AlphaKind → ℕ → List ℕ → List ℕ → Type 0
+AlphaStands Absent count bytes l = l ≡ []
+AlphaStands Eight count bytes l = ValuesStand 8 count bytes l
+AlphaStands Sixteen count bytes l = ValuesStand 16 count bytes l
+
 -- the header of a slice of so many bytes, which begins here; the last component has what the others leave
 abbrev pub slice_header_in : Bool → ℕ → List ℕ → SliceHeader
 slice_header_in alpha size b = with_last size alpha (stated_of alpha b)
 
 -- The slice at this place, of so many bytes, has this header: it is within the slice, and the components lie behind it, one
--- behind the other. Alpha values, which come last, aren't built: there are none.
+-- behind the other, with alpha at last.
 pub record HasSlice (alpha : Bool) (h : FrameHeader) (place : SlicePlace) (size : ℕ) (r : SliceHeader) (b : List ℕ) (s : CodedSlice) : Type 0 where
   pub least : least_slice_header alpha ≤ r.header
   pub whole : slice_size r ≡ size
@@ -40,7 +54,7 @@ pub record HasSlice (alpha : Bool) (h : FrameHeader) (place : SlicePlace) (size 
   pub y : ComponentStands (scan_of h.interlace) (block_count h place Y) (take r.y (drop r.header b)) s.y
   pub cb : ComponentStands (scan_of h.interlace) (block_count h place Cb) (take r.cb (drop (r.header + r.y) b)) s.cb
   pub cr : ComponentStands (scan_of h.interlace) (block_count h place Cr) (take r.cr (drop (r.header + r.y + r.cb) b)) s.cr
-  pub no_values : s.alpha ≡ []
+  pub alpha_values : AlphaStands h.alpha (alpha_count h.alpha place) (take r.alpha (drop (r.header + r.y + r.cb + r.cr) b)) s.alpha
 
 -- these bytes begin with the slice at this place, which has so many of them
 abbrev pub SliceStands : FrameHeader → SlicePlace → ℕ → List ℕ → CodedSlice → Type 0

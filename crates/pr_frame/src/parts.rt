@@ -1,22 +1,25 @@
 //! The parts of a slice, read.
 
-ghost use Rattle.std.specs.Prelude.{◌≡◌, ◌+◌, ◌<◌, ◌≤◌, ◌^◌, length, IfOk, IfErr, OnOk, IsSome, Ok, drop, is_err};
+ghost use Rattle.std.specs.Prelude.{◌≡◌, ◌+◌, ◌*◌, ◌<◌, ◌≤◌, ◌^◌, length, IfOk, IfErr, OnOk, IsSome, IsTrue, Ok, drop, is_err};
+ghost use Rattle.std.specs.List.{All};
 ghost use Rattle.pw_outside.specs.Ports.{CountsFault, Lowers, GoesOn};
 ghost use Rattle.pw_outside.specs.Reading.{Gives, Fails, bytes_of, rest_of};
 ghost use Rattle.pr_geom.specs.Layout.{IsSlice};
 ghost use Rattle.pr_geom.specs.Blocks.{blocks_of};
+ghost use Rattle.pr_alpha.specs.Alpha.{is_width, AreBelow};
 ghost use Rattle.pr_coeff.specs.Component.{places};
 ghost use Rattle.pr_head.specs.Faults.{told_fault, is_failed};
-ghost use Rattle.pr_frame.specs.Forms.{scan_of};
-ghost use Rattle.pr_frame.specs.Reading.{blocks_at, IsFaultOf};
+ghost use Rattle.pr_frame.specs.Forms.{scan_of, has_alpha, alpha_count, alpha_depth};
+ghost use Rattle.pr_frame.specs.Reading.{blocks_at, IsFaultOf, values_at, alpha_at, IsAlphaFaultOf};
 
-use crate::coded::Blocks;
+use crate::coded::{AlphaValues, Blocks};
+use pr_alpha::{AlphaFault, read_alpha};
 use pr_coeff::{Block, CoeffFault, Scan, read_component};
 use pr_geom::{Layout, Part, SlicePlace};
 use pr_head::{FrameFault, FrameHeader, FrameKind};
 use pw_bits::Window;
 use pw_outside::{ByteSource, Failed};
-use pw_planes::Interlace;
+use pw_planes::{AlphaKind, Interlace};
 use std::alloc::Global;
 
 /// The order of the values of a block.
@@ -26,6 +29,16 @@ pub(crate) fn scan_of(interlace: Interlace) -> Scan
     match interlace {
         Interlace::Progressive => Scan::Progressive,
         Interlace::TopFirst | Interlace::BottomFirst => Scan::Interlaced,
+    }
+}
+
+/// Whether slices have alpha.
+pub(crate) fn has_alpha(alpha: AlphaKind) -> bool
+    ensures { result ≡ has_alpha alpha }
+{
+    match alpha {
+        AlphaKind::Absent => false,
+        AlphaKind::Eight | AlphaKind::Sixteen => true,
     }
 }
 
@@ -122,4 +135,118 @@ pub(crate) fn read_part<S: ByteSource>(
     component(source, *place, size, scan_of(layout.interlace), &mut blocks)?;
     *place += u64::from(size);
     Ok(Blocks::from_vec(blocks))
+}
+
+/// Why alpha values at this place were not read.
+fn alpha_fault_of(fault: AlphaFault, place: u64) -> FrameFault
+    ensures bad { IsAlphaFaultOf fault place result }
+{
+    let kind = match fault {
+        AlphaFault::AlphaShort => FrameKind::AlphaShort,
+        AlphaFault::AlphaPast => FrameKind::AlphaPast,
+        AlphaFault::Failed => return FrameFault::Failed,
+    };
+    FrameFault::Bad { kind, place }
+}
+
+/// Reads the alpha values that the window has, from the place `at` on, and passes over what is left of it.
+fn read_alpha_window<S: ByteSource>(
+    window: &mut Window<'_, S>,
+    at: u64,
+    bits: u8,
+    values: &mut [u16],
+) -> Result<(), FrameFault>
+    requires width { IsTrue (is_width bits) }
+    requires count { (0 < length values.old) × (length values.old ≤ 2 ^ 11) }
+    ensures value { IsSome (S.left window.old.source.now) → OnOk result (values_at bits (length values.old) window.old.left (rest_of at (S.left window.old.source.now)) ≡ Ok (values.new, rest_of (at + window.old.left) (S.left window.new.source.now))) }
+    ensures fault { IsSome (S.left window.old.source.now) → IfErr result (λ e. Fails told_fault e (values_at bits (length values.old) window.old.left (rest_of at (S.left window.old.source.now)))) }
+    ensures below { OnOk result (AreBelow bits values.new) }
+    ensures told { IsSome (S.left window.old.source.now) → IsSome (S.left window.new.source.now) }
+    // The port behind it is the same.
+    ensures same_source { window.new.source.ghost_name ≡ window.old.source.ghost_name }
+    ensures most { Lowers (S.most window.old.source.now) (S.most window.new.source.now) 0 }
+    ensures becomes { GoesOn S.becomes window.old.source.now window.new.source.now }
+    ensures cause { CountsFault (S.faults window.old.source.now) (S.faults window.new.source.now) (is_failed result) }
+{
+    match read_alpha(window, bits, values) {
+        Ok(()) => Ok(window.skip()?),
+        Err(fault) => Err(alpha_fault_of(fault, at)),
+    }
+}
+
+/// Reads the alpha values that have the next `size` bytes, from the place `at` on.
+fn alpha_values<S: ByteSource>(
+    source: &mut S,
+    at: u64,
+    size: u16,
+    bits: u8,
+    values: &mut [u16],
+) -> Result<(), FrameFault>
+    requires width { IsTrue (is_width bits) }
+    requires count { (0 < length values.old) × (length values.old ≤ 2 ^ 11) }
+    ensures told { IsSome (S.left source.old) → OnOk result (IsSome (S.left source.new)) }
+    ensures value { IsSome (S.left source.old) → OnOk result (values_at bits (length values.old) size (rest_of at (S.left source.old)) ≡ Ok (values.new, rest_of (at + size) (S.left source.new))) }
+    ensures fault { IsSome (S.left source.old) → IfErr result (λ e. Fails told_fault e (values_at bits (length values.old) size (rest_of at (S.left source.old)))) }
+    ensures below { OnOk result (AreBelow bits values.new) }
+    ensures most { Lowers (S.most source.old) (S.most source.new) 0 }
+    ensures becomes { GoesOn S.becomes source.old source.new }
+    ensures cause { CountsFault (S.faults source.old) (S.faults source.new) (is_failed result) }
+{
+    let mut window = Window::new(source, u64::from(size));
+    read_alpha_window(&mut window, at, bits, values)
+}
+
+/// Reads the alpha values of a slice, of 8 or 16 bits, in the next `size` bytes.
+fn read_values<S: ByteSource>(
+    alloc: Global,
+    source: &mut S,
+    place: &mut u64,
+    size: u16,
+    bits: u8,
+    slice: &SlicePlace,
+) -> Result<AlphaValues, FrameFault>
+    requires width { IsTrue (is_width bits) }
+    requires some { 0 < slice.now.width }
+    requires narrow { slice.now.width ≤ 8 }
+    requires room { place.old + size < 2 ^ 64 }
+    ensures bytes { Gives told_fault (λ l. l) (S.left source.old) (S.left source.new) place.old place.new result (values_at bits (256 * slice.now.width) size) }
+    ensures count { IfOk result (λ l. length l ≡ 256 * slice.now.width) }
+    ensures values { IfOk result (All (λ value. value < 2 ^ bits)) }
+    ensures place { OnOk result (place.new ≡ place.old + size) }
+    ensures most { Lowers (S.most source.old) (S.most source.new) 0 }
+    ensures becomes { GoesOn S.becomes source.old source.new }
+    ensures cause { CountsFault (S.faults source.old) (S.faults source.new) (is_failed result) }
+{
+    let count = 256 * usize::from(slice.width);
+    let mut values = Vec::from_elem(alloc, 0u16, count)?;
+    alpha_values(source, *place, size, bits, &mut values)?;
+    *place += u64::from(size);
+    Ok(AlphaValues::from_vec(values))
+}
+
+/// Reads the alpha values of a slice in the next `size` bytes, in a frame of this kind of alpha; none where it has no alpha.
+pub(crate) fn read_alpha_part<S: ByteSource>(
+    alloc: Global,
+    source: &mut S,
+    place: &mut u64,
+    size: u16,
+    alpha: AlphaKind,
+    slice: &SlicePlace,
+) -> Result<AlphaValues, FrameFault>
+    requires some { 0 < slice.now.width }
+    requires narrow { slice.now.width ≤ 8 }
+    requires room { place.old + size < 2 ^ 64 }
+    ensures bytes { Gives told_fault (λ l. l) (S.left source.old) (S.left source.new) place.old place.new result (alpha_at alpha (alpha_count alpha slice.now) size) }
+    ensures count { IfOk result (λ l. length l ≡ alpha_count alpha slice.now) }
+    ensures values { IfOk result (All (λ value. value < 2 ^ alpha_depth alpha)) }
+    ensures place { OnOk result (place.new ≤ place.old + size) }
+    ensures most { Lowers (S.most source.old) (S.most source.new) 0 }
+    ensures becomes { GoesOn S.becomes source.old source.new }
+    ensures cause { CountsFault (S.faults source.old) (S.faults source.new) (is_failed result) }
+{
+    match alpha {
+        AlphaKind::Absent => Ok(AlphaValues::from_vec(Vec::new(alloc))),
+        AlphaKind::Eight => read_values(alloc, source, place, size, 8, slice),
+        AlphaKind::Sixteen => read_values(alloc, source, place, size, 16, slice),
+    }
 }

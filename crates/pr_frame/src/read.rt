@@ -2,30 +2,27 @@
 
 ghost use Rattle.std.specs.Prelude.{◌≡◌, ◌+◌, ◌*◌, ◌<◌, ◌≤◌, ◌^◌, ◌==◌, List, ℕ, length, sum, take, drop, IfOk, IfErr, OnOk, IfSome, IsSome, None, Some, ◌-◌};
 ghost use Rattle.std.specs.List.{All};
-ghost use Rattle.std.specs.Bool.{OnTrue};
 ghost use Rattle.pw_outside.specs.Ports.{CountsFault, Lowers, GoesOn};
 ghost use Rattle.pw_outside.specs.Reading.{Gives, Told, bytes_of};
-ghost use Rattle.pw_planes.specs.declared.kinds.AlphaKind.TheVariants.{Absent};
 ghost use Rattle.pr_geom.specs.Slices.{pictures_of};
 ghost use Rattle.pr_geom.specs.Layout.{IsLayoutOf};
 ghost use Rattle.pr_head.specs.Faults.{told_fault, is_failed};
 ghost use Rattle.pr_head.specs.Header.{HasLayoutSize, IsHeader, header_at};
 ghost use Rattle.pr_head.specs.Picture.{IsPicture, picture_at, table_at, picture_size};
-ghost use Rattle.pr_frame.specs.Forms.{IsOpaque, is_opaque};
 ghost use Rattle.pr_frame.specs.Coded.{IsCodedPicture, IsCodedFrame};
 ghost use Rattle.pr_frame.specs.Reading.{coded_picture_at, coded_pictures_at, frame_at, frame_fault};
-ghost use Rattle.pr_frame.specs.Laws.{StandsOpaque};
+ghost use Rattle.pr_frame.specs.Stands.{FrameStands};
 
 use crate::coded::{CodedFrame, CodedPicture, CodedPictures};
 use crate::parts::pass;
 use crate::slices::read_slices;
 use pr_geom::Layout;
 use pr_head::{
-    FrameFault, FrameHeader, FrameKind, PictureHeader, read_frame_header, read_picture_header,
+    FrameFault, FrameHeader, PictureHeader, read_frame_header, read_picture_header,
     read_slice_sizes,
 };
 use pw_outside::ByteSource;
-use pw_planes::{AlphaKind, Interlace};
+use pw_planes::Interlace;
 use std::alloc::Global;
 
 /// Reads the header of the picture that begins here, in a frame of `frame` bytes.
@@ -101,7 +98,6 @@ fn read_picture<S: ByteSource>(
     frame: u32,
     header: &FrameHeader,
 ) -> Result<CodedPicture, FrameFault>
-    requires alpha { header.now.alpha ≡ Absent }
     requires header { HasLayoutSize header.now }
     requires room { place.old ≤ frame }
     ensures bytes { Told (S.left source.old) (λ bytes. frame ≤ place.old + length bytes) → Gives told_fault (λ x. x) (S.left source.old) (S.left source.new) place.old place.new result (coded_picture_at frame header.now) }
@@ -132,7 +128,6 @@ fn read_pictures<S: ByteSource>(
     frame: u32,
     header: &FrameHeader,
 ) -> Result<CodedPictures, FrameFault>
-    requires alpha { header.now.alpha ≡ Absent }
     requires header { HasLayoutSize header.now }
     requires room { place.old ≤ frame }
     ensures bytes { Told (S.left source.old) (λ bytes. frame ≤ place.old + length bytes) → Gives told_fault (λ x. x) (S.left source.old) (S.left source.new) place.old place.new result (coded_pictures_at count frame header.now) }
@@ -160,17 +155,6 @@ fn pictures_in(interlace: Interlace) -> u8
     }
 }
 
-/// Whether a frame is without alpha.
-fn is_opaque(header: &FrameHeader) -> bool
-    ensures value { result ≡ is_opaque header.now }
-    ensures opaque { OnTrue result (IsOpaque header.now) }
-{
-    match header.alpha {
-        AlphaKind::Absent => true,
-        AlphaKind::Eight | AlphaKind::Sixteen => false,
-    }
-}
-
 /// Reads the frame at the front of a sample of `size` bytes.
 #[tactic(auto, using(pr_head::proofs::Bounds::lowers_then))]
 fn frame_from<S: ByteSource>(
@@ -183,19 +167,12 @@ fn frame_from<S: ByteSource>(
     requires bytes { Told (S.left source.old) (λ bytes. size ≤ length bytes) }
     ensures bytes { Gives told_fault (λ x. x) (S.left source.old) (S.left source.new) place.old place.new result (frame_at size) }
     ensures coded { IfOk result IsCodedFrame }
-    ensures opaque { IfOk result (λ f. IsOpaque f.header) }
     ensures most { Lowers (S.most source.old) (S.most source.new) 0 }
     ensures becomes { GoesOn S.becomes source.old source.new }
     ensures cause { CountsFault (S.faults source.old) (S.faults source.new) (is_failed result) }
 {
     let (header, taken, frame) = read_frame_header(source, size)?;
     *place = u64::from(taken);
-    if !is_opaque(&header) {
-        return Err(FrameFault::Bad {
-            kind: FrameKind::NotBuilt,
-            place: 20,
-        });
-    }
     let count = pictures_in(header.interlace);
     let pictures = read_pictures(alloc, source, place, count, frame, &header)?;
     Ok(CodedFrame { header, pictures })
@@ -204,8 +181,8 @@ fn frame_from<S: ByteSource>(
 /// Reads the coded frame for which a sample of `size` bytes stands. The source holds the sample.
 ///
 /// The errors are `Bad` with the first fault of the sample and its place, counted from the sample's first byte; `Failed`
-/// where a call of the source failed; and `NoMemory`. Frames with alpha, whose values
-/// aren't read yet, are `Bad` with `NotBuilt`, place 20. Of a source that doesn't tell its bytes, what is answered has the counts of its header's layout.
+/// where a call of the source failed; and `NoMemory`. Of a source that doesn't tell its bytes, what is answered has the
+/// counts of its header's layout.
 pub fn read_frame<S: ByteSource>(
     alloc: Global,
     source: &mut S,
@@ -214,12 +191,11 @@ pub fn read_frame<S: ByteSource>(
     // Where the source tells its bytes, they are the sample.
     requires { Told (S.left source.old) (λ bytes. length bytes ≡ size) }
     // Where the source tells its bytes, the sample stands for the frame that is answered.
-    ensures stands { IfOk result (λ f. Told (S.left source.old) (λ sample. StandsOpaque sample f)) }
+    ensures stands { IfOk result (λ f. Told (S.left source.old) (λ sample. FrameStands sample f)) }
     // Where it tells them, a fault that is answered is the sample's first.
     ensures fault { IfErr result (λ e. Told (S.left source.old) (λ sample. IfSome (told_fault e) (λ fault. frame_fault sample ≡ Some fault))) }
-    // What is answered is a coded frame without alpha.
+    // What is answered is a coded frame.
     ensures coded { IfOk result IsCodedFrame }
-    ensures opaque { IfOk result (λ f. IsOpaque f.header) }
     ensures told { IsSome (S.left source.old) → OnOk result (IsSome (S.left source.new)) }
     ensures most { Lowers (S.most source.old) (S.most source.new) 0 }
     ensures becomes { GoesOn S.becomes source.old source.new }

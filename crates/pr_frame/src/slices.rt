@@ -1,23 +1,25 @@
 //! The slices of a picture, read.
 
-ghost use Rattle.std.specs.Prelude.{◌≡◌, ◌+◌, ◌<◌, ◌≤◌, ◌^◌, [], length, sum, IfOk, OnOk, false};
+ghost use Rattle.std.specs.Prelude.{◌≡◌, ◌+◌, ◌<◌, ◌≤◌, ◌^◌, length, sum, IfOk, OnOk};
+ghost use Rattle.std.specs.List.{All};
 ghost use Rattle.pw_outside.specs.Ports.{CountsFault, Lowers, GoesOn};
 ghost use Rattle.pw_outside.specs.Reading.{Gives, Told};
-ghost use Rattle.pw_planes.specs.declared.kinds.AlphaKind.TheVariants.{Absent};
 ghost use Rattle.pr_geom.specs.declared.places.TheConstants.{MAX_SLICES};
-ghost use Rattle.pr_geom.specs.Layout.{IsLayoutOf, IsSlice, slices_of};
+ghost use Rattle.pr_geom.specs.Layout.{IsLayoutOf, IsSlice, IsInside, slices_of};
 ghost use Rattle.pr_geom.specs.Blocks.{blocks_of};
 ghost use Rattle.pr_geom.specs.declared.places.Part.TheVariants.{Y, Cb, Cr};
 ghost use Rattle.pr_head.specs.Faults.{told_fault, is_failed};
 ghost use Rattle.pr_head.specs.Slice.{slice_at, IsSliceHeader};
+ghost use Rattle.pr_frame.specs.Forms.{has_alpha, alpha_count, alpha_depth};
 ghost use Rattle.pr_frame.specs.Coded.{IsCodedSlice, AreCodedSlices};
 ghost use Rattle.pr_frame.specs.Reading.{components_at, coded_slice_at, coded_slices_at};
 
-use crate::coded::{AlphaValues, CodedSlice, CodedSlices};
-use crate::parts::read_part;
+use crate::coded::{CodedSlice, CodedSlices};
+use crate::parts::{has_alpha, read_alpha_part, read_part};
 use pr_geom::{Layout, Part, SlicePlace};
 use pr_head::{FrameFault, FrameHeader, SliceHeader, read_slice_header};
 use pw_outside::ByteSource;
+use pw_planes::AlphaKind;
 use std::alloc::Global;
 
 /// Reads the header of the slice that has the next `size` bytes.
@@ -25,21 +27,22 @@ fn slice_header<S: ByteSource>(
     source: &mut S,
     place: &mut u64,
     size: u16,
+    alpha: AlphaKind,
 ) -> Result<SliceHeader, FrameFault>
     requires { place.old + size < 2 ^ 32 }
-    ensures bytes { Told (S.left source.old) (λ bytes. size ≤ length bytes) → Gives told_fault (λ x. x) (S.left source.old) (S.left source.new) place.old place.new result (slice_at size false) }
+    ensures bytes { Told (S.left source.old) (λ bytes. size ≤ length bytes) → Gives told_fault (λ x. x) (S.left source.old) (S.left source.new) place.old place.new result (slice_at size (has_alpha alpha)) }
     ensures place { IfOk result (λ r. place.new ≡ place.old + r.header) }
-    ensures slice { IfOk result (IsSliceHeader size false) }
+    ensures slice { IfOk result (IsSliceHeader size (has_alpha alpha)) }
     ensures most { Lowers (S.most source.old) (S.most source.new) 0 }
     ensures becomes { GoesOn S.becomes source.old source.new }
     ensures cause { CountsFault (S.faults source.old) (S.faults source.new) (is_failed result) }
 {
-    let header = read_slice_header(source, *place as u32, size, false)?;
+    let header = read_slice_header(source, *place as u32, size, has_alpha(alpha))?;
     *place += u64::from(header.header);
     Ok(header)
 }
 
-/// Reads the components of the slice at this place of the layout, whose header was read.
+/// Reads the components of the slice at this place of the layout, whose header was read, with alpha values of this kind.
 #[tactic(auto, using(pr_head::proofs::Bounds::lowers_then), unfolding(crate::specs::Reading::components_at, pw_outside::specs::Reading::bind))]
 fn read_components<S: ByteSource>(
     alloc: Global,
@@ -47,17 +50,20 @@ fn read_components<S: ByteSource>(
     place: &mut u64,
     head: &SliceHeader,
     layout: &Layout,
+    alpha: AlphaKind,
     slice: &SlicePlace,
 ) -> Result<CodedSlice, FrameFault>
     requires slice { IsSlice layout.now slice.now }
-    requires room { place.old + head.now.y + head.now.cb + head.now.cr < 2 ^ 32 }
-    ensures bytes { (h : FrameHeader) → h.interlace ≡ layout.now.interlace → h.chroma ≡ layout.now.chroma → Gives told_fault (λ x. x) (S.left source.old) (S.left source.new) place.old place.new result (λ s. components_at h slice.now (head.now, s)) }
+    requires inside { IsInside layout.now slice.now }
+    requires room { place.old + head.now.y + head.now.cb + head.now.cr + head.now.alpha < 2 ^ 32 }
+    ensures bytes { (h : FrameHeader) → h.interlace ≡ layout.now.interlace → h.chroma ≡ layout.now.chroma → h.alpha ≡ alpha → Gives told_fault (λ x. x) (S.left source.old) (S.left source.new) place.old place.new result (λ s. components_at h slice.now (head.now, s)) }
     ensures index { IfOk result (λ x. x.index ≡ head.now.index) }
     ensures y { IfOk result (λ x. length x.y ≡ length (blocks_of layout.now.chroma Y slice.now)) }
     ensures cb { IfOk result (λ x. length x.cb ≡ length (blocks_of layout.now.chroma Cb slice.now)) }
     ensures cr { IfOk result (λ x. length x.cr ≡ length (blocks_of layout.now.chroma Cr slice.now)) }
-    ensures alpha { IfOk result (λ x. x.alpha ≡ []) }
-    ensures place { OnOk result (place.new ≡ place.old + head.now.y + head.now.cb + head.now.cr) }
+    ensures alpha { IfOk result (λ x. length x.alpha ≡ alpha_count alpha slice.now) }
+    ensures values { IfOk result (λ x. All (λ value. value < 2 ^ alpha_depth alpha) x.alpha) }
+    ensures place { OnOk result (place.new ≤ place.old + head.now.y + head.now.cb + head.now.cr + head.now.alpha) }
     ensures most { Lowers (S.most source.old) (S.most source.new) 0 }
     ensures becomes { GoesOn S.becomes source.old source.new }
     ensures cause { CountsFault (S.faults source.old) (S.faults source.new) (is_failed result) }
@@ -65,7 +71,7 @@ fn read_components<S: ByteSource>(
     let y = read_part(alloc, source, place, head.y, layout, slice, Part::Y)?;
     let cb = read_part(alloc, source, place, head.cb, layout, slice, Part::Cb)?;
     let cr = read_part(alloc, source, place, head.cr, layout, slice, Part::Cr)?;
-    let alpha = AlphaValues::from_vec(Vec::new(alloc));
+    let alpha = read_alpha_part(alloc, source, place, head.alpha, alpha, slice)?;
     Ok(CodedSlice {
         index: head.index,
         y,
@@ -86,9 +92,9 @@ fn read_slice<S: ByteSource>(
     layout: &Layout,
     slice: &SlicePlace,
 ) -> Result<CodedSlice, FrameFault>
-    requires alpha { header.now.alpha ≡ Absent }
     requires layout { IsLayoutOf layout.now header.now.width header.now.height layout.now.log2 header.now.interlace header.now.chroma }
     requires slice { IsSlice layout.now slice.now }
+    requires inside { IsInside layout.now slice.now }
     requires room { place.old + size < 2 ^ 32 }
     ensures bytes { Told (S.left source.old) (λ bytes. size ≤ length bytes) → Gives told_fault (λ x. x) (S.left source.old) (S.left source.new) place.old place.new result (coded_slice_at header.now slice.now size) }
     ensures slice { IfOk result (IsCodedSlice header.now slice.now) }
@@ -97,8 +103,8 @@ fn read_slice<S: ByteSource>(
     ensures becomes { GoesOn S.becomes source.old source.new }
     ensures cause { CountsFault (S.faults source.old) (S.faults source.new) (is_failed result) }
 {
-    let head = slice_header(source, place, size)?;
-    read_components(alloc, source, place, &head, layout, slice)
+    let head = slice_header(source, place, size, header.alpha)?;
+    read_components(alloc, source, place, &head, layout, header.alpha, slice)
 }
 
 /// Reads the slices of a picture with this layout, which have these sizes. The layout is that of a frame with this header.
@@ -111,7 +117,6 @@ pub(crate) fn read_slices<S: ByteSource>(
     header: &FrameHeader,
     layout: &Layout,
 ) -> Result<CodedSlices, FrameFault>
-    requires alpha { header.now.alpha ≡ Absent }
     requires layout { IsLayoutOf layout.now header.now.width header.now.height layout.now.log2 header.now.interlace header.now.chroma }
     requires count { length sizes.now ≡ length (slices_of layout.now) }
     requires few { length sizes.now ≤ MAX_SLICES }

@@ -113,9 +113,9 @@ fn faults_have_their_places(rt: HostRuntime) {
         (&[(20, 0x8c)], 178, 0, Some((FrameKind::Interlace, 20))),
         (&[], 27, 0, Some((FrameKind::FrameShort, 0))),
         (&[], 177, 0, Some((FrameKind::FrameSize, 0))),
-        // alpha, whose values aren't read yet, and what comes before it
-        (&[(25, 1)], 178, 0, Some((FrameKind::NotBuilt, 20))),
-        (&[(25, 2)], 178, 0, Some((FrameKind::NotBuilt, 20))),
+        // alpha, whose slices have a longer header, and what comes before it
+        (&[(25, 1)], 178, 0, Some((FrameKind::SliceHeader, 166))),
+        (&[(25, 2)], 178, 0, Some((FrameKind::SliceHeader, 166))),
         (
             &[(20, 0x84), (19, 17)],
             178,
@@ -126,7 +126,7 @@ fn faults_have_their_places(rt: HostRuntime) {
             &[(25, 1), (156, 0)],
             178,
             0,
-            Some((FrameKind::NotBuilt, 20)),
+            Some((FrameKind::PictureHeader, 156)),
         ),
         (
             &[(20, 0xc0), (16, 0x21)],

@@ -4,4 +4,4 @@ use Rattle.pr_frame.proofs.WrittenAgain.{frame-written}
 use Rattle.pr_frame.proofs.laws.written_stands.Goals as goal
 
 pub returns : goal.returns
-returns c = λ f has w. (frame-found (written f) f (frame-written f has w)).stands
+returns c = λ f has w. frame-found (written f) f (frame-written f has w)

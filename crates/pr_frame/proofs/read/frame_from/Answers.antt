@@ -1,12 +1,11 @@
-use Rattle.std.proofs.Common.{◌≡◌, ◌+◌, ◌≤◌, ◌∙◌, Ok, true, false, sym, subst, length}
+use Rattle.std.proofs.Common.{◌≡◌, ◌+◌, ◌≤◌, Ok, subst, length}
 use Rattle.std.proofs.lemmas.Result.{err_from_is_err_and}
 use Rattle.std.specs.Prelude.{IsSome}
 use Rattle.pw_outside.specs.Reading.{rest_of, bytes_of, Fails}
 use Rattle.pr_head.specs.Faults.{told_fault}
 use Rattle.pr_head.specs.Header.{Opened, header_at}
-use Rattle.pr_frame.specs.Forms.{is_opaque}
 use Rattle.pr_frame.specs.Reading.{coded_pictures_at}
-use Rattle.pr_frame.proofs.FrameSteps.{frame-head-fails, frame-alpha, frame-pictures-fails, frame-value, head-at, head-room}
+use Rattle.pr_frame.proofs.FrameSteps.{frame-head-fails, frame-pictures-fails, frame-value, head-at, head-room}
 use Rattle.pr_frame.proofs.read.frame_from.Goals as goal
 
 pub returns-in_err-header-clause-bytes : goal.returns-in_err-header-clause-bytes
@@ -17,16 +16,6 @@ returns-in_err-header-clause-bytes g c =
       answer = λ h. frame-head-fails c.args.size (rest_of c.args.place.now (g.S.ByteSource.left c.args.source.now)) c.in_err-header.field-0.0 ((c.in_err-header.ensures.bytes.answer h).1);
     })
 
-pub returns-then-not-is_opaque-clause-bytes : goal.returns-then-not-is_opaque-clause-bytes
-returns-then-not-is_opaque-clause-bytes g c =
-    let o : Opened = record { header = c.in_ok-header.header; taken = c.in_ok-header.taken; size = c.in_ok-header.frame } in
-    let s = rest_of c.args.place.now (g.S.ByteSource.left c.args.source.now) in
-    let no : is_opaque c.in_ok-header.header ≡ false = sym c.is_opaque.ensures.value ∙ c.if-not-is_opaque.true in
-    record {
-      told = λ h. tt;
-      answer = λ h. let a = c.in_ok-header.ensures.bytes.answer h in frame-alpha c.args.size s o (rest_of a.0 (g.S.ByteSource.left c.read_frame_header.new.source)) a.1 no;
-    }
-
 pub returns-in_err-pictures-clause-bytes : goal.returns-in_err-pictures-clause-bytes
 returns-in_err-pictures-clause-bytes g c =
     let p = err_from_is_err_and c.from_residual-in_err-pictures.result c.from_residual-in_err-pictures.ensures.1 in
@@ -35,7 +24,6 @@ returns-in_err-pictures-clause-bytes g c =
     let new = g.S.ByteSource.left c.read_frame_header.new.source in
     let s = rest_of c.args.place.now left in
     let t = rest_of c.from.result new in
-    let yes : is_opaque c.in_ok-header.header ≡ true = sym c.is_opaque.ensures.value ∙ c.if-not-is_opaque.false in
     let fault = c.in_err-pictures.field-0.0 in
     rw (p.1, p.2) (record {
       told = λ h. tt;
@@ -43,7 +31,7 @@ returns-in_err-pictures-clause-bytes g c =
           let a = c.in_ok-header.ensures.bytes.answer h in
           let head = head-at c.args.size left new o a.0 c.from.result a.1 c.from.ensures in
           let room = head-room c.args.size left new o c.from.result head c.in_ok-header.ensures.size (c.requires.bytes h) in
-          frame-pictures-fails c.args.size s o t head fault yes
+          frame-pictures-fails c.args.size s o t head fault
           (subst (λ n. Fails told_fault fault (coded_pictures_at n o.size o.header t)) c.pictures_in-count.ensures ((c.in_err-pictures.ensures.bytes (λ k. room)).answer (c.in_ok-header.ensures.bytes.told h)));
     })
 
@@ -56,11 +44,10 @@ returns-clause-bytes g c =
     let t = rest_of c.from.result new in
     let u = rest_of c.read_pictures.new.place (g.S.ByteSource.left c.read_pictures.new.source) in
     let xs = c.in_ok-pictures.pictures in
-    let yes : is_opaque c.in_ok-header.header ≡ true = sym c.is_opaque.ensures.value ∙ c.if-not-is_opaque.false in
     let head : (h : IsSome left) → header_at c.args.size (bytes_of left) ≡ Ok (o, t) = λ h. let a = c.in_ok-header.ensures.bytes.answer h in head-at c.args.size left new o a.0 c.from.result a.1 c.from.ensures in
     let room : (h : IsSome left) → o.size ≤ c.from.result + length (bytes_of new) = λ h. head-room c.args.size left new o c.from.result (head h) c.in_ok-header.ensures.size (c.requires.bytes h) in
     record {
       told = λ h. (c.in_ok-pictures.ensures.bytes (λ k. room h)).told (c.in_ok-header.ensures.bytes.told h);
-      answer = λ h. frame-value c.args.size s o t (head h) xs u yes
+      answer = λ h. frame-value c.args.size s o t (head h) xs u
           (subst (λ n. coded_pictures_at n o.size o.header t ≡ Ok (xs, u)) c.pictures_in-count.ensures ((c.in_ok-pictures.ensures.bytes (λ k. room h)).answer (c.in_ok-header.ensures.bytes.told h)));
     }

@@ -100,7 +100,7 @@ returns-clause-bytes g c = λ enough.
           let read : coded_slices_at hd (places_in hd r.log2) sizes t2 ≡ Ok (xs, t3) =
           subst (λ zs. coded_slices_at hd (places_in hd r.log2) zs t2 ≡ Ok (xs, t3)) same (subst (λ ps. coded_slices_at hd ps c.deref.result.now t2 ≡ Ok (xs, t3)) (layout-places l hd r.log2 is) (third.answer (told2 h))) in
           let size : length sizes ≡ length (places_in hd r.log2) = c.in_ok-sizes.ensures.count ∙ c.slices.ensures.value ∙ ap length (layout-places l hd r.log2 is) in
-          let rest = slices-rest hd (places_in hd r.log2) sizes t2 xs t3 c.requires.alpha size read
+          let rest = slices-rest hd (places_in hd r.log2) sizes t2 xs t3 size read
           ∙ ap (ahead (sum sizes)) (behind-table F hd s r t1 head sizes t2 table) ∙ ahead-ahead (sum sizes) (r.header + 2 * slices_in hd r) s in
           let end = picture-end s t3 (r.header + 2 * slices_in hd r + sum sizes) r.size c.read_slices.new.place (g.S.ByteSource.left c.read_slices.new.source) new rest refl
           (omega (arith, c.in_ok-sizes.ensures.within, c.in_ok-sizes.ensures.count, count)) (subst (λ z. bytes_of new ≡ drop (c.args.place.now + z - c.read_slices.new.place) (bytes_of (g.S.ByteSource.left c.read_slices.new.source))) c.from.ensures (c.in_ok-pass_to.ensures.bytes (third.told (told2 h)))) in

@@ -53,7 +53,7 @@ loop-number-preserved g c =
       told = λ e h. (c.in_ok-coded.ensures.bytes (λ k. omega (arith, i.more e h, step))).told (i.told e h);
       bytes = λ e h. slices-more c.args.header.now places c.args.sizes.now n c.slice-slice.result size s _ in_places lt c.slice-slice.ensures.value refl c.loop-number.slices.items x t
           ((c.in_ok-coded.ensures.bytes (λ k. omega (arith, i.more e h, step))).answer (i.told e h)) (i.bytes e h);
-      more = λ e h. omega (arith, i.more e h, step, ahead-length size s t (coded-rest c.args.header.now c.slice-slice.result size s x t c.requires.alpha ((c.in_ok-coded.ensures.bytes (λ k. omega (arith, i.more e h, step))).answer (i.told e h))));
+      more = λ e h. omega (arith, i.more e h, step, ahead-length size s t (coded-rest c.args.header.now c.slice-slice.result size s x t ((c.in_ok-coded.ensures.bytes (λ k. omega (arith, i.more e h, step))).answer (i.told e h))));
       slices = coded-more c.args.header.now places c.loop-number.slices.items n c.slice-slice.result x in_places c.slice-slice.ensures.value i.slices c.in_ok-coded.ensures.slice;
       most = lowers_then _ _ _ _ _ i.most c.in_ok-coded.ensures.most;
       becomes = λ first h. c.in_ok-coded.ensures.becomes first (i.becomes first h);
