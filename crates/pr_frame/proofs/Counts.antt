@@ -19,6 +19,7 @@ use Rattle.pr_frame.specs.Forms.{places_in, block_count}
 pub record HasBlocksOf (h : FrameHeader) (place : SlicePlace) : Type 0 where
   pub some : (part : Part) → 0 < block_count h place part
   pub few : (part : Part) → block_count h place part ≤ 32
+  pub wide : 0 < place.width
   pub narrow : place.width ≤ 8
 
 abbrev pub AllHave : FrameHeader → List SlicePlace → Type 0
@@ -39,6 +40,7 @@ pub have-blocks : (h : FrameHeader) (place : SlicePlace) → 0 < place.width →
 have-blocks h place some few = record {
   some = λ part. omega (arith, (count-is h place part).0);
   few = λ part. omega (arith, (count-is h place part).1);
+  wide = some;
   narrow = few;
 }
 

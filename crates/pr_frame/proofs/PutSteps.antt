@@ -1,12 +1,12 @@
 -- Slices, pictures and frames, written piece by piece.
-use Rattle.std.proofs.Common.{◌≡◌, ℕ, zero, suc, ◌+◌, ◌<◌, ◌≤◌, false, List, [], ◌∷◌, ◌++◌, length, take, drop, get_or, map, sum, Result, Ok, Err, refl, sym, ap, ◌∙◌, subst, arith, append_assoc}
+use Rattle.std.proofs.Common.{◌≡◌, ℕ, zero, suc, ◌+◌, ◌<◌, ◌≤◌, Bool, List, [], ◌∷◌, ◌++◌, length, take, drop, get_or, map, sum, Result, Ok, Err, refl, sym, ap, ◌∙◌, subst, arith, append_assoc}
 use Rattle.std.specs.Prelude.{OnOk, OnErr}
 use Rattle.std.specs.List.{flat_map}
 use Rattle.std.specs.Int.{w16, to_be_bytes}
 use Rattle.std.proofs.lemmas.List.{take_more, append-nil, take_all, take-append-drop}
 use Rattle.pw_outside.specs.Writing.{SinkState, Puts, PutsFront, PutsPart}
 use Rattle.pw_outside.proofs.Puts.{puts_then, part_front, front_more, then_front}
-use Rattle.pw_planes.specs.declared.kinds.AlphaKind.TheVariants.{Absent}
+use Rattle.pw_planes.specs.declared.kinds.AlphaKind.{AlphaKind}
 use Rattle.pw_planes.specs.declared.kinds.Interlace.{Interlace}
 use Rattle.pr_coeff.specs.Component.{Block}
 use Rattle.pr_head.specs.declared.slice.SliceHeader.{SliceHeader}
@@ -18,7 +18,8 @@ use Rattle.pr_frame.specs.declared.coded.CodedSlice.{CodedSlice}
 use Rattle.pr_frame.specs.declared.coded.CodedPicture.{CodedPicture}
 use Rattle.pr_frame.specs.declared.coded.CodedFrame.{CodedFrame}
 use Rattle.pr_frame.proofs.SliceLoop.{sum-front}
-use Rattle.pr_frame.specs.Written.{component_bytes, slice_header_of, slice_bytes, slice_length, picture_length, picture_bytes, frame_length_of, written}
+use Rattle.pr_frame.specs.Forms.{has_alpha}
+use Rattle.pr_frame.specs.Written.{component_bytes, alpha_bytes, slice_header_of, slice_bytes, slice_length, picture_length, picture_bytes, frame_length_of, written}
 
 pub on-ok : {X E P Q : Type 0} (r : Result X E) → (P → Q) → OnOk r P → OnOk r Q
 on-ok (Ok x) f p = f p
@@ -30,25 +31,33 @@ on-err (Err e) f p = f p
 
 -- ---- a slice
 
-module _ (mode : Interlace) (s : CodedSlice) (head : SliceHeader) (y cb cr : List Block) (head_is : head ≡ slice_header_of mode Absent s) (y_is : y ≡ s.y) (cb_is : cb ≡ s.cb) (cr_is : cr ≡ s.cr) where
-  all : slice_header_bytes head false ++ component_bytes mode y ++ component_bytes mode cb ++ component_bytes mode cr ≡ slice_bytes mode Absent s
+module _ (mode : Interlace) (alpha : AlphaKind) (s : CodedSlice) (head : SliceHeader) (flag : Bool) (head_is : head ≡ slice_header_of mode alpha s) (flag_is : flag ≡ has_alpha alpha) where
+  all : slice_header_bytes head flag ++ component_bytes mode s.y ++ component_bytes mode s.cb ++ component_bytes mode s.cr ++ alpha_bytes alpha s.alpha ≡ slice_bytes mode alpha s
   unfolding slice_bytes
-  all = λ j. slice_header_bytes (head_is j) false ++ component_bytes mode (y_is j) ++ component_bytes mode (cb_is j) ++ component_bytes mode (cr_is j)
+  all = λ j. slice_header_bytes (head_is j) (flag_is j) ++ component_bytes mode s.y ++ component_bytes mode s.cb ++ component_bytes mode s.cr ++ alpha_bytes alpha s.alpha
 
-  pub slice-puts : {a b c d e : SinkState} → Puts a b (slice_header_bytes head false) → Puts b c (component_bytes mode y) → Puts c d (component_bytes mode cb) → Puts d e (component_bytes mode cr) → Puts a e (slice_bytes mode Absent s)
-  slice-puts {a} {b} {c} {d} {e} p q r t = subst (Puts a e) all (puts_then (puts_then (puts_then p q) r) t)
+  pub slice-puts : {a b c d e f : SinkState} → Puts a b (slice_header_bytes head flag) → Puts b c (component_bytes mode s.y) → Puts c d (component_bytes mode s.cb) → Puts d e (component_bytes mode s.cr) → Puts e f (alpha_bytes alpha s.alpha) → Puts a f (slice_bytes mode alpha s)
+  slice-puts {a} {b} {c} {d} {e} {f} p q r t u = subst (Puts a f) all (puts_then (puts_then (puts_then (puts_then p q) r) t) u)
 
-  pub slice-head : {a b : SinkState} → PutsPart a b (slice_header_bytes head false) → PutsFront a b (slice_bytes mode Absent s)
-  slice-head {a} {b} p = subst (PutsFront a b) all (front_more (component_bytes mode cr) (front_more (component_bytes mode cb) (front_more (component_bytes mode y) (part_front p))))
+  pub slice-head : {a b : SinkState} → PutsPart a b (slice_header_bytes head flag) → PutsFront a b (slice_bytes mode alpha s)
+  slice-head {a} {b} p = subst (PutsFront a b) all (front_more (alpha_bytes alpha s.alpha) (front_more (component_bytes mode s.cr) (front_more (component_bytes mode s.cb) (front_more (component_bytes mode s.y) (part_front p)))))
 
-  pub slice-y : {a b c : SinkState} → Puts a b (slice_header_bytes head false) → PutsFront b c (component_bytes mode y) → PutsFront a c (slice_bytes mode Absent s)
-  slice-y {a} {b} {c} p q = subst (PutsFront a c) all (front_more (component_bytes mode cr) (front_more (component_bytes mode cb) (then_front p q)))
+  pub slice-y : {a b c : SinkState} → Puts a b (slice_header_bytes head flag) → PutsFront b c (component_bytes mode s.y) → PutsFront a c (slice_bytes mode alpha s)
+  slice-y {a} {b} {c} p q = subst (PutsFront a c) all (front_more (alpha_bytes alpha s.alpha) (front_more (component_bytes mode s.cr) (front_more (component_bytes mode s.cb) (then_front p q))))
 
-  pub slice-cb : {a b c d : SinkState} → Puts a b (slice_header_bytes head false) → Puts b c (component_bytes mode y) → PutsFront c d (component_bytes mode cb) → PutsFront a d (slice_bytes mode Absent s)
-  slice-cb {a} {b} {c} {d} p q r = subst (PutsFront a d) all (front_more (component_bytes mode cr) (then_front (puts_then p q) r))
+  pub slice-cb : {a b c d : SinkState} → Puts a b (slice_header_bytes head flag) → Puts b c (component_bytes mode s.y) → PutsFront c d (component_bytes mode s.cb) → PutsFront a d (slice_bytes mode alpha s)
+  slice-cb {a} {b} {c} {d} p q r = subst (PutsFront a d) all (front_more (alpha_bytes alpha s.alpha) (front_more (component_bytes mode s.cr) (then_front (puts_then p q) r)))
 
-  pub slice-cr : {a b c d e : SinkState} → Puts a b (slice_header_bytes head false) → Puts b c (component_bytes mode y) → Puts c d (component_bytes mode cb) → PutsFront d e (component_bytes mode cr) → PutsFront a e (slice_bytes mode Absent s)
-  slice-cr {a} {b} {c} {d} {e} p q r t = subst (PutsFront a e) all (then_front (puts_then (puts_then p q) r) t)
+  pub slice-cr : {a b c d e : SinkState} → Puts a b (slice_header_bytes head flag) → Puts b c (component_bytes mode s.y) → Puts c d (component_bytes mode s.cb) → PutsFront d e (component_bytes mode s.cr) → PutsFront a e (slice_bytes mode alpha s)
+  slice-cr {a} {b} {c} {d} {e} p q r t = subst (PutsFront a e) all (front_more (alpha_bytes alpha s.alpha) (then_front (puts_then (puts_then p q) r) t))
+
+  pub slice-alpha : {a b c d e f : SinkState} → Puts a b (slice_header_bytes head flag) → Puts b c (component_bytes mode s.y) → Puts c d (component_bytes mode s.cb) → Puts d e (component_bytes mode s.cr) → PutsFront e f (alpha_bytes alpha s.alpha) → PutsFront a f (slice_bytes mode alpha s)
+  slice-alpha {a} {b} {c} {d} {e} {f} p q r t u = subst (PutsFront a f) all (then_front (puts_then (puts_then (puts_then p q) r) t) u)
+
+-- a slice of these parts
+pub slice-of : (mode : Interlace) (alpha : AlphaKind) (s : CodedSlice) (y cb cr : List Block) (l : List ℕ) → y ≡ s.y → cb ≡ s.cb → cr ≡ s.cr → l ≡ s.alpha
+    → slice_bytes mode alpha (record { index = s.index; y = y; cb = cb; cr = cr; alpha = l }) ≡ slice_bytes mode alpha s
+slice-of mode alpha s y cb cr l a b c d = λ j. slice_bytes mode alpha (record { index = s.index; y = a j; cb = b j; cr = c j; alpha = d j })
 
 -- ---- three pieces, as a picture has
 
@@ -65,10 +74,10 @@ module _ (x y z whole : List ℕ) (is : x ++ y ++ z ≡ whole) where
   pub three-third : {a b c d : SinkState} → Puts a b x → Puts b c y → PutsFront c d z → PutsFront a d whole
   three-third {a} {b} {c} {d} p q r = subst (PutsFront a d) is (then_front (puts_then p q) r)
 
-pub picture-whole : (mode : Interlace) (p : CodedPicture) (size count : ℕ) (slices : List CodedSlice) → size ≡ picture_length mode Absent p → count ≡ length p.slices → slices ≡ p.slices
-    → picture_header_bytes size count p.log2 ++ sizes_bytes (map (slice_length mode Absent) slices) ++ flat_map (slice_bytes mode Absent) slices ≡ picture_bytes mode Absent p
+pub picture-whole : (mode : Interlace) (alpha : AlphaKind) (p : CodedPicture) (size count : ℕ) (slices : List CodedSlice) → size ≡ picture_length mode alpha p → count ≡ length p.slices → slices ≡ p.slices
+    → picture_header_bytes size count p.log2 ++ sizes_bytes (map (slice_length mode alpha) slices) ++ flat_map (slice_bytes mode alpha) slices ≡ picture_bytes mode alpha p
 unfolding picture_bytes
-picture-whole mode p size count slices e f g = λ j. picture_header_bytes (e j) (f j) p.log2 ++ sizes_bytes (map (slice_length mode Absent) (g j)) ++ flat_map (slice_bytes mode Absent) (g j)
+picture-whole mode alpha p size count slices e f g = λ j. picture_header_bytes (e j) (f j) p.log2 ++ sizes_bytes (map (slice_length mode alpha) (g j)) ++ flat_map (slice_bytes mode alpha) (g j)
 
 -- ---- a list, one behind the other
 
@@ -115,18 +124,18 @@ module _ (f : CodedSlice → ℕ) (xs : List CodedSlice) (i : ℕ) where
 
 -- ---- a frame
 
-module _ (f : CodedFrame) (size : ℕ) (pictures : List CodedPicture) (absent : f.header.alpha ≡ Absent) (size_is : size ≡ frame_length_of f) (pictures_is : pictures ≡ f.pictures) where
-  pub frame-whole : frame_header_bytes f.header size ++ flat_map (picture_bytes f.header.interlace Absent) pictures ≡ written f
+module _ (f : CodedFrame) (size : ℕ) (pictures : List CodedPicture) (size_is : size ≡ frame_length_of f) (pictures_is : pictures ≡ f.pictures) where
+  pub frame-whole : frame_header_bytes f.header size ++ flat_map (picture_bytes f.header.interlace f.header.alpha) pictures ≡ written f
   unfolding written
-  frame-whole = λ j. frame_header_bytes f.header (size_is j) ++ flat_map (picture_bytes f.header.interlace (sym absent j)) (pictures_is j)
+  frame-whole = λ j. frame_header_bytes f.header (size_is j) ++ flat_map (picture_bytes f.header.interlace f.header.alpha) (pictures_is j)
 
-  pub frame-puts : {a b c : SinkState} → Puts a b (frame_header_bytes f.header size) → Puts b c (flat_map (picture_bytes f.header.interlace Absent) pictures) → Puts a c (written f)
+  pub frame-puts : {a b c : SinkState} → Puts a b (frame_header_bytes f.header size) → Puts b c (flat_map (picture_bytes f.header.interlace f.header.alpha) pictures) → Puts a c (written f)
   frame-puts {a} {b} {c} p q = subst (Puts a c) frame-whole (puts_then p q)
 
   pub frame-head : {a b : SinkState} → PutsPart a b (frame_header_bytes f.header size) → PutsFront a b (written f)
-  frame-head {a} {b} p = subst (PutsFront a b) frame-whole (front_more (flat_map (picture_bytes f.header.interlace Absent) pictures) (part_front p))
+  frame-head {a} {b} p = subst (PutsFront a b) frame-whole (front_more (flat_map (picture_bytes f.header.interlace f.header.alpha) pictures) (part_front p))
 
-  pub frame-pictures : {a b c : SinkState} → Puts a b (frame_header_bytes f.header size) → PutsFront b c (flat_map (picture_bytes f.header.interlace Absent) pictures) → PutsFront a c (written f)
+  pub frame-pictures : {a b c : SinkState} → Puts a b (frame_header_bytes f.header size) → PutsFront b c (flat_map (picture_bytes f.header.interlace f.header.alpha) pictures) → PutsFront a c (written f)
   frame-pictures {a} {b} {c} p q = subst (PutsFront a c) frame-whole (then_front p q)
 
 pub err-any : {X E P : Type 0} (r : Result X E) → P → OnErr r P

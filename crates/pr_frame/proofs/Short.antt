@@ -1,5 +1,5 @@
 -- How many bytes are written.
-use Rattle.std.proofs.Common.{◌≡◌, ℕ, zero, suc, ◌+◌, ◌*◌, ◌<◌, ◌≤◌, Bool, true, false, List, [], ◌∷◌, ◌++◌, length, map, sum, get_or, pos, nat_abs, refl, sym, ap, ◌∙◌, arith, length-append}
+use Rattle.std.proofs.Common.{◌≡◌, ℕ, zero, suc, ◌+◌, ◌*◌, ◌^◌, ◌<◌, ◌≤◌, Bool, true, false, List, [], ◌∷◌, ◌++◌, length, map, sum, get_or, pos, nat_abs, refl, sym, ap, ◌∙◌, arith, length-append}
 use Rattle.std.specs.List.{All, flat_map}
 use Rattle.std.specs.Int.{w16, to_be_bytes}
 use Rattle.std.proofs.lemmas.List.Elements.{All-head, All-tail, All-nil, All-cons}
@@ -10,7 +10,6 @@ use Rattle.pr_geom.specs.declared.places.SlicePlace.{SlicePlace}
 use Rattle.pr_geom.specs.declared.places.Part.TheVariants.{Y, Cb, Cr}
 use Rattle.pr_geom.specs.declared.places.TheConstants.{MAX_SLICES}
 use Rattle.pr_head.specs.Picture.{slices_in, picture_header_bytes}
-use Rattle.pr_alpha.specs.Alpha as values
 use Rattle.pr_alpha.proofs.RowLemmas.{alpha_cost}
 use Rattle.pr_coeff.specs.Component.{Block, component, AreBlocks}
 use Rattle.pr_coeff.proofs.WovenLemmas.{AreBlocks_from, AllSmall_from}
@@ -23,10 +22,10 @@ use Rattle.pr_head.specs.Laws.{sizes_bytes}
 use Rattle.pr_frame.specs.declared.coded.CodedSlice.{CodedSlice}
 use Rattle.pr_frame.specs.declared.coded.CodedPicture.{CodedPicture}
 use Rattle.pr_frame.specs.declared.coded.CodedFrame.{CodedFrame}
-use Rattle.pr_frame.specs.Forms.{scan_of, has_alpha, places_in, alpha_count}
+use Rattle.pr_frame.specs.Forms.{scan_of, has_alpha, places_in, alpha_count, alpha_depth}
 use Rattle.pr_frame.specs.Coded.{IsCodedSlice, AreCodedSlices, IsCodedPicture, IsWritableBlock, IsWritableSlice, IsWritablePicture, HasArrays}
-use Rattle.pr_frame.specs.Ready.{IsReadyPart, IsReady, IsReadyPicture}
-use Rattle.pr_frame.specs.Written.{component_bytes, with_alpha, with_alpha_size, slice_header_of, slice_bytes, slice_length, slice_lengths, picture_length, picture_bytes, frame_length_of, written}
+use Rattle.pr_frame.specs.Ready.{IsReadyPart, IsReadyAlpha, IsReady, IsReadyPicture}
+use Rattle.pr_frame.specs.Written.{component_bytes, alpha_bytes, alpha_size, with_alpha_size, slice_header_of, slice_bytes, slice_length, slice_lengths, picture_length, picture_bytes, frame_length_of, written}
 use Rattle.pr_frame.proofs.Counts.{HasBlocksOf, AllHave, places-have, count-places}
 use Rattle.pr_frame.proofs.Standing.{scan-is}
 use Rattle.pr_frame.proofs.SliceLoop.{sum-front}
@@ -39,14 +38,15 @@ header-length r true = refl
 header-length r false = refl
 
 slice-is : (mode : Interlace) (alpha : AlphaKind) (s : CodedSlice) → slice_bytes mode alpha s
-    ≡ with_alpha alpha s.alpha (slice_header_bytes (slice_header_of mode alpha s) (has_alpha alpha) ++ component_bytes mode s.y ++ component_bytes mode s.cb ++ component_bytes mode s.cr)
+    ≡ slice_header_bytes (slice_header_of mode alpha s) (has_alpha alpha) ++ component_bytes mode s.y ++ component_bytes mode s.cb ++ component_bytes mode s.cr ++ alpha_bytes alpha s.alpha
 unfolding slice_bytes
 slice-is mode alpha s = refl
 
-length-with : (alpha : AlphaKind) (l b : List ℕ) → length (with_alpha alpha l b) ≡ with_alpha_size alpha l (length b)
-length-with Absent l b = refl
-length-with Eight l b = length-append b (values.alpha 8 l)
-length-with Sixteen l b = length-append b (values.alpha 16 l)
+-- the bytes of alpha values stand behind the others
+pub with-size : (alpha : AlphaKind) (l : List ℕ) (n : ℕ) → with_alpha_size alpha l n ≡ n + alpha_size alpha l
+with-size Absent l n = omega arith
+with-size Eight l n = refl
+with-size Sixteen l n = refl
 
 pub length-slice : (mode : Interlace) (alpha : AlphaKind) (s : CodedSlice) → length (slice_bytes mode alpha s) ≡ slice_length mode alpha s
 length-slice mode alpha s =
@@ -54,9 +54,10 @@ length-slice mode alpha s =
     let y = component_bytes mode s.y in
     let cb = component_bytes mode s.cb in
     let cr = component_bytes mode s.cr in
+    let a = alpha_bytes alpha s.alpha in
     let n = least_slice_header (has_alpha alpha) + length y + length cb + length cr in
-    let e : length (h ++ y ++ cb ++ cr) ≡ n = omega (arith, length-append h y, length-append (h ++ y) cb, length-append (h ++ y ++ cb) cr, header-length (slice_header_of mode alpha s) (has_alpha alpha)) in
-    ap length (slice-is mode alpha s) ∙ length-with alpha s.alpha (h ++ y ++ cb ++ cr) ∙ ap (with_alpha_size alpha s.alpha) e
+    let e : length (h ++ y ++ cb ++ cr ++ a) ≡ n + length a = omega (arith, length-append h y, length-append (h ++ y) cb, length-append (h ++ y ++ cb) cr, length-append (h ++ y ++ cb ++ cr) a, header-length (slice_header_of mode alpha s) (has_alpha alpha)) in
+    ap length (slice-is mode alpha s) ∙ e ∙ sym (with-size alpha s.alpha n)
 
 pub length-slices : (mode : Interlace) (alpha : AlphaKind) (xs : List CodedSlice) → length (flat_map (slice_bytes mode alpha) xs) ≡ sum (map (slice_length mode alpha) xs)
 length-slices mode alpha [] = refl
@@ -124,7 +125,7 @@ component-short mode blocks some few all =
     let cost = component_cost 13 (scan_of mode) blocks (scan-is mode) (omega arith) few (λ i k. omega (arith, blocks-at blocks i k all)) in
     omega (arith, cost)
 
-alpha-least : (alpha : Bool) → least_slice_header alpha ≤ 8
+pub alpha-least : (alpha : Bool) → least_slice_header alpha ≤ 8
 alpha-least true = omega arith
 alpha-least false = omega arith
 
@@ -138,6 +139,12 @@ pub with-short : (alpha : AlphaKind) (l : List ℕ) (n : ℕ) → length l ≤ 2
 with-short Absent l n few short = omega arith
 with-short Eight l n few short = omega (arith, alpha_cost 8 l refl)
 with-short Sixteen l n few short = omega (arith, alpha_cost 16 l refl)
+
+-- alpha values have few bytes
+pub alpha-short : (kind : AlphaKind) (l : List ℕ) → IsReadyAlpha kind l → alpha_size kind l ≤ 8448
+alpha-short Absent l ready = omega arith
+alpha-short Eight l ready = omega (arith, ready.few, alpha_cost 8 l refl)
+alpha-short Sixteen l ready = omega (arith, ready.few, alpha_cost 16 l refl)
 
 pub slice-short : (h : FrameHeader) (place : SlicePlace) (s : CodedSlice) → HasBlocksOf h place → IsCodedSlice h place s → IsWritableSlice s → slice_length h.interlace h.alpha s < 65535
 slice-short h place s have is small =
@@ -159,19 +166,37 @@ slices-short h (p ∷ places) (x ∷ xs) have are small =
 pub part-short : (mode : Interlace) (blocks : List Block) → IsReadyPart blocks → length (component_bytes mode blocks) < 14592
 part-short mode blocks r = component-short mode blocks r.some r.few r.values
 
-slice-ready : (h : FrameHeader) (place : SlicePlace) (s : CodedSlice) → HasBlocksOf h place → IsCodedSlice h place s → IsWritableSlice s → IsReady s
+below-all : (bound : ℕ) (l : List ℕ) → 0 < bound → All (λ value. value < bound) l → (i : ℕ) → get_or l i 0 < bound
+below-all bound [] some all i = some
+below-all bound (x ∷ l) some all zero = All-head (λ value. value < bound) x l all
+below-all bound (x ∷ l) some all (suc i) = below-all bound l some (All-tail (λ value. value < bound) x l all) i
+
+no-values : (l : List ℕ) → length l ≡ 0 → l ≡ []
+no-values [] e = refl
+no-values (x ∷ l) e = absurd (omega arith)
+
+alpha-ready : (kind : AlphaKind) (place : SlicePlace) (l : List ℕ) → 0 < place.width → place.width ≤ 8 → length l ≡ alpha_count kind place → All (λ value. value < 2 ^ alpha_depth kind) l → IsReadyAlpha kind l
+alpha-ready Absent place l some narrow number all = no-values l number
+alpha-ready Eight place l some narrow number all = record { some = omega arith; few = omega arith; below = below-all 256 l (omega arith) all }
+alpha-ready Sixteen place l some narrow number all = record { some = omega arith; few = omega arith; below = below-all 65536 l (omega arith) all }
+
+pub ready-alpha : (h : FrameHeader) (place : SlicePlace) (s : CodedSlice) → HasBlocksOf h place → IsCodedSlice h place s → IsReadyAlpha h.alpha s.alpha
+ready-alpha h place s have is = alpha-ready h.alpha place s.alpha have.wide have.narrow is.alpha is.values
+
+slice-ready : (h : FrameHeader) (place : SlicePlace) (s : CodedSlice) → HasBlocksOf h place → IsCodedSlice h place s → IsWritableSlice s → IsReady h.alpha s
 slice-ready h place s have is small = record {
   y = record { some = omega (arith, is.y, have.some Y); few = omega (arith, is.y, have.few Y); values = small.y };
   cb = record { some = omega (arith, is.cb, have.some Cb); few = omega (arith, is.cb, have.few Cb); values = small.cb };
   cr = record { some = omega (arith, is.cr, have.some Cr); few = omega (arith, is.cr, have.few Cr); values = small.cr };
+  alpha_values = ready-alpha h place s have is;
 }
 
-slices-ready : (h : FrameHeader) (places : List SlicePlace) (xs : List CodedSlice) → AllHave h places → AreCodedSlices h places xs → All IsWritableSlice xs → All IsReady xs
-slices-ready h [] [] have are small = All-nil IsReady
+slices-ready : (h : FrameHeader) (places : List SlicePlace) (xs : List CodedSlice) → AllHave h places → AreCodedSlices h places xs → All IsWritableSlice xs → All (IsReady h.alpha) xs
+slices-ready h [] [] have are small = All-nil (IsReady h.alpha)
 slices-ready h [] (x ∷ xs) have are small = absurd are
 slices-ready h (p ∷ places) [] have are small = absurd are
 slices-ready h (p ∷ places) (x ∷ xs) have are small =
-    All-cons IsReady x xs (slice-ready h p x have.0 are.0 (All-head IsWritableSlice x xs small)) (slices-ready h places xs have.1 are.1 (All-tail IsWritableSlice x xs small))
+    All-cons (IsReady h.alpha) x xs (slice-ready h p x have.0 are.0 (All-head IsWritableSlice x xs small)) (slices-ready h places xs have.1 are.1 (All-tail IsWritableSlice x xs small))
 
 same-count : (h : FrameHeader) (places : List SlicePlace) (xs : List CodedSlice) → AreCodedSlices h places xs → length xs ≡ length places
 same-count h [] [] are = refl
@@ -179,17 +204,17 @@ same-count h [] (x ∷ xs) are = absurd are
 same-count h (p ∷ places) [] are = absurd are
 same-count h (p ∷ places) (x ∷ xs) are = ap suc (same-count h places xs are.1)
 
-picture-ready : (h : FrameHeader) (x : CodedPicture) → IsCodedPicture h x → IsWritablePicture x → IsReadyPicture x
+picture-ready : (h : FrameHeader) (x : CodedPicture) → IsCodedPicture h x → IsWritablePicture x → IsReadyPicture h.alpha x
 picture-ready h x is small = record {
   few = omega (arith, same-count h (places_in h x.log2) x.slices is.slices, is.layout.slices, count-places h (record { header = 8; size = 0; log2 = x.log2 }));
   log2 = is.layout.size;
   slices = slices-ready h (places_in h x.log2) x.slices (places-have h x.log2 is.layout.size) is.slices small;
 }
 
-pub pictures-ready : (h : FrameHeader) (xs : List CodedPicture) → All (IsCodedPicture h) xs → All IsWritablePicture xs → All IsReadyPicture xs
-pictures-ready h [] are small = All-nil IsReadyPicture
+pub pictures-ready : (h : FrameHeader) (xs : List CodedPicture) → All (IsCodedPicture h) xs → All IsWritablePicture xs → All (IsReadyPicture h.alpha) xs
+pictures-ready h [] are small = All-nil (IsReadyPicture h.alpha)
 pictures-ready h (x ∷ xs) are small =
-    All-cons IsReadyPicture x xs (picture-ready h x (All-head (IsCodedPicture h) x xs are) (All-head IsWritablePicture x xs small)) (pictures-ready h xs (All-tail (IsCodedPicture h) x xs are) (All-tail IsWritablePicture x xs small))
+    All-cons (IsReadyPicture h.alpha) x xs (picture-ready h x (All-head (IsCodedPicture h) x xs are) (All-head IsWritablePicture x xs small)) (pictures-ready h xs (All-tail (IsCodedPicture h) x xs are) (All-tail IsWritablePicture x xs small))
 
 -- blocks of 64 values that can be written
 pub writable-blocks : (blocks : List Block) → ((i : ℕ) → i < length blocks → length (get_or blocks i []) ≡ 64) → All IsWritableBlock blocks → AreBlocks blocks
@@ -198,5 +223,5 @@ writable-blocks blocks shape small = AreBlocks_from blocks (λ i lt. (shape i lt
 pub scan-same : (mode : Interlace) (blocks : List Block) (places : List ℕ) → places ≡ scan_of mode → length (component places blocks) ≡ length (component_bytes mode blocks)
 scan-same mode blocks places e = ap (λ ps. length (component ps blocks)) e
 
-pub few-slices : (h : FrameHeader) (x : CodedPicture) → IsCodedPicture h x → slices_in h (record { header = 8; size = picture_length h.interlace Absent x; log2 = x.log2 }) ≤ MAX_SLICES
+pub few-slices : (h : FrameHeader) (x : CodedPicture) → IsCodedPicture h x → slices_in h (record { header = 8; size = picture_length h.interlace h.alpha x; log2 = x.log2 }) ≤ MAX_SLICES
 few-slices h x is = is.layout.slices

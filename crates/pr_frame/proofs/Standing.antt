@@ -75,7 +75,7 @@ values-found n count size s t l e =
     let found = alpha_found n count (bits (take size s.bytes)) l read in
     record { number = found.0; stands = found.1 }
 
-values-again : (n count size : ℕ) (s : Rest) (l : List ℕ) → ValuesStand n count (take size s.bytes) l → values_at n count size s ≡ Ok (l, ahead size s)
+pub values-again : (n count size : ℕ) (s : Rest) (l : List ℕ) → ValuesStand n count (take size s.bytes) l → values_at n count size s ≡ Ok (l, ahead size s)
 values-again n count size s l v =
     values-value n count size s l (subst (λ k. reading.alpha_at k n (bits (take size s.bytes)) ≡ Ok l) v.number (alpha_again n (bits (take size s.bytes)) l v.stands))
 

@@ -13,7 +13,7 @@ use Rattle.pr_head.specs.Own.{version_of}
 use Rattle.pr_frame.specs.declared.coded.CodedSlice.{CodedSlice}
 use Rattle.pr_frame.specs.declared.coded.CodedPicture.{CodedPicture}
 use Rattle.pr_frame.specs.declared.coded.CodedFrame.{CodedFrame}
-use Rattle.pr_frame.specs.Forms.{places_in, block_count, alpha_count, alpha_depth, IsOpaque}
+use Rattle.pr_frame.specs.Forms.{places_in, block_count, alpha_count, alpha_depth}
 use Rattle.pr_frame.specs.Written.{frame_length_of}
 
 -- ---- what every coded frame has
@@ -69,10 +69,9 @@ pub record IsWritableHeader (h : FrameHeader) : Type 0 where
   pub luma : All IsWeight h.luma
   pub chroma_weights : All IsWeight h.chroma_weights
 
--- A coded frame without alpha whose values can be written.
+-- A coded frame whose values can be written.
 pub record IsWritable (f : CodedFrame) : Type 0 where
   pub coded : IsCodedFrame f
-  pub opaque : IsOpaque f.header
   pub header : IsWritableHeader f.header
   pub values : All IsWritablePicture f.pictures
 

@@ -44,10 +44,6 @@ alpha_depth Absent = 0
 alpha_depth Eight = 8
 alpha_depth Sixteen = 16
 
--- A frame without alpha, the form that is written so far.
-pub record IsOpaque (h : FrameHeader) : Type 0 where
-  pub alpha : h.alpha ≡ Absent
-
 -- The forms that are coded from pictures so far: progressive frames in 4:2:2 without alpha.
 pub record IsBuilt (h : FrameHeader) : Type 0 where
   pub chroma : h.chroma ≡ C422

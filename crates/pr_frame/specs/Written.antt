@@ -1,6 +1,6 @@
 -- The one spelling of a coded frame, and how many bytes it has (SMPTE RDD 36, frame syntax; the choices that the syntax leaves
 -- open are our own: both matrices, the shortest headers, nothing behind the slices and behind the pictures).
-use Rattle.std.specs.Prelude.{ℕ, ◌+◌, ◌*◌, List, length, map, sum, ◌++◌}
+use Rattle.std.specs.Prelude.{ℕ, ◌+◌, ◌*◌, List, [], length, map, sum, ◌++◌}
 use Rattle.std.specs.List.{flat_map}
 use Rattle.pw_planes.specs.declared.kinds.AlphaKind.{AlphaKind}
 use Rattle.pw_planes.specs.declared.kinds.AlphaKind.TheVariants.{Absent, Eight, Sixteen}
@@ -23,19 +23,17 @@ use Rattle.pr_frame.specs.Forms.{scan_of, has_alpha}
 abbrev pub component_bytes : Interlace → List Block → List ℕ
 component_bytes mode blocks = component (scan_of mode) blocks
 
--- how many bytes alpha values have, in a frame with alpha values
+-- the bytes of alpha values; none in a frame without alpha
+abbrev pub alpha_bytes : AlphaKind → List ℕ → List ℕ
+alpha_bytes Absent l = []
+alpha_bytes Eight l = values.alpha 8 l
+alpha_bytes Sixteen l = values.alpha 16 l
+
+-- how many bytes alpha values have
 abbrev pub alpha_size : AlphaKind → List ℕ → ℕ
-alpha_size Absent l = 0
-alpha_size Eight l = length (values.alpha 8 l)
-alpha_size Sixteen l = length (values.alpha 16 l)
+alpha_size alpha l = length (alpha_bytes alpha l)
 
--- bytes with those of alpha values behind them, in a frame with alpha values
-abbrev pub with_alpha : AlphaKind → List ℕ → List ℕ → List ℕ
-with_alpha Absent l bytes = bytes
-with_alpha Eight l bytes = bytes ++ values.alpha 8 l
-with_alpha Sixteen l bytes = bytes ++ values.alpha 16 l
-
--- how many bytes these are
+-- how many bytes stand there with those of alpha values behind them
 abbrev pub with_alpha_size : AlphaKind → List ℕ → ℕ → ℕ
 with_alpha_size Absent l n = n
 with_alpha_size Eight l n = n + length (values.alpha 8 l)
@@ -54,9 +52,10 @@ slice_header_of mode alpha s = record {
 
 -- the bytes of a slice: its header, luma, Cb, Cr and alpha
 unfoldable pub slice_bytes : Interlace → AlphaKind → CodedSlice → List ℕ
-slice_bytes mode alpha s = with_alpha alpha s.alpha
-    (slice_header_bytes (slice_header_of mode alpha s) (has_alpha alpha)
-    ++ component_bytes mode s.y ++ component_bytes mode s.cb ++ component_bytes mode s.cr)
+slice_bytes mode alpha s =
+    slice_header_bytes (slice_header_of mode alpha s) (has_alpha alpha)
+    ++ component_bytes mode s.y ++ component_bytes mode s.cb ++ component_bytes mode s.cr
+    ++ alpha_bytes alpha s.alpha
 
 -- how many bytes a slice has
 abbrev pub slice_length : Interlace → AlphaKind → CodedSlice → ℕ

@@ -20,4 +20,4 @@ pub use laws::{
 };
 pub use read::read_frame;
 pub use size::frame_length;
-pub use write::write_frame;
+pub use write::{write_frame, write_slice};

@@ -2,15 +2,17 @@
 
 ghost use Rattle.std.specs.Prelude.{◌≡◌, ◌+◌, ◌*◌, ◌<◌, ◌≤◌, ◌^◌, length, map, sum};
 ghost use Rattle.std.specs.List.{All};
-ghost use Rattle.pw_planes.specs.declared.kinds.AlphaKind.TheVariants.{Absent};
+ghost use Rattle.pr_head.specs.Slice.{least_slice_header};
+ghost use Rattle.pr_frame.specs.Forms.{has_alpha};
 ghost use Rattle.pr_frame.specs.Coded.{IsWritable};
-ghost use Rattle.pr_frame.specs.Ready.{IsReadyPart, IsReady, IsReadyPicture};
-ghost use Rattle.pr_frame.specs.Written.{component_bytes, slice_length, picture_length, frame_length_of};
+ghost use Rattle.pr_frame.specs.Ready.{IsReadyPart, IsReadyAlpha, IsReady, IsReadyPicture};
+ghost use Rattle.pr_frame.specs.Written.{component_bytes, alpha_size, slice_length, picture_length, frame_length_of};
 
 use crate::coded::{CodedFrame, CodedPicture, CodedSlice};
 use crate::parts::scan_of;
+use pr_alpha::alpha_length;
 use pr_coeff::{Block, component_length};
-use pw_planes::Interlace;
+use pw_planes::{AlphaKind, Interlace};
 
 /// How many bytes a component has.
 pub(crate) fn part_size(blocks: &[Block], mode: Interlace) -> u16
@@ -21,51 +23,77 @@ pub(crate) fn part_size(blocks: &[Block], mode: Interlace) -> u16
     component_length(blocks, scan_of(mode)) as u16
 }
 
+/// How many bytes alpha values have.
+pub(crate) fn alpha_part_size(values: &[u16], alpha: AlphaKind) -> u16
+    requires { IsReadyAlpha alpha values.now }
+    ensures value { result ≡ alpha_size alpha values.now }
+    ensures short { result ≤ 8448 }
+{
+    match alpha {
+        AlphaKind::Absent => 0,
+        AlphaKind::Eight => alpha_length(values, 8) as u16,
+        AlphaKind::Sixteen => alpha_length(values, 16) as u16,
+    }
+}
+
+/// How many bytes the header of a slice has.
+pub(crate) fn least_header(alpha: AlphaKind) -> u8
+    ensures value { result ≡ least_slice_header (has_alpha alpha) }
+    ensures small { result ≤ 8 }
+{
+    match alpha {
+        AlphaKind::Absent => 6,
+        AlphaKind::Eight | AlphaKind::Sixteen => 8,
+    }
+}
+
 /// How many bytes a slice has.
-pub(crate) fn slice_size(slice: &CodedSlice, mode: Interlace) -> u16
-    requires { IsReady slice.now }
-    ensures value { result ≡ slice_length mode Absent slice.now }
+pub(crate) fn slice_size(slice: &CodedSlice, mode: Interlace, alpha: AlphaKind) -> u16
+    requires { IsReady alpha slice.now }
+    ensures value { result ≡ slice_length mode alpha slice.now }
     ensures short { result < 65535 }
 {
-    6 + part_size(slice.y.as_slice(), mode)
+    u16::from(least_header(alpha))
+        + part_size(slice.y.as_slice(), mode)
         + part_size(slice.cb.as_slice(), mode)
         + part_size(slice.cr.as_slice(), mode)
+        + alpha_part_size(slice.alpha.as_slice(), alpha)
 }
 
 /// How many bytes slices have together.
-fn slices_size(slices: &[CodedSlice], mode: Interlace) -> u64
+fn slices_size(slices: &[CodedSlice], mode: Interlace, alpha: AlphaKind) -> u64
     requires few { length slices.now ≤ 65535 }
-    requires ready { All IsReady slices.now }
-    ensures value { result ≡ sum (map (slice_length mode Absent) slices.now) }
+    requires ready { All (IsReady alpha) slices.now }
+    ensures value { result ≡ sum (map (slice_length mode alpha) slices.now) }
     ensures short { result ≤ 65535 * length slices.now }
 {
     let mut size = 0;
     for slice in slices {
-        size += u64::from(slice_size(slice, mode));
+        size += u64::from(slice_size(slice, mode, alpha));
     }
     size
 }
 
 /// How many bytes a picture has.
-pub(crate) fn picture_size(picture: &CodedPicture, mode: Interlace) -> u64
-    requires { IsReadyPicture picture.now }
-    ensures value { result ≡ picture_length mode Absent picture.now }
+pub(crate) fn picture_size(picture: &CodedPicture, mode: Interlace, alpha: AlphaKind) -> u64
+    requires { IsReadyPicture alpha picture.now }
+    ensures value { result ≡ picture_length mode alpha picture.now }
     ensures short { result < 2 ^ 33 }
 {
     let slices = picture.slices.as_slice();
-    8 + 2 * slices.len() as u64 + slices_size(slices, mode)
+    8 + 2 * slices.len() as u64 + slices_size(slices, mode, alpha)
 }
 
 /// How many bytes pictures have together.
-fn pictures_size(pictures: &[CodedPicture], mode: Interlace) -> u64
+fn pictures_size(pictures: &[CodedPicture], mode: Interlace, alpha: AlphaKind) -> u64
     requires few { length pictures.now ≤ 2 }
-    requires ready { All IsReadyPicture pictures.now }
-    ensures value { result ≡ sum (map (picture_length mode Absent) pictures.now) }
+    requires ready { All (IsReadyPicture alpha) pictures.now }
+    ensures value { result ≡ sum (map (picture_length mode alpha) pictures.now) }
     ensures short { result ≤ 2 ^ 33 * length pictures.now }
 {
     let mut size = 0;
     for picture in pictures {
-        size += picture_size(picture, mode);
+        size += picture_size(picture, mode, alpha);
     }
     size
 }
@@ -75,5 +103,9 @@ pub fn frame_length(frame: &CodedFrame) -> u64
     requires { IsWritable frame.now }
     ensures { result ≡ frame_length_of frame.now }
 {
-    156 + pictures_size(frame.pictures.as_slice(), frame.header.interlace)
+    156 + pictures_size(
+        frame.pictures.as_slice(),
+        frame.header.interlace,
+        frame.header.alpha,
+    )
 }

@@ -5,19 +5,21 @@ ghost use Rattle.std.specs.Int.{w16, to_be_bytes};
 ghost use Rattle.std.specs.List.{All, flat_map};
 ghost use Rattle.pw_outside.specs.Ports.{CountsFault};
 ghost use Rattle.pw_outside.specs.Writing.{sink_state, Puts, PutsFront};
-ghost use Rattle.pw_planes.specs.declared.kinds.AlphaKind.TheVariants.{Absent};
 ghost use Rattle.pr_head.specs.Laws.{sizes_bytes};
 ghost use Rattle.pr_frame.specs.Coded.{CanBeWritten};
-ghost use Rattle.pr_frame.specs.Ready.{IsReadyPart, IsReady, IsReadyPicture};
-ghost use Rattle.pr_frame.specs.Written.{component_bytes, slice_header_of, slice_bytes, slice_length, slice_lengths, picture_bytes, picture_length, written};
+ghost use Rattle.pr_frame.specs.Ready.{IsReadyPart, IsReadyAlpha, IsReady, IsReadyPicture};
+ghost use Rattle.pr_frame.specs.Written.{component_bytes, alpha_bytes, slice_header_of, slice_bytes, slice_length, slice_lengths, picture_bytes, picture_length, written};
 
 use crate::coded::{CodedFrame, CodedPicture, CodedSlice};
-use crate::parts::scan_of;
-use crate::size::{frame_length, part_size, picture_size, slice_size};
+use crate::parts::{has_alpha, scan_of};
+use crate::size::{
+    alpha_part_size, frame_length, least_header, part_size, picture_size, slice_size,
+};
+use pr_alpha::write_alpha;
 use pr_coeff::{Block, write_component};
 use pr_head::{SliceHeader, write_frame_header, write_picture_header, write_slice_header};
 use pw_outside::{ByteSink, Failed, put};
-use pw_planes::Interlace;
+use pw_planes::{AlphaKind, Interlace};
 
 /// Writes a component.
 fn write_part<K: ByteSink>(blocks: &[Block], mode: Interlace, sink: &mut K) -> Result<(), Failed>
@@ -30,62 +32,135 @@ fn write_part<K: ByteSink>(blocks: &[Block], mode: Interlace, sink: &mut K) -> R
     write_component(blocks, scan_of(mode), sink)
 }
 
-/// The header of a slice, with the sizes of its components.
-fn header_of(slice: &CodedSlice, mode: Interlace) -> SliceHeader
-    requires { IsReady slice.now }
-    ensures { result ≡ slice_header_of mode Absent slice.now }
-{
-    SliceHeader {
-        header: 6,
-        index: slice.index,
-        y: part_size(slice.y.as_slice(), mode),
-        cb: part_size(slice.cb.as_slice(), mode),
-        cr: part_size(slice.cr.as_slice(), mode),
-        alpha: 0,
-    }
-}
-
-/// Writes a slice.
-fn write_slice<K: ByteSink>(slice: &CodedSlice, mode: Interlace, sink: &mut K) -> Result<(), Failed>
-    requires { IsReady slice.now }
-    ensures ok { OnOk result (Puts (sink_state (K.held sink.old) (K.taken sink.old)) (sink_state (K.held sink.new) (K.taken sink.new)) (slice_bytes mode Absent slice.now)) }
-    ensures err { OnErr result (PutsFront (sink_state (K.held sink.old) (K.taken sink.old)) (sink_state (K.held sink.new) (K.taken sink.new)) (slice_bytes mode Absent slice.now)) }
+/// Writes alpha values; none where the frame has no alpha.
+fn write_values<K: ByteSink>(values: &[u16], alpha: AlphaKind, sink: &mut K) -> Result<(), Failed>
+    requires { IsReadyAlpha alpha values.now }
+    ensures ok { OnOk result (Puts (sink_state (K.held sink.old) (K.taken sink.old)) (sink_state (K.held sink.new) (K.taken sink.new)) (alpha_bytes alpha values.now)) }
+    ensures err { OnErr result (PutsFront (sink_state (K.held sink.old) (K.taken sink.old)) (sink_state (K.held sink.new) (K.taken sink.new)) (alpha_bytes alpha values.now)) }
     ensures settled { K.settled sink.old ≤ K.settled sink.new }
     ensures cause { CountsFault (K.faults sink.old) (K.faults sink.new) (is_err result) }
 {
-    write_slice_header(sink, &header_of(slice, mode), false)?;
-    write_part(slice.y.as_slice(), mode, sink)?;
-    write_part(slice.cb.as_slice(), mode, sink)?;
-    write_part(slice.cr.as_slice(), mode, sink)
+    match alpha {
+        AlphaKind::Absent => Ok(()),
+        AlphaKind::Eight => write_alpha(values, 8, sink),
+        AlphaKind::Sixteen => write_alpha(values, 16, sink),
+    }
+}
+
+/// The header of a slice, with the sizes of its components.
+fn header_of(
+    mode: Interlace,
+    alpha: AlphaKind,
+    index: u8,
+    y: &[Block],
+    cb: &[Block],
+    cr: &[Block],
+    values: &[u16],
+) -> SliceHeader
+    requires y { IsReadyPart y.now }
+    requires cb { IsReadyPart cb.now }
+    requires cr { IsReadyPart cr.now }
+    requires values { IsReadyAlpha alpha values.now }
+    ensures { result ≡ slice_header_of mode alpha (record { index = index; y = y.now; cb = cb.now; cr = cr.now; alpha = values.now }) }
+{
+    SliceHeader {
+        header: least_header(alpha),
+        index,
+        y: part_size(y, mode),
+        cb: part_size(cb, mode),
+        cr: part_size(cr, mode),
+        alpha: alpha_part_size(values, alpha),
+    }
+}
+
+/// Writes one slice of a frame of this interlace mode and this kind of alpha: its header, and the data of its components
+/// and of its alpha values. Each component has 1 to 32 blocks of values of magnitude at most 8,191. There are no alpha
+/// values where the frame has no alpha, and else 1 to 2,048 of 8 or 16 bits. It takes no memory.
+///
+/// `Failed` where a call of the sink failed; it then has taken a front of the slice's bytes.
+pub fn write_slice<K: ByteSink>(
+    mode: Interlace,
+    alpha: AlphaKind,
+    index: u8,
+    y: &[Block],
+    cb: &[Block],
+    cr: &[Block],
+    values: &[u16],
+    sink: &mut K,
+) -> Result<(), Failed>
+    requires y { IsReadyPart y.now }
+    requires cb { IsReadyPart cb.now }
+    requires cr { IsReadyPart cr.now }
+    requires values { IsReadyAlpha alpha values.now }
+    // The sink took the bytes of the slice, and no others.
+    ensures ok { OnOk result (Puts (sink_state (K.held sink.old) (K.taken sink.old)) (sink_state (K.held sink.new) (K.taken sink.new)) (slice_bytes mode alpha (record { index = index; y = y.now; cb = cb.now; cr = cr.now; alpha = values.now }))) }
+    // Where a call failed, it took a front of them.
+    ensures err { OnErr result (PutsFront (sink_state (K.held sink.old) (K.taken sink.old)) (sink_state (K.held sink.new) (K.taken sink.new)) (slice_bytes mode alpha (record { index = index; y = y.now; cb = cb.now; cr = cr.now; alpha = values.now }))) }
+    ensures settled { K.settled sink.old ≤ K.settled sink.new }
+    // The call fails only where a call of the sink failed, and each such call is answered by it.
+    ensures cause { CountsFault (K.faults sink.old) (K.faults sink.new) (is_err result) }
+{
+    let header = header_of(mode, alpha, index, y, cb, cr, values);
+    write_slice_header(sink, &header, has_alpha(alpha))?;
+    write_part(y, mode, sink)?;
+    write_part(cb, mode, sink)?;
+    write_part(cr, mode, sink)?;
+    write_values(values, alpha, sink)
+}
+
+/// Writes a coded slice.
+fn write_coded<K: ByteSink>(
+    slice: &CodedSlice,
+    mode: Interlace,
+    alpha: AlphaKind,
+    sink: &mut K,
+) -> Result<(), Failed>
+    requires { IsReady alpha slice.now }
+    ensures ok { OnOk result (Puts (sink_state (K.held sink.old) (K.taken sink.old)) (sink_state (K.held sink.new) (K.taken sink.new)) (slice_bytes mode alpha slice.now)) }
+    ensures err { OnErr result (PutsFront (sink_state (K.held sink.old) (K.taken sink.old)) (sink_state (K.held sink.new) (K.taken sink.new)) (slice_bytes mode alpha slice.now)) }
+    ensures settled { K.settled sink.old ≤ K.settled sink.new }
+    ensures cause { CountsFault (K.faults sink.old) (K.faults sink.new) (is_err result) }
+{
+    let y = slice.y.as_slice();
+    let cb = slice.cb.as_slice();
+    let cr = slice.cr.as_slice();
+    let values = slice.alpha.as_slice();
+    write_slice(mode, alpha, slice.index, y, cb, cr, values, sink)
 }
 
 /// Writes slices, one behind the other.
 fn write_slices<K: ByteSink>(
     slices: &[CodedSlice],
     mode: Interlace,
+    alpha: AlphaKind,
     sink: &mut K,
 ) -> Result<(), Failed>
-    requires { All IsReady slices.now }
-    ensures ok { OnOk result (Puts (sink_state (K.held sink.old) (K.taken sink.old)) (sink_state (K.held sink.new) (K.taken sink.new)) (flat_map (slice_bytes mode Absent) slices.now)) }
-    ensures err { OnErr result (PutsFront (sink_state (K.held sink.old) (K.taken sink.old)) (sink_state (K.held sink.new) (K.taken sink.new)) (flat_map (slice_bytes mode Absent) slices.now)) }
+    requires { All (IsReady alpha) slices.now }
+    ensures ok { OnOk result (Puts (sink_state (K.held sink.old) (K.taken sink.old)) (sink_state (K.held sink.new) (K.taken sink.new)) (flat_map (slice_bytes mode alpha) slices.now)) }
+    ensures err { OnErr result (PutsFront (sink_state (K.held sink.old) (K.taken sink.old)) (sink_state (K.held sink.new) (K.taken sink.new)) (flat_map (slice_bytes mode alpha) slices.now)) }
     ensures settled { K.settled sink.old ≤ K.settled sink.new }
     ensures cause { CountsFault (K.faults sink.old) (K.faults sink.new) (is_err result) }
 {
     for slice in slices {
-        write_slice(slice, mode, sink)?;
+        write_coded(slice, mode, alpha, sink)?;
     }
     Ok(())
 }
 
 /// Writes the size of a slice.
-fn write_size<K: ByteSink>(slice: &CodedSlice, mode: Interlace, sink: &mut K) -> Result<(), Failed>
-    requires { IsReady slice.now }
-    ensures ok { OnOk result (Puts (sink_state (K.held sink.old) (K.taken sink.old)) (sink_state (K.held sink.new) (K.taken sink.new)) (to_be_bytes w16 (slice_length mode Absent slice.now))) }
-    ensures err { OnErr result (PutsFront (sink_state (K.held sink.old) (K.taken sink.old)) (sink_state (K.held sink.new) (K.taken sink.new)) (to_be_bytes w16 (slice_length mode Absent slice.now))) }
+fn write_size<K: ByteSink>(
+    slice: &CodedSlice,
+    mode: Interlace,
+    alpha: AlphaKind,
+    sink: &mut K,
+) -> Result<(), Failed>
+    requires { IsReady alpha slice.now }
+    ensures ok { OnOk result (Puts (sink_state (K.held sink.old) (K.taken sink.old)) (sink_state (K.held sink.new) (K.taken sink.new)) (to_be_bytes w16 (slice_length mode alpha slice.now))) }
+    ensures err { OnErr result (PutsFront (sink_state (K.held sink.old) (K.taken sink.old)) (sink_state (K.held sink.new) (K.taken sink.new)) (to_be_bytes w16 (slice_length mode alpha slice.now))) }
     ensures settled { K.settled sink.old ≤ K.settled sink.new }
     ensures cause { CountsFault (K.faults sink.old) (K.faults sink.new) (is_err result) }
 {
-    let bytes = slice_size(slice, mode).to_be_bytes();
+    let bytes = slice_size(slice, mode, alpha).to_be_bytes();
     match put(sink, &bytes) {
         Ok(()) => Ok(()),
         Err(_) => Err(Failed),
@@ -96,16 +171,17 @@ fn write_size<K: ByteSink>(slice: &CodedSlice, mode: Interlace, sink: &mut K) ->
 fn write_table<K: ByteSink>(
     slices: &[CodedSlice],
     mode: Interlace,
+    alpha: AlphaKind,
     sink: &mut K,
 ) -> Result<(), Failed>
-    requires { All IsReady slices.now }
-    ensures ok { OnOk result (Puts (sink_state (K.held sink.old) (K.taken sink.old)) (sink_state (K.held sink.new) (K.taken sink.new)) (sizes_bytes (map (slice_length mode Absent) slices.now))) }
-    ensures err { OnErr result (PutsFront (sink_state (K.held sink.old) (K.taken sink.old)) (sink_state (K.held sink.new) (K.taken sink.new)) (sizes_bytes (map (slice_length mode Absent) slices.now))) }
+    requires { All (IsReady alpha) slices.now }
+    ensures ok { OnOk result (Puts (sink_state (K.held sink.old) (K.taken sink.old)) (sink_state (K.held sink.new) (K.taken sink.new)) (sizes_bytes (map (slice_length mode alpha) slices.now))) }
+    ensures err { OnErr result (PutsFront (sink_state (K.held sink.old) (K.taken sink.old)) (sink_state (K.held sink.new) (K.taken sink.new)) (sizes_bytes (map (slice_length mode alpha) slices.now))) }
     ensures settled { K.settled sink.old ≤ K.settled sink.new }
     ensures cause { CountsFault (K.faults sink.old) (K.faults sink.new) (is_err result) }
 {
     for slice in slices {
-        write_size(slice, mode, sink)?;
+        write_size(slice, mode, alpha, sink)?;
     }
     Ok(())
 }
@@ -114,37 +190,39 @@ fn write_table<K: ByteSink>(
 fn write_picture<K: ByteSink>(
     picture: &CodedPicture,
     mode: Interlace,
+    alpha: AlphaKind,
     sink: &mut K,
 ) -> Result<(), Failed>
-    requires ready { IsReadyPicture picture.now }
-    requires short { picture_length mode Absent picture.now < 2 ^ 32 }
-    ensures ok { OnOk result (Puts (sink_state (K.held sink.old) (K.taken sink.old)) (sink_state (K.held sink.new) (K.taken sink.new)) (picture_bytes mode Absent picture.now)) }
-    ensures err { OnErr result (PutsFront (sink_state (K.held sink.old) (K.taken sink.old)) (sink_state (K.held sink.new) (K.taken sink.new)) (picture_bytes mode Absent picture.now)) }
+    requires ready { IsReadyPicture alpha picture.now }
+    requires short { picture_length mode alpha picture.now < 2 ^ 32 }
+    ensures ok { OnOk result (Puts (sink_state (K.held sink.old) (K.taken sink.old)) (sink_state (K.held sink.new) (K.taken sink.new)) (picture_bytes mode alpha picture.now)) }
+    ensures err { OnErr result (PutsFront (sink_state (K.held sink.old) (K.taken sink.old)) (sink_state (K.held sink.new) (K.taken sink.new)) (picture_bytes mode alpha picture.now)) }
     ensures settled { K.settled sink.old ≤ K.settled sink.new }
     ensures cause { CountsFault (K.faults sink.old) (K.faults sink.new) (is_err result) }
 {
-    let size = picture_size(picture, mode) as u32;
+    let size = picture_size(picture, mode, alpha) as u32;
     let slices = picture.slices.as_slice();
     write_picture_header(sink, size, slices.len() as u32, picture.log2)?;
-    write_table(slices, mode, sink)?;
-    write_slices(slices, mode, sink)
+    write_table(slices, mode, alpha, sink)?;
+    write_slices(slices, mode, alpha, sink)
 }
 
 /// Writes pictures, one behind the other.
 fn write_pictures<K: ByteSink>(
     pictures: &[CodedPicture],
     mode: Interlace,
+    alpha: AlphaKind,
     sink: &mut K,
 ) -> Result<(), Failed>
-    requires ready { All IsReadyPicture pictures.now }
-    requires short { sum (map (picture_length mode Absent) pictures.now) < 2 ^ 32 }
-    ensures ok { OnOk result (Puts (sink_state (K.held sink.old) (K.taken sink.old)) (sink_state (K.held sink.new) (K.taken sink.new)) (flat_map (picture_bytes mode Absent) pictures.now)) }
-    ensures err { OnErr result (PutsFront (sink_state (K.held sink.old) (K.taken sink.old)) (sink_state (K.held sink.new) (K.taken sink.new)) (flat_map (picture_bytes mode Absent) pictures.now)) }
+    requires ready { All (IsReadyPicture alpha) pictures.now }
+    requires short { sum (map (picture_length mode alpha) pictures.now) < 2 ^ 32 }
+    ensures ok { OnOk result (Puts (sink_state (K.held sink.old) (K.taken sink.old)) (sink_state (K.held sink.new) (K.taken sink.new)) (flat_map (picture_bytes mode alpha) pictures.now)) }
+    ensures err { OnErr result (PutsFront (sink_state (K.held sink.old) (K.taken sink.old)) (sink_state (K.held sink.new) (K.taken sink.new)) (flat_map (picture_bytes mode alpha) pictures.now)) }
     ensures settled { K.settled sink.old ≤ K.settled sink.new }
     ensures cause { CountsFault (K.faults sink.old) (K.faults sink.new) (is_err result) }
 {
     for picture in pictures {
-        write_picture(picture, mode, sink)?;
+        write_picture(picture, mode, alpha, sink)?;
     }
     Ok(())
 }
@@ -164,5 +242,10 @@ pub fn write_frame<K: ByteSink>(frame: &CodedFrame, sink: &mut K) -> Result<(), 
 {
     let size = frame_length(frame) as u32;
     write_frame_header(sink, &frame.header, size)?;
-    write_pictures(frame.pictures.as_slice(), frame.header.interlace, sink)
+    write_pictures(
+        frame.pictures.as_slice(),
+        frame.header.interlace,
+        frame.header.alpha,
+        sink,
+    )
 }

@@ -1,7 +1,6 @@
 use Rattle.std.proofs.Common.{refl, ◌∙◌, arith}
 use Rattle.pw_outside.specs.Writing.{sink_state}
 use Rattle.pw_outside.proofs.Puts.{puts_none}
-use Rattle.pw_planes.specs.declared.kinds.AlphaKind.TheVariants.{Absent}
 use Rattle.pr_frame.specs.Written.{picture_bytes, picture_length}
 use Rattle.pr_frame.proofs.PutSteps.{err-any, list-more, list-front, list-all, one-length}
 use Rattle.pr_frame.proofs.write.write_pictures.Goals as goal
@@ -18,7 +17,7 @@ returns-in_err-write_picture-clause-err g c =
     let xs = c.args.pictures.now in
     let n = c.loop-picture.picture-index in
     let x = c.picture-item.result in
-    err-any c.from_residual.result (list-front (picture_bytes c.args.mode Absent) xs n x c.loop-picture-test.true c.picture-item.is c.loop-picture.invariant.puts c.in_err-write_picture.ensures.err)
+    err-any c.from_residual.result (list-front (picture_bytes c.args.mode c.args.alpha) xs n x c.loop-picture-test.true c.picture-item.is c.loop-picture.invariant.puts c.in_err-write_picture.ensures.err)
 
 pub loop-picture-preserved : goal.loop-picture-preserved
 loop-picture-preserved g c =
@@ -27,15 +26,15 @@ loop-picture-preserved g c =
     let n = c.loop-picture.picture-index in
     let x = c.picture-item.result in
     record {
-      puts = list-more (picture_bytes c.args.mode Absent) xs n x c.loop-picture-test.true c.picture-item.is i.puts c.in_ok-write_picture.ensures.ok;
+      puts = list-more (picture_bytes c.args.mode c.args.alpha) xs n x c.loop-picture-test.true c.picture-item.is i.puts c.in_ok-write_picture.ensures.ok;
       settled = omega (arith, i.settled, c.in_ok-write_picture.ensures.settled);
       cause = c.in_ok-write_picture.ensures.cause.kept ∙ i.cause;
     }
 
 pub returns-clause-ok : goal.returns-clause-ok
-returns-clause-ok g c = list-all (picture_bytes c.args.mode Absent) c.args.pictures.now c.loop-picture.picture-index c.loop-picture-test.false c.loop-picture.invariant.puts
+returns-clause-ok g c = list-all (picture_bytes c.args.mode c.args.alpha) c.args.pictures.now c.loop-picture.picture-index c.loop-picture-test.false c.loop-picture.invariant.puts
 
 pub write_picture-requires-clause-short : goal.write_picture-requires-clause-short
 write_picture-requires-clause-short g c =
     let x = c.picture-item.result in
-    omega (arith, c.requires.short, one-length (picture_length c.args.mode Absent) c.args.pictures.now c.loop-picture.picture-index x c.loop-picture-test.true c.picture-item.is)
+    omega (arith, c.requires.short, one-length (picture_length c.args.mode c.args.alpha) c.args.pictures.now c.loop-picture.picture-index x c.loop-picture-test.true c.picture-item.is)

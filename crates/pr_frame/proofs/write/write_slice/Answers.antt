@@ -1,30 +1,35 @@
-use Rattle.std.proofs.Common.{refl}
-use Rattle.pr_frame.proofs.PutSteps.{on-ok, on-err, err-any, slice-puts, slice-head, slice-y, slice-cb, slice-cr}
+use Rattle.pr_frame.specs.declared.coded.CodedSlice.{CodedSlice}
+use Rattle.pr_frame.proofs.PutSteps.{on-ok, on-err, err-any, slice-puts, slice-head, slice-y, slice-cb, slice-cr, slice-alpha}
 use Rattle.pr_frame.proofs.write.write_slice.Goals as goal
 
 pub returns-in_err-write_slice_header-clause-err : goal.returns-in_err-write_slice_header-clause-err
 returns-in_err-write_slice_header-clause-err g c =
-    let s = c.args.slice.now in
-    err-any c.from_residual.result (slice-head c.args.mode s c.header_of.result s.y s.cb s.cr c.header_of.ensures refl refl refl c.in_err-write_slice_header.ensures.err)
+    let s : CodedSlice = record { index = c.args.index; y = c.args.y.now; cb = c.args.cb.now; cr = c.args.cr.now; alpha = c.args.values.now } in
+    err-any c.from_residual.result (slice-head c.args.mode c.args.alpha s c.header_of-header.result c.has_alpha.result c.header_of-header.ensures c.has_alpha.ensures c.in_err-write_slice_header.ensures.err)
 
 pub returns-in_err-write_part-clause-err : goal.returns-in_err-write_part-clause-err
 returns-in_err-write_part-clause-err g c =
-    let s = c.args.slice.now in
-    err-any c.from_residual-in_err-write_part.result (slice-y c.args.mode s c.header_of.result c.as_slice.result.now s.cb s.cr c.header_of.ensures c.as_slice.ensures refl refl c.in_ok-write_slice_header.ensures.ok c.in_err-write_part.ensures.err)
+    let s : CodedSlice = record { index = c.args.index; y = c.args.y.now; cb = c.args.cb.now; cr = c.args.cr.now; alpha = c.args.values.now } in
+    err-any c.from_residual-in_err-write_part.result (slice-y c.args.mode c.args.alpha s c.header_of-header.result c.has_alpha.result c.header_of-header.ensures c.has_alpha.ensures c.in_ok-write_slice_header.ensures.ok c.in_err-write_part.ensures.err)
 
 pub returns-in_err-write_part-2-clause-err : goal.returns-in_err-write_part-2-clause-err
 returns-in_err-write_part-2-clause-err g c =
-    let s = c.args.slice.now in
-    err-any c.from_residual-in_err-write_part-2.result (slice-cb c.args.mode s c.header_of.result c.as_slice.result.now c.as_slice-2.result.now s.cr c.header_of.ensures c.as_slice.ensures c.as_slice-2.ensures refl c.in_ok-write_slice_header.ensures.ok c.in_ok-write_part.ensures.ok c.in_err-write_part-2.ensures.err)
+    let s : CodedSlice = record { index = c.args.index; y = c.args.y.now; cb = c.args.cb.now; cr = c.args.cr.now; alpha = c.args.values.now } in
+    err-any c.from_residual-in_err-write_part-2.result (slice-cb c.args.mode c.args.alpha s c.header_of-header.result c.has_alpha.result c.header_of-header.ensures c.has_alpha.ensures c.in_ok-write_slice_header.ensures.ok c.in_ok-write_part.ensures.ok c.in_err-write_part-2.ensures.err)
+
+pub returns-in_err-write_part-3-clause-err : goal.returns-in_err-write_part-3-clause-err
+returns-in_err-write_part-3-clause-err g c =
+    let s : CodedSlice = record { index = c.args.index; y = c.args.y.now; cb = c.args.cb.now; cr = c.args.cr.now; alpha = c.args.values.now } in
+    err-any c.from_residual-in_err-write_part-3.result (slice-cr c.args.mode c.args.alpha s c.header_of-header.result c.has_alpha.result c.header_of-header.ensures c.has_alpha.ensures c.in_ok-write_slice_header.ensures.ok c.in_ok-write_part.ensures.ok c.in_ok-write_part-2.ensures.ok c.in_err-write_part-3.ensures.err)
 
 pub returns-clause-ok : goal.returns-clause-ok
 returns-clause-ok g c =
-    let s = c.args.slice.now in
-    on-ok c.write_part-3.result (slice-puts c.args.mode s c.header_of.result c.as_slice.result.now c.as_slice-2.result.now c.as_slice-3.result.now c.header_of.ensures c.as_slice.ensures c.as_slice-2.ensures c.as_slice-3.ensures
-    c.in_ok-write_slice_header.ensures.ok c.in_ok-write_part.ensures.ok c.in_ok-write_part-2.ensures.ok) c.write_part-3.ensures.ok
+    let s : CodedSlice = record { index = c.args.index; y = c.args.y.now; cb = c.args.cb.now; cr = c.args.cr.now; alpha = c.args.values.now } in
+    on-ok c.write_values.result (slice-puts c.args.mode c.args.alpha s c.header_of-header.result c.has_alpha.result c.header_of-header.ensures c.has_alpha.ensures
+    c.in_ok-write_slice_header.ensures.ok c.in_ok-write_part.ensures.ok c.in_ok-write_part-2.ensures.ok c.in_ok-write_part-3.ensures.ok) c.write_values.ensures.ok
 
 pub returns-clause-err : goal.returns-clause-err
 returns-clause-err g c =
-    let s = c.args.slice.now in
-    on-err c.write_part-3.result (slice-cr c.args.mode s c.header_of.result c.as_slice.result.now c.as_slice-2.result.now c.as_slice-3.result.now c.header_of.ensures c.as_slice.ensures c.as_slice-2.ensures c.as_slice-3.ensures
-    c.in_ok-write_slice_header.ensures.ok c.in_ok-write_part.ensures.ok c.in_ok-write_part-2.ensures.ok) c.write_part-3.ensures.err
+    let s : CodedSlice = record { index = c.args.index; y = c.args.y.now; cb = c.args.cb.now; cr = c.args.cr.now; alpha = c.args.values.now } in
+    on-err c.write_values.result (slice-alpha c.args.mode c.args.alpha s c.header_of-header.result c.has_alpha.result c.header_of-header.ensures c.has_alpha.ensures
+    c.in_ok-write_slice_header.ensures.ok c.in_ok-write_part.ensures.ok c.in_ok-write_part-2.ensures.ok c.in_ok-write_part-3.ensures.ok) c.write_values.ensures.err

@@ -1,7 +1,6 @@
 use Rattle.std.proofs.Common.{refl, ◌∙◌, arith}
 use Rattle.pw_outside.specs.Writing.{sink_state}
 use Rattle.pw_outside.proofs.Puts.{puts_none}
-use Rattle.pw_planes.specs.declared.kinds.AlphaKind.TheVariants.{Absent}
 use Rattle.pr_frame.specs.Written.{slice_bytes}
 use Rattle.pr_frame.proofs.PutSteps.{err-any, list-more, list-front, list-all}
 use Rattle.pr_frame.proofs.write.write_slices.Goals as goal
@@ -13,12 +12,12 @@ loop-slice-init g c = record {
   cause = refl;
 }
 
-pub returns-in_err-write_slice-clause-err : goal.returns-in_err-write_slice-clause-err
-returns-in_err-write_slice-clause-err g c =
+pub returns-in_err-write_coded-clause-err : goal.returns-in_err-write_coded-clause-err
+returns-in_err-write_coded-clause-err g c =
     let xs = c.args.slices.now in
     let n = c.loop-slice.slice-index in
     let x = c.slice-item.result in
-    err-any c.from_residual.result (list-front (slice_bytes c.args.mode Absent) xs n x c.loop-slice-test.true c.slice-item.is c.loop-slice.invariant.puts c.in_err-write_slice.ensures.err)
+    err-any c.from_residual.result (list-front (slice_bytes c.args.mode c.args.alpha) xs n x c.loop-slice-test.true c.slice-item.is c.loop-slice.invariant.puts c.in_err-write_coded.ensures.err)
 
 pub loop-slice-preserved : goal.loop-slice-preserved
 loop-slice-preserved g c =
@@ -27,10 +26,10 @@ loop-slice-preserved g c =
     let n = c.loop-slice.slice-index in
     let x = c.slice-item.result in
     record {
-      puts = list-more (slice_bytes c.args.mode Absent) xs n x c.loop-slice-test.true c.slice-item.is i.puts c.in_ok-write_slice.ensures.ok;
-      settled = omega (arith, i.settled, c.in_ok-write_slice.ensures.settled);
-      cause = c.in_ok-write_slice.ensures.cause.kept ∙ i.cause;
+      puts = list-more (slice_bytes c.args.mode c.args.alpha) xs n x c.loop-slice-test.true c.slice-item.is i.puts c.in_ok-write_coded.ensures.ok;
+      settled = omega (arith, i.settled, c.in_ok-write_coded.ensures.settled);
+      cause = c.in_ok-write_coded.ensures.cause.kept ∙ i.cause;
     }
 
 pub returns-clause-ok : goal.returns-clause-ok
-returns-clause-ok g c = list-all (slice_bytes c.args.mode Absent) c.args.slices.now c.loop-slice.slice-index c.loop-slice-test.false c.loop-slice.invariant.puts
+returns-clause-ok g c = list-all (slice_bytes c.args.mode c.args.alpha) c.args.slices.now c.loop-slice.slice-index c.loop-slice-test.false c.loop-slice.invariant.puts

@@ -1,7 +1,6 @@
 use Rattle.std.proofs.Common.{refl, ◌∙◌, arith}
 use Rattle.pw_outside.specs.Writing.{sink_state}
 use Rattle.pw_outside.proofs.Puts.{puts_none}
-use Rattle.pw_planes.specs.declared.kinds.AlphaKind.TheVariants.{Absent}
 use Rattle.pr_frame.specs.Written.{slice_length}
 use Rattle.pr_frame.proofs.PutSteps.{err-any, table-more, table-front, table-all}
 use Rattle.pr_frame.proofs.write.write_table.Goals as goal
@@ -18,7 +17,7 @@ returns-in_err-write_size-clause-err g c =
     let xs = c.args.slices.now in
     let n = c.loop-slice.slice-index in
     let x = c.slice-item.result in
-    err-any c.from_residual.result (table-front (slice_length c.args.mode Absent) xs n x c.loop-slice-test.true c.slice-item.is c.loop-slice.invariant.puts c.in_err-write_size.ensures.err)
+    err-any c.from_residual.result (table-front (slice_length c.args.mode c.args.alpha) xs n x c.loop-slice-test.true c.slice-item.is c.loop-slice.invariant.puts c.in_err-write_size.ensures.err)
 
 pub loop-slice-preserved : goal.loop-slice-preserved
 loop-slice-preserved g c =
@@ -27,10 +26,10 @@ loop-slice-preserved g c =
     let n = c.loop-slice.slice-index in
     let x = c.slice-item.result in
     record {
-      puts = table-more (slice_length c.args.mode Absent) xs n x c.loop-slice-test.true c.slice-item.is i.puts c.in_ok-write_size.ensures.ok;
+      puts = table-more (slice_length c.args.mode c.args.alpha) xs n x c.loop-slice-test.true c.slice-item.is i.puts c.in_ok-write_size.ensures.ok;
       settled = omega (arith, i.settled, c.in_ok-write_size.ensures.settled);
       cause = c.in_ok-write_size.ensures.cause.kept ∙ i.cause;
     }
 
 pub returns-clause-ok : goal.returns-clause-ok
-returns-clause-ok g c = table-all (slice_length c.args.mode Absent) c.args.slices.now c.loop-slice.slice-index c.loop-slice-test.false c.loop-slice.invariant.puts
+returns-clause-ok g c = table-all (slice_length c.args.mode c.args.alpha) c.args.slices.now c.loop-slice.slice-index c.loop-slice-test.false c.loop-slice.invariant.puts

@@ -1,13 +1,12 @@
 use Rattle.std.proofs.Common.{◌≡◌, ◌≤◌, map, take}
 use Rattle.pw_outside.specs.Writing.{sink_state, Puts}
-use Rattle.pw_planes.specs.declared.kinds.AlphaKind.TheVariants.{Absent}
 use Rattle.pr_head.specs.Laws.{sizes_bytes}
 use Rattle.pr_frame.specs.Written.{slice_length}
 use Rattle.pr_frame.proofs.write.write_table.Given as goal
 
 abbrev pub invariant-loop-slice : goal.invariant-loop-slice
 invariant-loop-slice g l = record {
-  puts : Puts (sink_state (g.K.ByteSink.held l.initial.sink) (g.K.ByteSink.taken l.initial.sink)) (sink_state (g.K.ByteSink.held l.sink) (g.K.ByteSink.taken l.sink)) (sizes_bytes (map (slice_length l.mode Absent) (take l.slice-index l.slices)));
+  puts : Puts (sink_state (g.K.ByteSink.held l.initial.sink) (g.K.ByteSink.taken l.initial.sink)) (sink_state (g.K.ByteSink.held l.sink) (g.K.ByteSink.taken l.sink)) (sizes_bytes (map (slice_length l.mode l.alpha) (take l.slice-index l.slices)));
   settled : g.K.ByteSink.settled l.initial.sink ≤ g.K.ByteSink.settled l.sink;
   cause : g.K.ByteSink.faults l.sink ≡ g.K.ByteSink.faults l.initial.sink;
 }
