@@ -1,30 +1,20 @@
--- Slices coded one after the other, and what a coded frame has.
-use Rattle.std.proofs.Common.{◌≡◌, ℕ, ◌+◌, ◌*◌, ◌%◌, ◌/◌, ◌<◌, ◌≤◌, List, [], ◌∷◌, ◌++◌, length, map, take, drop, get_or, ℤ, pos, nat_abs, refl, sym, ap, ◌∙◌, subst, arith, length-take-le}
-use Rattle.std.specs.List.{All, AllZip, flat_map, range_with_len}
-use Rattle.std.proofs.lemmas.List.{length-map, take_all, get_or_default, append-nil}
-use Rattle.std.proofs.lemmas.List.Elements.{All-cons, All-head, All-tail, All-map}
-use Rattle.pw_planes.specs.declared.kinds.Interlace.{Interlace}
-use Rattle.pw_planes.specs.declared.kinds.Interlace.TheVariants.{Progressive}
-use Rattle.pr_geom.specs.declared.layout.Layout.{Layout}
+-- Slices coded one after the other, and what each has.
+use Rattle.std.proofs.Common.{◌≡◌, ℕ, zero, suc, ◌+◌, ◌-◌, ◌*◌, ◌<◌, ◌≤◌, List, [], ◌∷◌, ◌++◌, length, map, take, drop, get_or, ℤ, pos, nat_abs, refl, sym, ap, ◌∙◌, subst, arith, length-take-le}
+use Rattle.std.specs.List.{All, AllZip}
+use Rattle.std.proofs.lemmas.List.{length-map, get_or_default}
+use Rattle.std.proofs.lemmas.List.Elements.{All-head, All-tail, All-map}
 use Rattle.pr_geom.specs.declared.places.SlicePlace.{SlicePlace}
-use Rattle.pr_geom.specs.Faults.{IsAllowed, slice_count}
 use Rattle.pr_geom.specs.Layout.{slices_of}
-use Rattle.pr_geom.specs.Slices.{pictures_of, macroblocks, picture_slices}
 use Rattle.pr_quant.specs.declared.weights.Weights.{Weights}
 use Rattle.pr_head.specs.declared.frame.FrameHeader.{FrameHeader}
 use Rattle.pr_frame.specs.declared.coded.CodedSlice.{CodedSlice}
-use Rattle.pr_frame.specs.declared.coded.CodedPicture.{CodedPicture}
-use Rattle.pr_frame.specs.declared.coded.CodedFrame.{CodedFrame}
-use Rattle.pr_frame.specs.Forms.{places_in, IsBuilt}
-use Rattle.pr_frame.specs.Coded.{AreCodedSlices, IsCodedPicture, IsCodedFrame, IsWritableBlock, IsWritableSlice, IsWritablePicture, IsWritableHeader, IsWritable}
+use Rattle.pr_frame.specs.Coded.{AreCodedSlices, IsWritableBlock}
 use Rattle.rate_build.specs.declared.slices.SliceCoefficients.{SliceCoefficients}
 use Rattle.pr_quant.specs.Errors.{multipliers}
 use Rattle.rate_build.specs.Measures.{quantised_block, quantised_part, IsMultiplier, IsBlock}
-use Rattle.rate_build.specs.Coefficients.{FrameCoefficients, IsSliceAt, AreOfLayout, frame_places}
-use Rattle.rate_build.specs.Coding.{coded_slice, coded_slices, coded_picture, coded_frame, weights_in, IsHeaderOf, IsIndex}
+use Rattle.rate_build.specs.Coefficients.{FrameCoefficients, IsSliceAt}
+use Rattle.rate_build.specs.Coding.{coded_slice, coded_slices, coded_picture, weights_in, IsIndex}
 use Rattle.rate_build.proofs.InTurn.{take_more}
-use Rattle.rate_build.proofs.Lengths.{coded_number}
-use Rattle.rate_build.proofs.Whole.{slices_number}
 use Rattle.rate_build.proofs.Small.{value_small}
 
 -- ---- blocks
@@ -59,7 +49,38 @@ coded_more w slices choice i s d coded x within number is made so_far =
     let one : coded ++ x ∷ [] ≡ coded_slices w (take i slices) (take i choice) ++ coded_slice w (get_or choice i 0) s ∷ [] = λ j. so_far j ++ made j ∷ [] in
     one ∙ sym (coded_push w (take i slices) (take i choice) s (get_or choice i 0) same) ∙ sym (λ j. coded_slices w (a j) (b j))
 
--- ---- a frame
+-- the slices from a place on, and the first ones
+coded_drop : (w : Weights) (slices : List SliceCoefficients) (choice : List ℕ) (m : ℕ) → length choice ≡ length slices → coded_slices w (drop m slices) (drop m choice) ≡ drop m (coded_slices w slices choice)
+coded_drop w slices choice zero e = refl
+coded_drop w [] [] (suc m) e = refl
+coded_drop w [] (i ∷ choice) (suc m) e = absurd (omega (arith, e))
+coded_drop w (s ∷ slices) [] (suc m) e = absurd (omega (arith, e))
+coded_drop w (s ∷ slices) (i ∷ choice) (suc m) e = coded_drop w slices choice m (omega (arith, e))
+
+coded_take : (w : Weights) (slices : List SliceCoefficients) (choice : List ℕ) (n : ℕ) → coded_slices w (take n slices) (take n choice) ≡ take n (coded_slices w slices choice)
+coded_take w slices choice zero = refl
+coded_take w [] choice (suc n) = refl
+coded_take w (s ∷ slices) [] (suc n) = refl
+coded_take w (s ∷ slices) (i ∷ choice) (suc n) = ap (λ l. coded_slice w i s ∷ l) (coded_take w slices choice n)
+
+pub coded_range : (w : Weights) (slices : List SliceCoefficients) (choice : List ℕ) (m n : ℕ) → length choice ≡ length slices
+    → coded_slices w (take n (drop m slices)) (take n (drop m choice)) ≡ take n (drop m (coded_slices w slices choice))
+coded_range w slices choice m n e = coded_take w (drop m slices) (drop m choice) n ∙ ap (take n) (coded_drop w slices choice m e)
+
+-- the coded slices of a picture
+pub picture_is : (c : FrameCoefficients) (h : FrameHeader) (choice : List ℕ) (picture count place : ℕ) (slices : List SliceCoefficients) (coded : List CodedSlice)
+    → length choice ≡ length c.slices → count ≡ length (slices_of c.layout) → place ≡ picture → slices ≡ c.slices
+    → coded ≡ coded_slices (weights_in h) (take (count * place + count - count * place) (drop (count * place) slices)) (take (count * place + count - count * place) (drop (count * place) choice))
+    → record { log2 = c.layout.log2; slices = coded } ≡ coded_picture c (coded_slices (weights_in h) c.slices choice) picture
+picture_is c h choice picture count place slices coded number count_is place_is slices_are made =
+    let w = weights_in h in
+    let n = length (slices_of c.layout) in
+    let long : count * place + count - count * place ≡ n = omega (arith, count_is) in
+    let from : count * place ≡ n * picture = λ j. count_is j * place_is j in
+    let told : coded ≡ coded_slices w (take n (drop (n * picture) c.slices)) (take n (drop (n * picture) choice)) =
+    made ∙ (λ j. coded_slices w (take (long j) (drop (from j) (slices_are j))) (take (long j) (drop (from j) choice))) in
+    let is = told ∙ coded_range w c.slices choice (n * picture) n number in
+    λ j. record { log2 = c.layout.log2; slices = is j }
 
 pub are_coded : (h : FrameHeader) (places : List SlicePlace) (slices : List SliceCoefficients) (choice : List ℕ) → AllZip (IsSliceAt h.chroma h.alpha) places slices → length choice ≡ length slices → All IsIndex choice
     → AreCodedSlices h places (coded_slices (weights_in h) slices choice)
@@ -83,83 +104,3 @@ are_coded h (p ∷ places) (s ∷ slices) (i ∷ choice) zip e each =
       },
       are_coded h places slices choice zip.1 (omega (arith, e)) (All-tail IsIndex i choice each),
     )
-
--- ---- a progressive frame
-
-one_picture : (l : Layout) (mode : Interlace) → mode ≡ Progressive → flat_map (λ picture. slices_of l) (range_with_len 0 (pictures_of mode)) ≡ slices_of l
-one_picture l mode e = ap (λ m. flat_map (λ picture. slices_of l) (range_with_len 0 (pictures_of m))) e ∙ append-nil (slices_of l)
-
-module _ (c : FrameCoefficients) (h : FrameHeader) (choice : List ℕ) (are : AreOfLayout c) (is : IsHeaderOf c h) (built : IsBuilt h) (number : length choice ≡ length c.slices) (each : All IsIndex choice)
-    (slices : List CodedSlice) (made : slices ≡ coded_slices (weights_in h) c.slices choice) where
-  abbrev pub whole_frame : List CodedPicture → CodedFrame
-  whole_frame pictures = record { header = h; pictures = pictures }
-
-  abbrev pub picture : CodedPicture
-  picture = record { log2 = c.layout.log2; slices = slices }
-
-  progressive : c.layout.interlace ≡ Progressive
-  progressive = sym is.interlace ∙ built.interlace
-
-  all_slices : length slices ≡ length (slices_of c.layout)
-  all_slices = ap length made ∙ coded_number (weights_in h) c.slices choice number ∙ slices_number c are
-      ∙ (let one : pictures_of c.layout.interlace ≡ 1 = ap pictures_of progressive in omega (arith, ap (λ p. p * length (slices_of c.layout)) one))
-
-  pub frame_is : (pictures : List CodedPicture) → pictures ≡ picture ∷ [] → whole_frame pictures ≡ coded_frame c h choice
-  frame_is pictures e =
-      let n = length (slices_of c.layout) in
-      let all = coded_slices (weights_in h) c.slices choice in
-      let none : n * 0 ≡ 0 = omega arith in
-      let front : take n (drop (n * 0) all) ≡ slices = ap (λ k. take n (drop k all)) none ∙ ap (take n) (sym made) ∙ take_all n slices (omega (arith, all_slices)) in
-      let one : coded_picture c all 0 ≡ picture = λ j. record { log2 = c.layout.log2; slices = front j } in
-      let more : map (coded_picture c all) (range_with_len 0 (pictures_of c.layout.interlace)) ≡ coded_picture c all 0 ∷ [] = ap (λ mode. map (coded_picture c all) (range_with_len 0 (pictures_of mode))) progressive in
-      let same : pictures ≡ map (coded_picture c all) (range_with_len 0 (pictures_of c.layout.interlace)) = e ∙ ap (λ x. x ∷ []) (sym one) ∙ sym more in
-      λ j. record { header = h; pictures = same j }
-
-  module _ (allowed : IsAllowed c.layout.width c.layout.height c.layout.log2 c.layout.interlace) (writable : IsWritableHeader h) (small : All IsWritableSlice slices) where
-    allowed_here : IsAllowed h.width h.height c.layout.log2 h.interlace
-    allowed_here =
-        let whole : h.height % pictures_of h.interlace ≡ c.layout.height % pictures_of c.layout.interlace = λ j. is.height j % pictures_of (is.interlace j) in
-        let count : slice_count h.width h.height c.layout.log2 h.interlace ≡ slice_count c.layout.width c.layout.height c.layout.log2 c.layout.interlace = λ j. slice_count (is.width j) (is.height j) c.layout.log2 (is.interlace j) in
-        record {
-          some_columns = omega (arith, is.width, allowed.some_columns);
-          some_rows = omega (arith, is.height, allowed.some_rows);
-          columns = omega (arith, is.width, allowed.columns);
-          rows = omega (arith, is.height, allowed.rows);
-          size = allowed.size;
-          whole = whole ∙ allowed.whole;
-          slices = omega (arith, count, allowed.slices);
-        }
-
-    at_places : AllZip (IsSliceAt h.chroma h.alpha) (places_in h c.layout.log2) c.slices
-    at_places =
-        let places : frame_places c.layout ≡ places_in h c.layout.log2 =
-        one_picture c.layout c.layout.interlace progressive ∙ sym (λ j. picture_slices (macroblocks (is.width j)) (macroblocks (is.height j / pictures_of (is.interlace j))) c.layout.log2) in
-        subst (λ chroma. AllZip (IsSliceAt chroma h.alpha) (places_in h c.layout.log2) c.slices) (sym is.chroma)
-        (subst (λ alpha. AllZip (IsSliceAt c.layout.chroma alpha) (places_in h c.layout.log2) c.slices) (sym is.alpha)
-        (subst (λ p. AllZip (IsSliceAt c.layout.chroma c.alpha) p c.slices) places are))
-
-    picture_coded : IsCodedPicture h picture
-    picture_coded = record {
-      layout = allowed_here;
-      slices = subst (AreCodedSlices h (places_in h c.layout.log2)) (sym made) (are_coded h (places_in h c.layout.log2) c.slices choice at_places number each);
-    }
-
-    one_of : (P : CodedPicture → Type 0) → P picture → All P (picture ∷ [])
-    one_of P p = All-cons P picture [] p (λ k d l. absurd (omega (arith, l)))
-
-    frame_coded : IsCodedFrame (whole_frame (picture ∷ []))
-    frame_coded =
-        let a = allowed_here in
-        record {
-          layout = record { some_columns = a.some_columns; some_rows = a.some_rows; columns = a.columns; rows = a.rows; whole = a.whole };
-          number = sym (ap pictures_of built.interlace);
-          pictures = one_of (IsCodedPicture h) picture_coded;
-        }
-
-    pub frame_writable : (pictures : List CodedPicture) → pictures ≡ picture ∷ [] → IsWritable (whole_frame pictures)
-    frame_writable pictures e = subst (λ p. IsWritable (whole_frame p)) (sym e) (record {
-      coded = frame_coded;
-      opaque = record { alpha = built.alpha };
-      header = writable;
-      values = one_of IsWritablePicture small;
-    })

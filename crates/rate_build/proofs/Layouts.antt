@@ -59,6 +59,11 @@ some_samples D8 = omega arith
 some_samples D10 = omega arith
 some_samples D12 = omega arith
 
+-- the samples of a field have the depth of its frame's
+pub field_has_depth : (frame field : Raster) (parity : Parity) (depth other : Depth) → field ≡ field_of frame parity → other ≡ depth → HasDepth frame depth → HasDepth field other
+field_has_depth frame field parity depth other is same small =
+    subst (HasDepth field) (sym same) (subst (λ plane. HasDepth plane depth) (sym is) (field_below frame parity (2 ^ bits_of depth) (some_samples depth) small))
+
 signed_small : (depth : Depth) (s : ℕ) → s < 2 ^ bits_of depth → nat_abs (signed_sample depth s) ≤ 2048
 signed_small D8 s h = omega (arith, ints)
 signed_small D10 s h = omega (arith, ints)

@@ -1,7 +1,6 @@
--- A slice of coefficients has what its parts have.
-use Rattle.std.proofs.Common.{◌≡◌, ℕ, List, [], length, ℤ, None, ap, ◌∙◌, arith}
+-- A slice of coefficients, made of its parts.
+use Rattle.std.proofs.Common.{◌≡◌, ℕ, List, [], length, ℤ, None}
 use Rattle.std.proofs.lemmas.List.{length-map}
-use Rattle.pw_planes.specs.declared.kinds.AlphaKind.TheVariants.{Absent}
 use Rattle.pw_planes.specs.declared.kinds.Chroma.{Chroma}
 use Rattle.pw_planes.specs.declared.kinds.Depth.{Depth}
 use Rattle.pw_planes.specs.Plane.{Raster}
@@ -10,8 +9,7 @@ use Rattle.pr_geom.specs.declared.places.Part.TheVariants.{Y, Cb, Cr}
 use Rattle.pr_geom.specs.declared.places.SlicePlace.{SlicePlace}
 use Rattle.pr_geom.specs.Blocks.{blocks_of}
 use Rattle.rate_build.specs.declared.slices.SliceCoefficients.{SliceCoefficients}
-use Rattle.rate_build.specs.Measures.{ArePart}
-use Rattle.rate_build.specs.Coefficients.{coefficients_at, part_coefficients, alpha_values, Planes, slice_coefficients, IsSliceAt}
+use Rattle.rate_build.specs.Coefficients.{coefficients_at, part_coefficients, alpha_values, Planes, slice_coefficients}
 
 pub part_length : (plane : Raster) (depth : Depth) (chroma : Chroma) (part : Part) (slice : SlicePlace) → length (part_coefficients plane depth chroma part slice) ≡ length (blocks_of chroma part slice)
 unfolding part_coefficients
@@ -28,15 +26,3 @@ module _ (p : Planes) (depth : Depth) (chroma : Chroma) (slice : SlicePlace) (y 
   slice_is none =
       let a : alpha ≡ alpha_values p.alpha slice = rw none alpha_is in
       λ j. record { y = y_is j; cb = cb_is j; cr = cr_is j; alpha = a j }
-
-  pub slice_at : ArePart y → ArePart cb → ArePart cr → IsSliceAt chroma Absent slice sliced
-  slice_at y_part cb_part cr_part = record {
-    y = ap length y_is ∙ part_length p.y depth chroma Y slice;
-    cb = ap length cb_is ∙ part_length p.cb depth chroma Cb slice;
-    cr = ap length cr_is ∙ part_length p.cr depth chroma Cr slice;
-    values = ap length alpha_is;
-    y_part = y_part;
-    cb_part = cb_part;
-    cr_part = cr_part;
-    alpha_range = λ k d h. absurd (omega (arith, h, ap length alpha_is));
-  }

@@ -1,5 +1,5 @@
 -- The table of a frame is within the limits of tables.
-use Rattle.std.proofs.Common.{◌≡◌, ◌*◌, ◌^◌, ◌<◌, ◌≤◌, List, [], ◌∷◌, ◌++◌, length, refl, ◌∙◌, arith, length-append}
+use Rattle.std.proofs.Common.{◌≡◌, ℕ, ◌+◌, ◌*◌, ◌^◌, ◌<◌, ◌≤◌, List, [], ◌∷◌, ◌++◌, length, refl, ◌∙◌, arith, length-append}
 use Rattle.std.proofs.Math.Nat.{mul-le-mul_right}
 use Rattle.std.proofs.lemmas.Nat.{mul-le}
 use Rattle.std.proofs.lemmas.List.Sums.{sum_by-cons}
@@ -45,6 +45,12 @@ repeated l BottomFirst = omega (arith, length-append (slices_of l) (slices_of l 
 
 pub slices_number : (c : FrameCoefficients) → AreOfLayout c → length c.slices ≡ pictures_of c.layout.interlace * length (slices_of c.layout)
 slices_number c h = AllZip-long (IsSliceAt c.layout.chroma c.alpha) (frame_places c.layout) c.slices h ∙ repeated c.layout c.layout.interlace
+
+-- the slices of a picture are among those of the frame
+pub picture_inside : (c : FrameCoefficients) (picture : ℕ) → AreOfLayout c → picture < pictures_of c.layout.interlace → length (slices_of c.layout) * picture + length (slices_of c.layout) ≤ length c.slices
+picture_inside c picture are few =
+    let n = length (slices_of c.layout) in
+    omega (arith, slices_number c are, mul-le (picture + 1) n (pictures_of c.layout.interlace) n (omega (arith, few)) (omega arith))
 
 pub pictures_few : (mode : Interlace) → (1 ≤ pictures_of mode) × (pictures_of mode ≤ 2)
 pictures_few Progressive = (omega arith, omega arith)

@@ -9,7 +9,7 @@ use Rattle.pr_geom.specs.declared.layout.Layout.{Layout}
 use Rattle.pr_quant.specs.declared.weights.Weights.{Weights}
 use Rattle.pr_head.specs.declared.frame.FrameHeader.{FrameHeader}
 use Rattle.pr_frame.specs.declared.coded.CodedFrame.{CodedFrame}
-use Rattle.pr_frame.specs.Forms.{IsBuilt}
+use Rattle.pr_frame.specs.Forms.{IsOpaque}
 use Rattle.pr_frame.specs.Coded.{IsCodedFrame, IsWritablePicture, IsWritableHeader, IsWritable, HasArrays, HasShape}
 use Rattle.pr_frame.specs.Written.{frame_length_of}
 use Rattle.rate_table.specs.declared.entry.Entry.{Entry}
@@ -42,13 +42,13 @@ abbrev pub TableIsTable : Type 0
 TableIsTable = (c : FrameCoefficients) (w : Weights) (lo hi budget : ℕ) → AreOfLayout c → AreMatrices w → AreWeights w → 1 ≤ lo → lo ≤ hi → hi ≤ 224
     → 1 ≤ budget → budget < 2 ^ 31 → IsTable (table_of c w lo hi budget)
 
--- A frame has what the types say, the pictures, slices and blocks of its layout, and values that can be written. Where its form is
--- built, it can be written.
+-- A frame has what the types say, the pictures, slices and blocks of its layout, and values that can be written. Where it has no
+-- alpha, it can be written.
 pub record IsReady (f : CodedFrame) : Type 0 where
   pub shape : HasShape f
   pub coded : IsCodedFrame f
   pub values : All IsWritablePicture f.pictures
-  pub writable : IsBuilt f.header → IsWritable f
+  pub writable : IsOpaque f.header → IsWritable f
 
 -- What is coded by one index for each slice can be written.
 abbrev pub CodedIsReady : Type 0

@@ -1,12 +1,13 @@
 //! From coefficients to a coded frame.
 
-ghost use Rattle.std.specs.Prelude.{◌≡◌, ◌≤◌, ◌<◌, length, IfOk};
+ghost use Rattle.std.specs.Prelude.{◌≡◌, ◌+◌, ◌*◌, ◌≤◌, length, IfOk};
 ghost use Rattle.std.specs.List.{All};
+ghost use Rattle.pr_geom.specs.Layout.{slices_of};
 ghost use Rattle.pr_quant.specs.Matrices.{IsWeight};
-ghost use Rattle.pr_frame.specs.Forms.{IsBuilt};
-ghost use Rattle.pr_frame.specs.Coded.{IsWritableBlock, IsWritableSlice, IsWritableHeader, IsWritable};
+ghost use Rattle.pr_frame.specs.Forms.{IsOpaque};
+ghost use Rattle.pr_frame.specs.Coded.{IsWritableBlock, IsWritableSlice, IsWritablePicture, IsWritableHeader, IsWritable};
 ghost use Rattle.rate_build.specs.Measures.{quantised_part, ArePart};
-ghost use Rattle.rate_build.specs.Coding.{coded_slice, coded_slices, coded_frame, weights_in, IsHeaderOf, IsIndex};
+ghost use Rattle.rate_build.specs.Coding.{coded_slice, coded_slices, coded_picture, coded_frame, weights_in, IsHeaderOf, IsIndex};
 ghost use Rattle.rate_build.specs.Tables.{HasParts, AreWeights};
 
 use crate::costs::{multipliers_of, quantise_block};
@@ -89,7 +90,37 @@ fn slices_at(
     Ok(coded)
 }
 
-/// The progressive frame of these coefficients, each slice quantised at its own index.
+/// The coded picture of a number, each slice quantised at its own index.
+fn picture_at(
+    alloc: Global,
+    coefficients: &Coefficients,
+    header: &FrameHeader,
+    choice: &[u8],
+    picture: u8,
+) -> Result<CodedPicture, AllocError>
+    requires writable { IsWritableHeader header.now }
+    requires number { length choice.now ≡ length coefficients.now.slices }
+    requires indices { All IsIndex choice.now }
+    requires inside { length (slices_of coefficients.now.layout) * picture + length (slices_of coefficients.now.layout) ≤ length coefficients.now.slices }
+    ensures value { IfOk result (λ x. x ≡ coded_picture coefficients.now (coded_slices (weights_in header.now) coefficients.now.slices choice.now) picture) }
+    ensures small { IfOk result IsWritablePicture }
+{
+    let count = coefficients.layout.slices() as usize;
+    let from = count * usize::from(picture);
+    let all = coefficients.slices.as_slice();
+    let coded = slices_at(
+        alloc,
+        &all[from..from + count],
+        header,
+        &choice[from..from + count],
+    )?;
+    Ok(CodedPicture {
+        log2: coefficients.layout.log2,
+        slices: CodedSlices::from_vec(coded),
+    })
+}
+
+/// The frame of these coefficients, each slice quantised at its own index.
 fn frame_at(
     alloc: Global,
     coefficients: &Coefficients,
@@ -97,20 +128,18 @@ fn frame_at(
     choice: &[u8],
 ) -> Result<CodedFrame, AllocError>
     requires header { IsHeaderOf coefficients.now header.now }
-    requires built { IsBuilt header.now }
+    requires opaque { IsOpaque header.now }
     requires writable { IsWritableHeader header.now }
     requires number { length choice.now ≡ length coefficients.now.slices }
     requires indices { All IsIndex choice.now }
     ensures frame { IfOk result (λ f. f ≡ coded_frame coefficients.now header.now choice.now) }
     ensures writable { IfOk result IsWritable }
 {
-    let slices = slices_at(alloc, coefficients.slices.as_slice(), header, choice)?;
-    let picture = CodedPicture {
-        log2: coefficients.layout.log2,
-        slices: CodedSlices::from_vec(slices),
-    };
-    let mut pictures = Vec::with_capacity(alloc, 1)?;
-    pictures.push(picture)?;
+    let count = coefficients.layout.pictures();
+    let mut pictures = Vec::with_capacity(alloc, usize::from(count))?;
+    for number in 0..count {
+        pictures.push(picture_at(alloc, coefficients, header, choice, number)?)?;
+    }
     Ok(CodedFrame {
         header: *header,
         pictures: CodedPictures::from_vec(pictures),
@@ -118,8 +147,8 @@ fn frame_at(
 }
 
 /// The frame of these coefficients with this header, each slice quantised at its own index, from 1 to 224, by the weights
-/// of the header. The header has the size and the form of the coefficients, which is progressive 4:2:2 without alpha: no
-/// other is built; its other fields are such that the frame can be written.
+/// of the header. The header has the size and the form of the coefficients, which is one without alpha: it isn't built;
+/// its other fields are such that the frame can be written.
 ///
 /// The error says that memory ran out.
 pub fn coded(
@@ -129,7 +158,7 @@ pub fn coded(
     choice: &[u8],
 ) -> Result<CodedFrame, NoMemory>
     requires header { IsHeaderOf coefficients.now header.now }
-    requires built { IsBuilt header.now }
+    requires opaque { IsOpaque header.now }
     requires writable { IsWritableHeader header.now }
     requires number { length choice.now ≡ length coefficients.now.slices }
     requires indices { All IsIndex choice.now }

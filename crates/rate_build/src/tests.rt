@@ -1,11 +1,9 @@
 //! Tables that were worked out outside of this crate.
 
 ghost use Rattle.std.specs.Prelude.{◌≡◌, ◌<◌, ◌^◌, None};
-ghost use Rattle.pw_planes.specs.declared.kinds.Chroma.TheVariants.{C422};
 ghost use Rattle.pw_planes.specs.declared.kinds.AlphaKind.TheVariants.{Absent};
 ghost use Rattle.pw_planes.specs.Samples.{bits_of};
 ghost use Rattle.std.specs.List.{All};
-ghost use Rattle.pw_planes.specs.declared.kinds.Interlace.TheVariants.{Progressive};
 ghost use Rattle.pr_geom.specs.Layout.{IsLayoutOf};
 ghost use Rattle.pr_dct.specs.Transform.{AreWithin};
 ghost use Rattle.pr_quant.specs.Quantised.{greatest_coefficient};
@@ -26,6 +24,27 @@ use pw_planes::{AlphaKind, Chroma, Depth, Interlace, Picture, Plane};
 use rate_table::{Entry, FrameTable};
 use std::alloc::Global;
 use std::process::Abort;
+
+/// The form of a picture and of its table.
+#[derive(Clone, Copy)]
+struct Form {
+    chroma: Chroma,
+    interlace: Interlace,
+    depth: Depth,
+    log2: u8,
+    matrix: Matrix,
+}
+
+/// The form of progressive pictures in 4:2:2.
+fn plain(depth: Depth, log2: u8, matrix: Matrix) -> Form {
+    Form {
+        chroma: Chroma::C422,
+        interlace: Interlace::Progressive,
+        depth,
+        log2,
+        matrix,
+    }
+}
 
 fn limit(depth: Depth) -> u16
     ensures { result ≡ 2 ^ bits_of depth }
@@ -55,24 +74,26 @@ fn plane(rt: &impl Abort, alloc: Global, bytes: &[u8], size: (u32, u32), depth: 
 }
 
 /// A picture of so many columns and rows, plane behind plane.
-fn picture(rt: &impl Abort, alloc: Global, bytes: &[u8], size: (u32, u32), depth: Depth) -> Picture
-    ensures depth { (result.depth ≡ depth) × HasDepth result.y depth × HasDepth result.cb depth × HasDepth result.cr depth }
-    ensures form { (result.chroma ≡ C422) × (result.alpha ≡ None) }
+fn picture(rt: &impl Abort, alloc: Global, bytes: &[u8], size: (u32, u32), form: &Form) -> Picture
+    ensures depth { (result.depth ≡ form.now.depth) × HasDepth result.y result.depth × HasDepth result.cb result.depth × HasDepth result.cr result.depth }
+    ensures form { (result.chroma ≡ form.now.chroma) × (result.alpha ≡ None) }
 {
     let (width, height) = size;
+    let depth = form.depth;
     assert!(rt; width <= 64 && height <= 64);
-    let narrow = width.div_ceil(2);
+    let columns = form.chroma.plane_width(width);
+    assert!(rt; columns <= 64);
     let luma = 2 * (width * height) as usize;
-    let chroma = 2 * (narrow * height) as usize;
+    let chroma = 2 * (columns * height) as usize;
     let y = bytes.get(..luma).unwrap_or(&[]);
     let cb = bytes.get(luma..luma + chroma).unwrap_or(&[]);
     let cr = bytes.get(luma + chroma..).unwrap_or(&[]);
     Picture {
         y: plane(rt, alloc, y, (width, height), depth),
-        cb: plane(rt, alloc, cb, (narrow, height), depth),
-        cr: plane(rt, alloc, cr, (narrow, height), depth),
+        cb: plane(rt, alloc, cb, (columns, height), depth),
+        cr: plane(rt, alloc, cr, (columns, height), depth),
         alpha: None,
-        chroma: Chroma::C422,
+        chroma: form.chroma,
         depth,
     }
 }
@@ -83,17 +104,17 @@ fn coefficients(
     alloc: Global,
     picture: &Picture,
     size: (u16, u16),
-    log2: u8,
+    form: &Form,
 ) -> Coefficients
-    requires form { (picture.now.chroma ≡ C422) × (picture.now.alpha ≡ None) }
+    requires form { (picture.now.chroma ≡ form.now.chroma) × (picture.now.alpha ≡ None) }
     requires depth { HasDepth picture.now.y picture.now.depth × HasDepth picture.now.cb picture.now.depth × HasDepth picture.now.cr picture.now.depth }
     ensures alpha { result.alpha ≡ Absent }
-    ensures layout { IsLayoutOf result.layout size.0 size.1 log2 Progressive C422 }
+    ensures layout { IsLayoutOf result.layout size.0 size.1 form.now.log2 form.now.interlace form.now.chroma }
 {
     let (width, height) = size;
-    assert!(rt; log2 <= 3);
+    assert!(rt; form.log2 <= 3);
     assert!(rt; picture.has_size(u32::from(width), u32::from(height)));
-    match Layout::new(width, height, log2, Interlace::Progressive, Chroma::C422) {
+    match Layout::new(width, height, form.log2, form.interlace, form.chroma) {
         Ok(layout) => coefficients_of(alloc, picture, &layout, AlphaKind::Absent).expect(
             rt, "memory",
         ),
@@ -107,20 +128,15 @@ fn table(
     alloc: Global,
     bytes: &[u8],
     (width, height): (u16, u16),
-    (depth, log2, matrix): (Depth, u8, Matrix),
+    form: &Form,
     (lo, hi): (u8, u8),
 ) -> FrameTable {
-    let picture = picture(
-        rt,
-        alloc,
-        bytes,
-        (u32::from(width), u32::from(height)),
-        depth,
-    );
-    let coefficients = coefficients(rt, alloc, &picture, (width, height), log2);
+    let size = (u32::from(width), u32::from(height));
+    let picture = picture(rt, alloc, bytes, size, form);
+    let coefficients = coefficients(rt, alloc, &picture, (width, height), form);
     assert!(rt; 1 <= lo && lo <= hi && hi <= 224);
     named_weights_are_in_range();
-    let weights = Weights::named(matrix);
+    let weights = Weights::named(form.matrix);
     build_table(alloc, &coefficients, &weights, lo, hi, 1000).expect(rt, "memory")
 }
 
@@ -150,8 +166,8 @@ fn builds_the_table_of_a_grey_picture(rt: HostRuntime) {
     for i in 0..512 {
         bytes[2 * i + 1] = 2;
     }
-    let form = (Depth::D10, 3, Matrix::Flat);
-    let table = table(&rt, rt.alloc(), &bytes, (16, 16), form, (1, 3));
+    let form = plain(Depth::D10, 3, Matrix::Flat);
+    let table = table(&rt, rt.alloc(), &bytes, (16, 16), &form, (1, 3));
     assert_eq!(rt; (table.budget, table.fixed), (1000, 166));
     assert_eq!(rt; table.slices.as_slice().len(), 1);
     has_entries(&rt, &table, 0, 1, &[(12, 0), (12, 0), (12, 0)]);
@@ -164,8 +180,8 @@ fn builds_the_table_of_9_by_2(rt: HostRuntime) {
         \xac\x00\xac\x00\x53\x00\xac\x00\xac\x00\xac\x00\xac\x00\x53\x00\x5e\x00\x5e\x00\
         \x5e\x00\x5e\x00\xa1\x00\x5e\x00\x5e\x00\x5e\x00\x5e\x00\xa1\x00";
     let size = (9, 2);
-    let form = (Depth::D8, 2, Matrix::Steep);
-    let table = table(&rt, rt.alloc(), bytes, size, form, (1, 1));
+    let form = plain(Depth::D8, 2, Matrix::Steep);
+    let table = table(&rt, rt.alloc(), bytes, size, &form, (1, 1));
     assert_eq!(rt; table.fixed, 166);
     assert_eq!(rt; table.slices.as_slice().len(), 1);
     has_entries(&rt, &table, 0, 1, &[(81, 144)]);
@@ -175,8 +191,8 @@ fn builds_the_table_of_9_by_2(rt: HostRuntime) {
 fn builds_the_table_of_1_by_2(rt: HostRuntime) {
     let bytes = b"\x3f\x01\x55\x01\x64\x01\x3d\x01\x4e\x01\x7a\x01";
     let size = (1, 2);
-    let form = (Depth::D10, 1, Matrix::Flat);
-    let table = table(&rt, rt.alloc(), bytes, size, form, (1, 4));
+    let form = plain(Depth::D10, 1, Matrix::Flat);
+    let table = table(&rt, rt.alloc(), bytes, size, &form, (1, 4));
     assert_eq!(rt; table.fixed, 166);
     assert_eq!(rt; table.slices.as_slice().len(), 1);
     has_entries(
@@ -195,8 +211,8 @@ fn builds_the_table_of_4_by_4(rt: HostRuntime) {
         \x0e\x03\x0e\x03\x0e\x03\x0e\x03\x1d\x00\x1d\x00\x1d\x00\x1d\x00\x1d\x00\x1d\x00\
         \x1d\x00\x1d\x00";
     let size = (4, 4);
-    let form = (Depth::D10, 3, Matrix::Steep);
-    let table = table(&rt, rt.alloc(), bytes, size, form, (200, 215));
+    let form = plain(Depth::D10, 3, Matrix::Steep);
+    let table = table(&rt, rt.alloc(), bytes, size, &form, (200, 215));
     assert_eq!(rt; table.fixed, 166);
     assert_eq!(rt; table.slices.as_slice().len(), 1);
     has_entries(
@@ -232,8 +248,8 @@ fn builds_the_table_of_20_by_1(rt: HostRuntime) {
         \xce\x08\x64\x08\xfa\x07\x90\x07\x26\x07\xbc\x06\x52\x06\xe8\x05\x7e\x05\x14\x05\
         \x1e\x09\x9d\x08\x1c\x08\x9b\x07\x1a\x07\x99\x06\x18\x06\x97\x05\x16\x05\x95\x04";
     let size = (20, 1);
-    let form = (Depth::D12, 0, Matrix::Flat);
-    let table = table(&rt, rt.alloc(), bytes, size, form, (2, 2));
+    let form = plain(Depth::D12, 0, Matrix::Flat);
+    let table = table(&rt, rt.alloc(), bytes, size, &form, (2, 2));
     assert_eq!(rt; table.fixed, 168);
     assert_eq!(rt; table.slices.as_slice().len(), 2);
     has_entries(&rt, &table, 0, 2, &[(77, 324)]);
@@ -246,8 +262,8 @@ fn builds_the_table_of_1_by_9(rt: HostRuntime) {
         \xff\x07\xfb\x07\xff\x07\xfb\x07\xff\x07\xfb\x07\xff\x07\xfb\x07\x71\x07\xff\x07\
         \x71\x07\xff\x07\x71\x07\xff\x07\x71\x07\xff\x07\x71\x07";
     let size = (1, 9);
-    let form = (Depth::D12, 1, Matrix::Steep);
-    let table = table(&rt, rt.alloc(), bytes, size, form, (126, 132));
+    let form = plain(Depth::D12, 1, Matrix::Steep);
+    let table = table(&rt, rt.alloc(), bytes, size, &form, (126, 132));
     assert_eq!(rt; table.fixed, 166);
     assert_eq!(rt; table.slices.as_slice().len(), 1);
     has_entries(
@@ -271,8 +287,8 @@ fn builds_the_table_of_1_by_9(rt: HostRuntime) {
 fn builds_the_table_of_2_by_1(rt: HostRuntime) {
     let bytes = b"\xec\x01\xe9\x01\x06\x09\x71\x08";
     let size = (2, 1);
-    let form = (Depth::D12, 0, Matrix::Flat);
-    let table = table(&rt, rt.alloc(), bytes, size, form, (1, 7));
+    let form = plain(Depth::D12, 0, Matrix::Flat);
+    let table = table(&rt, rt.alloc(), bytes, size, &form, (1, 7));
     assert_eq!(rt; table.fixed, 166);
     assert_eq!(rt; table.slices.as_slice().len(), 1);
     has_entries(
@@ -307,19 +323,19 @@ fn frame(
     alloc: Global,
     bytes: &[u8],
     (width, height): (u16, u16),
-    (depth, log2, matrix): (Depth, u8, Matrix),
+    form: &Form,
     choice: &[u8],
 ) -> (u64, MemSink) {
     let size = (u32::from(width), u32::from(height));
-    let picture = picture(rt, alloc, bytes, size, depth);
-    let coefficients = coefficients(rt, alloc, &picture, (width, height), log2);
+    let picture = picture(rt, alloc, bytes, size, form);
+    let coefficients = coefficients(rt, alloc, &picture, (width, height), form);
     named_weights_are_in_range();
-    let weights = Weights::named(matrix);
+    let weights = Weights::named(form.matrix);
     let header = own_header(
         width,
         height,
-        Chroma::C422,
-        Interlace::Progressive,
+        form.chroma,
+        form.interlace,
         AlphaKind::Absent,
         &weights,
     );
@@ -339,8 +355,8 @@ fn writes_the_frame_of_a_grey_picture(rt: HostRuntime) {
     for i in 0..512 {
         bytes[2 * i + 1] = 2;
     }
-    let form = (Depth::D10, 3, Matrix::Flat);
-    let (length, sink) = frame(&rt, rt.alloc(), &bytes, (16, 16), form, &[1]);
+    let form = plain(Depth::D10, 3, Matrix::Flat);
+    let (length, sink) = frame(&rt, rt.alloc(), &bytes, (16, 16), &form, &[1]);
     assert_eq!(rt; length, 178);
     let mut want = [4; 178];
     want[..28].copy_from_slice(
@@ -358,10 +374,42 @@ fn codes_each_slice_at_its_own_index(rt: HostRuntime) {
         \xd3\x0d\x64\x0e\xf5\x0e\x86\x0f\xff\x0f\xff\x0f\xff\x0f\xff\x0f\xff\x0f\xff\x0f\
         \xce\x08\x64\x08\xfa\x07\x90\x07\x26\x07\xbc\x06\x52\x06\xe8\x05\x7e\x05\x14\x05\
         \x1e\x09\x9d\x08\x1c\x08\x9b\x07\x1a\x07\x99\x06\x18\x06\x97\x05\x16\x05\x95\x04";
-    let form = (Depth::D12, 0, Matrix::Flat);
-    let (length, sink) = frame(&rt, rt.alloc(), bytes, (20, 1), form, &[2, 2]);
+    let form = plain(Depth::D12, 0, Matrix::Flat);
+    let (length, sink) = frame(&rt, rt.alloc(), bytes, (20, 1), &form, &[2, 2]);
     assert_eq!(rt; length, 168 + 77 + 51);
     assert_eq!(rt; sink.bytes().len(), 168 + 77 + 51);
+}
+
+#[test]
+fn codes_the_bottom_field_first(rt: HostRuntime) {
+    let bytes = b"\xa3\x01\xa7\x03\x3c\x01\x8d\x03\x7d\x01\x4f\x01";
+    let form = Form {
+        chroma: Chroma::C444,
+        interlace: Interlace::BottomFirst,
+        depth: Depth::D10,
+        log2: 3,
+        matrix: Matrix::Flat,
+    };
+    let table = table(&rt, rt.alloc(), bytes, (1, 2), &form, (120, 122));
+    assert_eq!(rt; table.fixed, 176);
+    assert_eq!(rt; table.slices.as_slice().len(), 2);
+    has_entries(
+        &rt,
+        &table,
+        0,
+        120,
+        &[(12, 271880), (12, 140744), (12, 214920)],
+    );
+    has_entries(
+        &rt,
+        &table,
+        1,
+        120,
+        &[(12, 106496), (12, 129920), (12, 189952)],
+    );
+    let (length, sink) = frame(&rt, rt.alloc(), bytes, (1, 2), &form, &[120, 122]);
+    assert_eq!(rt; length, 176 + 12 + 12);
+    assert_eq!(rt; sink.bytes().len(), 176 + 12 + 12);
 }
 
 /// The coefficients of the block are in range.

@@ -1,13 +1,11 @@
 //! From the samples of a picture to its coefficients.
 
-ghost use Rattle.std.specs.Prelude.{◌≡◌, ◌≤◌, ◌<◌, length, None, IfOk, slice_index_or, map, take};
-ghost use Rattle.std.specs.List.{AllZip};
+ghost use Rattle.std.specs.Prelude.{◌≡◌, ◌++◌, ◌%◌, None, IfOk, OnOk};
 ghost use Rattle.pw_planes.specs.declared.kinds.AlphaKind.TheVariants.{Absent};
-ghost use Rattle.pw_planes.specs.declared.kinds.Interlace.TheVariants.{Progressive};
 ghost use Rattle.pr_dct.specs.Transform.{AreWithin};
-ghost use Rattle.pr_geom.specs.Layout.{IsSlice, slices_of};
+ghost use Rattle.pr_geom.specs.Layout.{IsSlice};
 ghost use Rattle.rate_build.specs.Measures.{IsBlock, ArePart};
-ghost use Rattle.rate_build.specs.Coefficients.{coefficients_at, part_coefficients, planes_of, slice_coefficients, picture_coefficients, frame_coefficients, IsSliceAt, HasDepth, IsPictureOf};
+ghost use Rattle.rate_build.specs.Coefficients.{coefficients_at, part_coefficients, planes_of, field_planes, slice_coefficients, picture_coefficients, frame_coefficients, AreOfLayout, HasDepth, IsPictureOf};
 
 use crate::slices::{CoefficientSlices, Coefficients, SliceCoefficients};
 use pr_coeff::Block;
@@ -15,7 +13,7 @@ use pr_dct::forward;
 use pr_frame::{AlphaValues, Blocks};
 use pr_geom::{Layout, Part, SlicePlace};
 use pw_outside::NoMemory;
-use pw_planes::{AlphaKind, Depth, Picture, Plane};
+use pw_planes::{AlphaKind, Depth, Interlace, Parity, Picture, Plane};
 use std::alloc::{AllocError, Global};
 
 /// The coefficients of a block in fewer bits.
@@ -63,18 +61,18 @@ fn part_of(
     Ok(blocks)
 }
 
-/// The coefficients of a slice of a progressive picture without alpha.
+/// The coefficients of a slice of a coded picture without alpha.
 fn slice_of(
     alloc: Global,
     picture: &Picture,
     layout: &Layout,
     slice: &SlicePlace,
 ) -> Result<SliceCoefficients, AllocError>
-    requires picture { IsPictureOf layout.now picture.now }
-    requires slice { IsSlice layout.now slice.now }
+    requires luma { HasDepth picture.now.y picture.now.depth }
+    requires chroma { HasDepth picture.now.cb picture.now.depth × HasDepth picture.now.cr picture.now.depth }
     requires no_alpha { picture.now.alpha ≡ None }
-    ensures value { IfOk result (λ s. s ≡ slice_coefficients (planes_of picture.now) picture.now.depth layout.now.chroma slice.now) }
-    ensures slice { IfOk result (IsSliceAt layout.now.chroma Absent slice.now) }
+    requires slice { IsSlice layout.now slice.now }
+    ensures { IfOk result (λ s. s ≡ slice_coefficients (planes_of picture.now) picture.now.depth layout.now.chroma slice.now) }
 {
     let y = part_of(alloc, &picture.y, picture.depth, layout, slice, Part::Y)?;
     let cb = part_of(alloc, &picture.cb, picture.depth, layout, slice, Part::Cb)?;
@@ -87,29 +85,133 @@ fn slice_of(
     })
 }
 
-/// The coefficients of all slices of a progressive picture without alpha.
-fn all_slices_of(
+/// Puts the coefficients of all slices of a coded picture without alpha behind those that are there.
+fn add_slices(
     alloc: Global,
     picture: &Picture,
     layout: &Layout,
-) -> Result<Vec<SliceCoefficients>, AllocError>
-    requires picture { IsPictureOf layout.now picture.now }
+    slices: &mut Vec<SliceCoefficients>,
+) -> Result<(), AllocError>
+    requires luma { HasDepth picture.now.y picture.now.depth }
+    requires chroma { HasDepth picture.now.cb picture.now.depth × HasDepth picture.now.cr picture.now.depth }
     requires no_alpha { picture.now.alpha ≡ None }
-    ensures value { IfOk result (λ v. v.items ≡ picture_coefficients layout.now picture.now.depth (planes_of picture.now)) }
-    ensures slices { IfOk result (λ v. AllZip (IsSliceAt layout.now.chroma Absent) (slices_of layout.now) v.items) }
+    ensures { OnOk result (slices.new.items ≡ slices.old.items ++ picture_coefficients layout.now picture.now.depth (planes_of picture.now)) }
 {
     let count = layout.slices();
-    let mut slices = Vec::with_capacity(alloc, count as usize)?;
+    slices.reserve(count as usize)?;
     for number in 0..count {
         let slice = layout.slice(number);
         slices.push(slice_of(alloc, picture, layout, &slice)?)?;
     }
+    Ok(())
+}
+
+/// The same, with an error that says that memory ran out.
+fn add_picture(
+    alloc: Global,
+    picture: &Picture,
+    layout: &Layout,
+    slices: &mut Vec<SliceCoefficients>,
+) -> Result<(), NoMemory>
+    requires luma { HasDepth picture.now.y picture.now.depth }
+    requires chroma { HasDepth picture.now.cb picture.now.depth × HasDepth picture.now.cr picture.now.depth }
+    requires no_alpha { picture.now.alpha ≡ None }
+    ensures { OnOk result (slices.new.items ≡ slices.old.items ++ picture_coefficients layout.now picture.now.depth (planes_of picture.now)) }
+{
+    match add_slices(alloc, picture, layout, slices) {
+        Ok(()) => Ok(()),
+        Err(_) => Err(NoMemory),
+    }
+}
+
+/// A field of a picture without alpha, as a picture of half the height.
+fn field_of(alloc: Global, picture: &Picture, parity: Parity) -> Result<Picture, NoMemory>
+    requires luma { picture.now.y.height % 2 ≡ 0 }
+    requires chroma { (picture.now.cb.height % 2 ≡ 0) × (picture.now.cr.height % 2 ≡ 0) }
+    requires no_alpha { picture.now.alpha ≡ None }
+    ensures planes { IfOk result (λ f. planes_of f ≡ field_planes (planes_of picture.now) parity) }
+    ensures depth { IfOk result (λ f. f.depth ≡ picture.now.depth) }
+{
+    Ok(Picture {
+        y: picture.y.field(alloc, parity)?,
+        cb: picture.cb.field(alloc, parity)?,
+        cr: picture.cr.field(alloc, parity)?,
+        alpha: None,
+        chroma: picture.chroma,
+        depth: picture.depth,
+    })
+}
+
+/// Puts the coefficients of all slices of a field behind those that are there.
+fn add_field(
+    alloc: Global,
+    picture: &Picture,
+    parity: Parity,
+    layout: &Layout,
+    slices: &mut Vec<SliceCoefficients>,
+) -> Result<(), NoMemory>
+    requires picture { IsPictureOf layout.now picture.now }
+    requires even { layout.now.height % 2 ≡ 0 }
+    requires no_alpha { picture.now.alpha ≡ None }
+    ensures { OnOk result (slices.new.items ≡ slices.old.items ++ picture_coefficients layout.now picture.now.depth (field_planes (planes_of picture.now) parity)) }
+{
+    let field = field_of(alloc, picture, parity)?;
+    add_picture(alloc, &field, layout, slices)
+}
+
+/// The coefficients of all slices of a progressive picture without alpha.
+fn whole_picture(
+    alloc: Global,
+    picture: &Picture,
+    layout: &Layout,
+) -> Result<Vec<SliceCoefficients>, NoMemory>
+    requires picture { IsPictureOf layout.now picture.now }
+    requires no_alpha { picture.now.alpha ≡ None }
+    ensures { IfOk result (λ v. v.items ≡ picture_coefficients layout.now picture.now.depth (planes_of picture.now)) }
+{
+    let mut slices = Vec::new(alloc);
+    add_picture(alloc, picture, layout, &mut slices)?;
     Ok(slices)
 }
 
+/// The coefficients of all slices of the two fields of a picture without alpha, the earlier field first.
+fn both_fields(
+    alloc: Global,
+    picture: &Picture,
+    layout: &Layout,
+    first: Parity,
+    second: Parity,
+) -> Result<Vec<SliceCoefficients>, NoMemory>
+    requires picture { IsPictureOf layout.now picture.now }
+    requires even { layout.now.height % 2 ≡ 0 }
+    requires no_alpha { picture.now.alpha ≡ None }
+    ensures { IfOk result (λ v. v.items ≡ picture_coefficients layout.now picture.now.depth (field_planes (planes_of picture.now) first) ++ picture_coefficients layout.now picture.now.depth (field_planes (planes_of picture.now) second)) }
+{
+    let mut slices = Vec::new(alloc);
+    add_field(alloc, picture, first, layout, &mut slices)?;
+    add_field(alloc, picture, second, layout, &mut slices)?;
+    Ok(slices)
+}
+
+/// The coefficients of all slices of the coded pictures of a picture without alpha, the earlier one first.
+fn all_slices_of(
+    alloc: Global,
+    picture: &Picture,
+    layout: &Layout,
+) -> Result<Vec<SliceCoefficients>, NoMemory>
+    requires picture { IsPictureOf layout.now picture.now }
+    requires no_alpha { picture.now.alpha ≡ None }
+    ensures { IfOk result (λ v. v.items ≡ frame_coefficients picture.now layout.now) }
+{
+    match layout.interlace {
+        Interlace::Progressive => whole_picture(alloc, picture, layout),
+        Interlace::TopFirst => both_fields(alloc, picture, layout, Parity::Top, Parity::Bottom),
+        Interlace::BottomFirst => both_fields(alloc, picture, layout, Parity::Bottom, Parity::Top),
+    }
+}
+
 fn whole_of(layout: &Layout, slices: Vec<SliceCoefficients>) -> Coefficients
-    requires progressive { layout.now.interlace ≡ Progressive }
-    requires slices { AllZip (IsSliceAt layout.now.chroma Absent) (slices_of layout.now) slices.items }
+    requires { AreOfLayout (record { layout = layout.now; alpha = Absent; slices = slices.items }) }
     ensures layout { result.layout ≡ layout.now }
     ensures alpha { result.alpha ≡ Absent }
     ensures slices { result.slices ≡ slices.items }
@@ -121,8 +223,8 @@ fn whole_of(layout: &Layout, slices: Vec<SliceCoefficients>) -> Coefficients
     }
 }
 
-/// The coefficients of a picture, which has the layout's size and chroma format and samples of its depth. The picture is
-/// progressive and has no alpha: no other form is built.
+/// The coefficients of a picture, which has the layout's size and chroma format and samples of its depth: those of its
+/// coded pictures, the earlier field first where it is interlaced. The picture has no alpha: it isn't built.
 ///
 /// The error says that memory ran out.
 pub fn coefficients_of(
@@ -133,13 +235,10 @@ pub fn coefficients_of(
 ) -> Result<Coefficients, NoMemory>
     requires picture { IsPictureOf layout.now picture.now }
     requires no_alpha { (alpha ≡ Absent) × (picture.now.alpha ≡ None) }
-    requires progressive { layout.now.interlace ≡ Progressive }
     ensures layout { IfOk result (λ c. c.layout ≡ layout.now) }
     ensures alpha { IfOk result (λ c. c.alpha ≡ alpha) }
     ensures slices { IfOk result (λ c. c.slices ≡ frame_coefficients picture.now layout.now) }
 {
-    match all_slices_of(alloc, picture, layout) {
-        Ok(slices) => Ok(whole_of(layout, slices)),
-        Err(_) => Err(NoMemory),
-    }
+    let slices = all_slices_of(alloc, picture, layout)?;
+    Ok(whole_of(layout, slices))
 }

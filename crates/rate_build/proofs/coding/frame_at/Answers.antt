@@ -1,32 +1,48 @@
-use Rattle.std.proofs.Common.{◌∷◌, ◌++◌, [], length, sym, subst, ap, ◌∙◌, List}
-use Rattle.std.specs.List.{All}
-use Rattle.rate_build.specs.declared.slices.SliceCoefficients.{SliceCoefficients}
-use Rattle.rate_build.specs.Coefficients.{FrameCoefficients}
-use Rattle.rate_build.specs.Coding.{coded_slices, coded_frame, weights_in, IsHeaderOf}
-use Rattle.rate_build.specs.Tables.{HasParts}
-use Rattle.pr_frame.specs.declared.coded.CodedPicture.{CodedPicture}
-use Rattle.pr_frame.specs.Coded.{IsWritableSlice}
-use Rattle.rate_build.proofs.Whole.{parts_of}
-use Rattle.rate_build.proofs.Chosen.{frame_is, frame_writable}
+use Rattle.std.proofs.Common.{◌≡◌, ◌+◌, ◌*◌, ◌<◌, ◌≤◌, [], ◌∷◌, ◌++◌, length, map, sym, subst, ap, ◌∙◌, arith}
+use Rattle.std.specs.List.{All, range_with_len}
+use Rattle.std.proofs.lemmas.List.Elements.{All-push}
+use Rattle.std.proofs.lemmas.List.FromFn.{map-range_with_len_more}
+use Rattle.pr_geom.specs.Layout.{slices_of}
+use Rattle.pr_geom.specs.Slices.{pictures_of}
+use Rattle.pr_frame.specs.Coded.{IsWritablePicture, IsWritable}
+use Rattle.rate_build.specs.Coefficients.{FrameCoefficients, AreOfLayout}
+use Rattle.rate_build.specs.Coding.{coded_slices, coded_picture, coded_frame, weights_in}
+use Rattle.rate_build.proofs.Whole.{picture_inside}
+use Rattle.rate_build.proofs.Writable.{frame_writable}
 use Rattle.rate_build.proofs.coding.frame_at.Goals as goal
 
-pub slices_at-requires-clause-parts : goal.slices_at-requires-clause-parts
-slices_at-requires-clause-parts c = subst (All HasParts) (sym c.as_slice.ensures) (parts_of _ _ _ _ c.coefficients.invariant)
+pub picture_at-requires-clause-inside : goal.picture_at-requires-clause-inside
+picture_at-requires-clause-inside c =
+    let v : FrameCoefficients = record { layout = c.coefficients.inside.layout; alpha = c.coefficients.inside.alpha; slices = c.coefficients.inside.slices } in
+    let k = c.loop-number.number in
+    let few : k < pictures_of c.coefficients.inside.layout.interlace = omega (arith, c.loop-number-test.true, c.pictures-count.ensures) in
+    subst (λ (v : FrameCoefficients). length (slices_of v.layout) * k + length (slices_of v.layout) ≤ length v.slices) c.coefficients.view_is (picture_inside v k c.coefficients.invariant few)
 
-pub slices_at-requires-clause-number : goal.slices_at-requires-clause-number
-slices_at-requires-clause-number c = c.requires.number ∙ sym (ap length c.as_slice.ensures ∙ ap (λ (v : FrameCoefficients). length v.slices) c.coefficients.view_is)
+pub loop-number-preserved : goal.loop-number-preserved
+loop-number-preserved c =
+    let inv = c.loop-number.invariant in
+    let x = c.in_ok-picture_at.ensures in
+    let k = c.loop-number.number in
+    let picture = coded_picture c.args.coefficients.now (coded_slices (weights_in c.args.header.now) c.args.coefficients.now.slices c.args.choice.now) in
+    rw c.in_ok-push.ensures.items (record {
+      value = (λ j. inv.value j ++ x.value j ∷ []) ∙ sym (map-range_with_len_more picture 0 k k (omega arith));
+      small = All-push IsWritablePicture c.loop-number.pictures.items _ inv.small x.small;
+    })
 
 pub returns : goal.returns
 returns c =
-    let v : FrameCoefficients = record { layout = c.coefficients.inside.layout; alpha = c.coefficients.inside.alpha; slices = c.coefficients.inside.slices } in
+    let v = c.args.coefficients.now in
     let h = c.args.header.now in
     let choice = c.args.choice.now in
-    let is = subst (λ v. IsHeaderOf v h) (sym c.coefficients.view_is) c.requires.header in
-    let number = c.requires.number ∙ sym (ap (λ (v : FrameCoefficients). length v.slices) c.coefficients.view_is) in
-    let made = c.from_vec.ensures ∙ c.in_ok-slices.ensures.value ∙ ap (λ (s : List SliceCoefficients). coded_slices (weights_in h) s choice) c.as_slice.ensures in
-    let small = subst (All IsWritableSlice) (sym c.from_vec.ensures) c.in_ok-slices.ensures.small in
-    let pictures = c.from_vec-2.ensures ∙ c.in_ok-push.ensures.items ∙ ap (λ (l : List CodedPicture). l ++ record { log2 = c.coefficients.inside.layout.log2; slices = c.from_vec.result } ∷ []) c.in_ok-pictures.ensures.items in
+    let inv = c.loop-number.invariant in
+    let picture = coded_picture v (coded_slices (weights_in h) v.slices choice) in
+    let last : c.loop-number.number ≡ c.pictures-count.result = omega (arith, c.loop-number-test.false, c.loop-number.auto.number-end) in
+    let count = last ∙ c.pictures-count.ensures ∙ ap (λ (v : FrameCoefficients). pictures_of v.layout.interlace) c.coefficients.view_is in
+    let pictures : c.from_vec.result ≡ (coded_frame v h choice).pictures = c.from_vec.ensures ∙ inv.value ∙ ap (λ n. map picture (range_with_len 0 n)) count in
+    let frame : record { header = h; pictures = c.from_vec.result } ≡ coded_frame v h choice = λ j. record { header = h; pictures = pictures j } in
+    let values = subst (All IsWritablePicture) (sym c.from_vec.ensures ∙ pictures) inv.small in
+    let invariant = subst AreOfLayout c.coefficients.view_is c.coefficients.invariant in
     record {
-      frame = frame_is v h choice c.coefficients.invariant is c.requires.built number c.requires.indices c.from_vec.result made c.from_vec-2.result pictures ∙ ap (λ v. coded_frame v h choice) c.coefficients.view_is;
-      writable = frame_writable v h choice c.coefficients.invariant is c.requires.built number c.requires.indices c.from_vec.result made c.coefficients.inside.layout.allowed c.requires.writable small c.from_vec-2.result pictures;
+      frame = frame;
+      writable = subst IsWritable (sym frame) (frame_writable v h choice invariant c.requires.header c.requires.number c.requires.indices c.requires.opaque c.requires.writable values);
     }
