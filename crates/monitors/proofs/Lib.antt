@@ -1,0 +1,4 @@
+pub mod Fronts
+pub mod Joined
+pub mod Runs
+pub mod Sums

@@ -1,0 +1,53 @@
+-- The runs of black pictures. Our own text.
+use Rattle.std.specs.Prelude.{ℕ, ◌+◌, ◌-◌, ◌^◌, Bool, true, false, not, ◌&&◌, List, [], ◌∷◌, ◌++◌, Option, Some, None, min, nat_le, codes, if◌then◌else◌}
+use Rattle.std.specs.Fmt.{decimal}
+use Rattle.std.specs.List.{flat_map, prefix_len}
+use Rattle.pw_outside.specs.Ports.{last}
+use Rattle.pw_planes.specs.declared.kinds.Depth.{Depth}
+use Rattle.pw_planes.specs.Samples.{bits_of}
+use Rattle.monitors.specs.declared.facts.PictureFacts.{PictureFacts}
+use Rattle.monitors.specs.declared.black.Run.{Run}
+use Rattle.monitors.specs.States.{State}
+
+-- the greatest luma of a black picture
+abbrev pub black_limit : Depth → ℕ
+black_limit depth = 2 ^ (bits_of depth - 4)
+
+abbrev pub is_black : PictureFacts → Bool
+is_black f = nat_le f.greatest_luma (black_limit f.depth)
+
+-- the run that begins with this picture: it has as many as are black from here on
+abbrev pub run_from : PictureFacts → List PictureFacts → Run
+run_from f fs = record { first = f.number; count = min (prefix_len is_black (f ∷ fs)) last }
+
+-- The runs that begin among these pictures: one where a picture is black and the one in front of it isn't. The first
+-- has one in front of it that is black, or none that is.
+abbrev pub runs_behind : Bool → List PictureFacts → List Run
+runs_behind black [] = []
+runs_behind black (f ∷ fs) = (if is_black f && not black then run_from f fs ∷ [] else []) ++ runs_behind (is_black f) fs
+
+abbrev pub run_line : Run → List ℕ
+run_line r = codes "black " ++ decimal r.first ++ codes " " ++ decimal r.count ++ codes "\n"
+
+-- a line for each run
+unfoldable pub black_lines : List Run → List ℕ
+black_lines [] = codes "black none\n"
+black_lines (r ∷ rs) = flat_map run_line (r ∷ rs)
+
+-- what is reported of these pictures
+abbrev pub black_text : State
+black_text = λ facts. black_lines (runs_behind false facts)
+
+-- the run that may go on, and those that begin among these pictures
+abbrev pub runs_on : Option Run → List PictureFacts → List Run
+runs_on None facts = runs_behind false facts
+runs_on (Some r) facts = record { first = r.first; count = min (r.count + prefix_len is_black facts) last } ∷ runs_behind true facts
+
+-- the state behind pictures with these runs that are over, and with one that may go on
+abbrev pub black_state : List Run → Option Run → State
+black_state over going = λ facts. black_lines (over ++ runs_on going facts)
+
+-- a run with one more picture
+abbrev pub grown : Option Run → PictureFacts → Run
+grown None f = record { first = f.number; count = 1 }
+grown (Some r) f = record { first = r.first; count = min (r.count + 1) last }

@@ -1,0 +1,4 @@
+pub mod Black
+pub mod Extremes
+pub mod Sizes
+pub mod States

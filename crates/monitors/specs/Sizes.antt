@@ -1,0 +1,22 @@
+-- The sizes of all samples. Our own text.
+use Rattle.std.specs.Prelude.{ℕ, ◌+◌, List, ◌++◌, map, min, max, codes}
+use Rattle.std.specs.Fmt.{decimal}
+use Rattle.std.specs.List.{fold, sum}
+use Rattle.pw_outside.specs.Ports.{last}
+use Rattle.monitors.specs.declared.facts.PictureFacts.{PictureFacts}
+use Rattle.monitors.specs.States.{State}
+
+abbrev pub sizes : List PictureFacts → List ℕ
+sizes facts = map (λ f. f.bytes) facts
+
+-- the line of a sum and a greatest size
+unfoldable pub bytes_line : ℕ → ℕ → List ℕ
+bytes_line total greatest = codes "bytes " ++ decimal total ++ codes " " ++ decimal greatest ++ codes "\n"
+
+-- what is reported of these pictures: their sum, which stays at its last value, and the greatest, 0 without pictures
+abbrev pub bytes_text : State
+bytes_text facts = bytes_line (min (sum (sizes facts)) last) (fold max 0 (sizes facts))
+
+-- the state behind pictures with this sum and this greatest size
+abbrev pub bytes_state : ℕ → ℕ → State
+bytes_state total greatest = λ facts. bytes_line (min (total + sum (sizes facts)) last) (fold max greatest (sizes facts))
