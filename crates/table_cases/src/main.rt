@@ -1,11 +1,10 @@
-//! Makes the tables of pictures in memory. Each line of standard input has a picture's width, height and depth, the least
-//! and the greatest index, the logarithm of the slices' size, the matrices and the samples in hexadecimal, two bytes each;
-//! for each the fixed bytes are printed and the entries of every slice. The cases and the answers that are compared with
-//! it are those of an independent reference.
+//! Makes the tables of pictures in memory. Each line of standard input has a picture's width, height, chroma format, depth
+//! and interlace mode, the least and the greatest index, the logarithm of the slices' size, the matrices and the samples in
+//! hexadecimal, two bytes each; for each the fixed bytes are printed and the entries of every slice. The cases and the
+//! answers that are compared with it are those of an independent reference.
 #![tactic(auto)]
 
-ghost use Rattle.std.specs.Prelude.{◌≡◌, ◌<◌, ◌^◌, IfSome, None};
-ghost use Rattle.pw_planes.specs.declared.kinds.Chroma.TheVariants.{C422};
+ghost use Rattle.std.specs.Prelude.{◌≡◌, ◌<◌, ◌≤◌, ◌^◌, IfSome, None};
 ghost use Rattle.pw_planes.specs.Samples.{bits_of};
 ghost use Rattle.rate_build.specs.Coefficients.{HasDepth};
 
@@ -84,32 +83,44 @@ fn plane(alloc: Global, bytes: &[u8], size: (u16, u16), depth: Depth) -> Option<
     }
 }
 
+/// The columns of chroma in a picture of so many columns.
+fn chroma_columns(chroma: Chroma, width: u16) -> u16
+    requires { width ≤ 64 }
+    ensures { result ≤ 64 }
+{
+    match chroma {
+        Chroma::C422 => width.div_ceil(2),
+        Chroma::C444 => width,
+    }
+}
+
 /// A picture of so many columns and rows, plane behind plane.
-fn picture(alloc: Global, bytes: &[u8], size: (u16, u16), depth: Depth) -> Option<Picture>
+fn picture(
+    alloc: Global,
+    bytes: &[u8],
+    size: (u16, u16),
+    chroma: Chroma,
+    depth: Depth,
+) -> Option<Picture>
     ensures depth { IfSome result (λ p. (p.depth ≡ depth) × HasDepth p.y depth × HasDepth p.cb depth × HasDepth p.cr depth) }
-    ensures form { IfSome result (λ p. (p.chroma ≡ C422) × (p.alpha ≡ None)) }
+    ensures form { IfSome result (λ p. (p.chroma ≡ chroma) × (p.alpha ≡ None)) }
 {
     let (width, height) = size;
     if 64 < width || 64 < height {
         return None;
     }
-    let narrow = width.div_ceil(2);
+    let columns = chroma_columns(chroma, width);
     let luma = 2 * usize::from(width * height);
-    let chroma = 2 * usize::from(narrow * height);
+    let behind = luma + 2 * usize::from(columns * height);
     let y = plane(alloc, bytes.get(..luma)?, (width, height), depth)?;
-    let cb = plane(
-        alloc,
-        bytes.get(luma..luma + chroma)?,
-        (narrow, height),
-        depth,
-    )?;
-    let cr = plane(alloc, bytes.get(luma + chroma..)?, (narrow, height), depth)?;
+    let cb = plane(alloc, bytes.get(luma..behind)?, (columns, height), depth)?;
+    let cr = plane(alloc, bytes.get(behind..)?, (columns, height), depth)?;
     Some(Picture {
         y,
         cb,
         cr,
         alpha: None,
-        chroma: Chroma::C422,
+        chroma,
         depth,
     })
 }
@@ -118,31 +129,41 @@ fn picture(alloc: Global, bytes: &[u8], size: (u16, u16), depth: Depth) -> Optio
 fn table_of(
     alloc: Global,
     picture: &Picture,
-    size: (u16, u16),
-    form: (u8, Matrix),
+    layout: &Layout,
+    matrix: Matrix,
     range: (u8, u8),
 ) -> Option<FrameTable>
-    requires form { (picture.now.chroma ≡ C422) × (picture.now.alpha ≡ None) }
+    requires form { (picture.now.chroma ≡ layout.now.chroma) × (picture.now.alpha ≡ None) }
     requires depth { HasDepth picture.now.y picture.now.depth × HasDepth picture.now.cb picture.now.depth × HasDepth picture.now.cr picture.now.depth }
 {
-    let (width, height) = size;
-    let (log2, matrix) = form;
     let (lo, hi) = range;
-    if 3 < log2 || lo == 0 || hi < lo || 224 < hi {
+    if lo == 0 || hi < lo || 224 < hi {
         return None;
     }
-    if !picture.has_size(u32::from(width), u32::from(height)) {
+    if !picture.has_size(u32::from(layout.width), u32::from(layout.height)) {
         return None;
     }
-    let Ok(layout) = Layout::new(width, height, log2, Interlace::Progressive, Chroma::C422) else {
-        return None;
-    };
-    let Ok(coefficients) = coefficients_of(alloc, picture, &layout, AlphaKind::Absent) else {
-        return None;
-    };
+    let coefficients = coefficients_of(alloc, picture, layout, AlphaKind::Absent).ok()?;
     named_weights_are_in_range();
     let weights = Weights::named(matrix);
     build_table(alloc, &coefficients, &weights, lo, hi, 1000).ok()
+}
+
+fn chroma_of(word: &str) -> Option<Chroma> {
+    match word {
+        "422" => Some(Chroma::C422),
+        "444" => Some(Chroma::C444),
+        _ => None,
+    }
+}
+
+fn interlace_of(word: &str) -> Option<Interlace> {
+    match word {
+        "p" => Some(Interlace::Progressive),
+        "t" => Some(Interlace::TopFirst),
+        "b" => Some(Interlace::BottomFirst),
+        _ => None,
+    }
 }
 
 fn depth_of(word: &str) -> Option<Depth> {
@@ -164,20 +185,25 @@ fn matrix_of(word: &str) -> Option<Matrix> {
 
 /// The table that a line asks for.
 fn asked(alloc: Global, words: &[&str]) -> Option<FrameTable> {
-    if words.len() != 8 {
+    if words.len() != 10 {
         return None;
     }
     let size = (number(words[0])?, number(words[1])?);
-    let bytes = bytes_of(alloc, words[7].as_bytes())?;
-    let picture = picture(alloc, &bytes, size, depth_of(words[2])?)?;
-    let form = (small(words[5])?, matrix_of(words[6])?);
-    table_of(
-        alloc,
-        &picture,
-        size,
-        form,
-        (small(words[3])?, small(words[4])?),
-    )
+    let chroma = chroma_of(words[2])?;
+    let depth = depth_of(words[3])?;
+    let interlace = interlace_of(words[4])?;
+    let range = (small(words[5])?, small(words[6])?);
+    let log2 = small(words[7])?;
+    let matrix = matrix_of(words[8])?;
+    if 3 < log2 {
+        return None;
+    }
+    let Ok(layout) = Layout::new(size.0, size.1, log2, interlace, chroma) else {
+        return None;
+    };
+    let bytes = bytes_of(alloc, words[9].as_bytes())?;
+    let picture = picture(alloc, &bytes, size, chroma, depth)?;
+    table_of(alloc, &picture, &layout, matrix, range)
 }
 
 /// Prints the fixed bytes and the entries.
