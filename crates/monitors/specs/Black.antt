@@ -1,7 +1,7 @@
 -- The runs of black pictures. Our own text.
-use Rattle.std.specs.Prelude.{ℕ, ◌+◌, ◌-◌, ◌^◌, Bool, true, false, not, ◌&&◌, List, [], ◌∷◌, ◌++◌, Option, Some, None, min, nat_le, codes, if◌then◌else◌}
+use Rattle.std.specs.Prelude.{◌≡◌, ℕ, ◌≤◌, length, ◌+◌, ◌-◌, ◌^◌, Bool, true, false, not, ◌&&◌, List, [], ◌∷◌, ◌++◌, Option, Some, None, min, nat_le, codes, if◌then◌else◌}
 use Rattle.std.specs.Fmt.{decimal}
-use Rattle.std.specs.List.{flat_map, prefix_len}
+use Rattle.std.specs.List.{flat_map, filter, prefix_len, sum_by}
 use Rattle.pw_outside.specs.Ports.{last}
 use Rattle.pw_planes.specs.declared.kinds.Depth.{Depth}
 use Rattle.pw_planes.specs.Samples.{bits_of}
@@ -20,8 +20,8 @@ is_black f = nat_le f.greatest_luma (black_limit f.depth)
 abbrev pub run_from : PictureFacts → List PictureFacts → Run
 run_from f fs = record { first = f.number; count = min (prefix_len is_black (f ∷ fs)) last }
 
--- The runs that begin among these pictures: one where a picture is black and the one in front of it isn't. The first
--- has one in front of it that is black, or none that is.
+-- The runs that begin among these pictures: one at each that is black with none that is black right in front of it.
+-- `black` says whether one stands in front of the first.
 abbrev pub runs_behind : Bool → List PictureFacts → List Run
 runs_behind black [] = []
 runs_behind black (f ∷ fs) = (if is_black f && not black then run_from f fs ∷ [] else []) ++ runs_behind (is_black f) fs
@@ -51,3 +51,7 @@ black_state over going = λ facts. black_lines (over ++ runs_on going facts)
 abbrev pub grown : Option Run → PictureFacts → Run
 grown None f = record { first = f.number; count = 1 }
 grown (Some r) f = record { first = r.first; count = min (r.count + 1) last }
+
+-- the counts of the runs add up to the number of black pictures
+abbrev pub RunsHaveAllBlack : Type 0
+RunsHaveAllBlack = (facts : List PictureFacts) → length facts ≤ last → sum_by (λ r. r.count) (runs_behind false facts) ≡ length (filter is_black facts)
