@@ -18,7 +18,7 @@ use Rattle.pr_quant.specs.declared.weights.Weights.{Weights}
 use Rattle.pr_head.specs.declared.frame.FrameHeader.{FrameHeader}
 use Rattle.pr_frame.specs.declared.coded.CodedSlice.{CodedSlice}
 use Rattle.pr_frame.specs.declared.coded.CodedPicture.{CodedPicture}
-use Rattle.pr_frame.specs.Forms.{places_in, IsOpaque}
+use Rattle.pr_frame.specs.Forms.{places_in}
 use Rattle.pr_frame.specs.Coded.{IsCodedSlice, AreCodedSlices, IsCodedPicture, IsCodedFrame, IsWritableBlock, IsWritableSlice, IsWritablePicture, IsWritableHeader, IsWritable, HasArrays, HasBlocks, IsBlock as Is64}
 use Rattle.rate_table.specs.declared.entry.Entry.{Entry}
 use Rattle.rate_table.specs.Table.{IsChoice, indices}
@@ -177,8 +177,8 @@ module _ (c : FrameCoefficients) (h : FrameHeader) (choice : List ℕ) (are : Ar
         pictures = each_picture (IsCodedPicture h) picture_coded;
       }
 
-  pub frame_writable : IsOpaque h → IsWritableHeader h → All IsWritablePicture (coded_frame c h choice).pictures → IsWritable (coded_frame c h choice)
-  frame_writable opaque writable values = record { coded = frame_coded; opaque = opaque; header = writable; values = values }
+  pub frame_writable : IsWritableHeader h → All IsWritablePicture (coded_frame c h choice).pictures → IsWritable (coded_frame c h choice)
+  frame_writable writable values = record { coded = frame_coded; header = writable; values = values }
 
   part_of : (P : CodedSlice → Type 0) → All P all → (k : ℕ) → All P (coded_picture c all k).slices
   part_of P so k = All-take P count (drop (count * k) all) (All-drop P (count * k) all so)
@@ -193,7 +193,7 @@ module _ (c : FrameCoefficients) (h : FrameHeader) (choice : List ℕ) (are : Ar
         };
         coded = frame_coded;
         values = values;
-        writable = λ opaque. frame_writable opaque writable values;
+        writable = frame_writable writable values;
       }
 
 pub coded_ready : CodedIsReady

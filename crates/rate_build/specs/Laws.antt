@@ -9,7 +9,6 @@ use Rattle.pr_geom.specs.declared.layout.Layout.{Layout}
 use Rattle.pr_quant.specs.declared.weights.Weights.{Weights}
 use Rattle.pr_head.specs.declared.frame.FrameHeader.{FrameHeader}
 use Rattle.pr_frame.specs.declared.coded.CodedFrame.{CodedFrame}
-use Rattle.pr_frame.specs.Forms.{IsOpaque}
 use Rattle.pr_frame.specs.Coded.{IsCodedFrame, IsWritablePicture, IsWritableHeader, IsWritable, HasArrays, HasShape}
 use Rattle.pr_frame.specs.Written.{frame_length_of}
 use Rattle.rate_table.specs.declared.entry.Entry.{Entry}
@@ -42,13 +41,12 @@ abbrev pub TableIsTable : Type 0
 TableIsTable = (c : FrameCoefficients) (w : Weights) (lo hi budget : ℕ) → AreOfLayout c → AreMatrices w → AreWeights w → 1 ≤ lo → lo ≤ hi → hi ≤ 224
     → 1 ≤ budget → budget < 2 ^ 31 → IsTable (table_of c w lo hi budget)
 
--- A frame has what the types say, the pictures, slices and blocks of its layout, and values that can be written. Where it has no
--- alpha, it can be written.
+-- A frame has what the types say, the pictures, slices and blocks of its layout, and values that can be written, and so can be written.
 pub record IsReady (f : CodedFrame) : Type 0 where
   pub shape : HasShape f
   pub coded : IsCodedFrame f
   pub values : All IsWritablePicture f.pictures
-  pub writable : IsOpaque f.header → IsWritable f
+  pub writable : IsWritable f
 
 -- What is coded by one index for each slice can be written.
 abbrev pub CodedIsReady : Type 0

@@ -4,7 +4,6 @@ ghost use Rattle.std.specs.Prelude.{◌≡◌, ◌+◌, ◌*◌, ◌≤◌, leng
 ghost use Rattle.std.specs.List.{All};
 ghost use Rattle.pr_geom.specs.Layout.{slices_of};
 ghost use Rattle.pr_quant.specs.Matrices.{IsWeight};
-ghost use Rattle.pr_frame.specs.Forms.{IsOpaque};
 ghost use Rattle.pr_frame.specs.Coded.{IsWritableBlock, IsWritableSlice, IsWritablePicture, IsWritableHeader, IsWritable};
 ghost use Rattle.rate_build.specs.Measures.{quantised_part, ArePart};
 ghost use Rattle.rate_build.specs.Coding.{coded_slice, coded_slices, coded_picture, coded_frame, weights_in, IsHeaderOf, IsIndex};
@@ -128,7 +127,6 @@ fn frame_at(
     choice: &[u8],
 ) -> Result<CodedFrame, AllocError>
     requires header { IsHeaderOf coefficients.now header.now }
-    requires opaque { IsOpaque header.now }
     requires writable { IsWritableHeader header.now }
     requires number { length choice.now ≡ length coefficients.now.slices }
     requires indices { All IsIndex choice.now }
@@ -147,8 +145,8 @@ fn frame_at(
 }
 
 /// The frame of these coefficients with this header, each slice quantised at its own index, from 1 to 224, by the weights
-/// of the header. The header has the size and the form of the coefficients, which is one without alpha: it isn't built;
-/// its other fields are such that the frame can be written.
+/// of the header. The header has the size and the form of the coefficients; its other fields are such that the frame can be
+/// written.
 ///
 /// The error says that memory ran out.
 pub fn coded(
@@ -158,7 +156,6 @@ pub fn coded(
     choice: &[u8],
 ) -> Result<CodedFrame, NoMemory>
     requires header { IsHeaderOf coefficients.now header.now }
-    requires opaque { IsOpaque header.now }
     requires writable { IsWritableHeader header.now }
     requires number { length choice.now ≡ length coefficients.now.slices }
     requires indices { All IsIndex choice.now }

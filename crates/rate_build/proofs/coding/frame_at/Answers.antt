@@ -44,5 +44,5 @@ returns c =
     let invariant = subst AreOfLayout c.coefficients.view_is c.coefficients.invariant in
     record {
       frame = frame;
-      writable = subst IsWritable (sym frame) (frame_writable v h choice invariant c.requires.header c.requires.number c.requires.indices c.requires.opaque c.requires.writable values);
+      writable = subst IsWritable (sym frame) (frame_writable v h choice invariant c.requires.header c.requires.number c.requires.indices c.requires.writable values);
     }
