@@ -164,13 +164,45 @@ fn put_blocks(text: &mut Vec<u8>, name: &str, blocks: &[Block]) -> Result<(), No
     put_words(text, "\n")
 }
 
+/// Appends a value, and how often it stands in a row where that is more than once.
+fn put_run(text: &mut Vec<u8>, value: u16, count: u64) -> Result<(), NoMemory> {
+    put_decimal(text, u64::from(value))?;
+    if 1 < count {
+        put_pair(text, "*", count)?;
+    }
+    Ok(())
+}
+
+/// Appends the line of the alpha values, in rows of equal values.
+fn put_values(text: &mut Vec<u8>, values: &[u16]) -> Result<(), NoMemory> {
+    put_words(text, "A ")?;
+    let mut last = 0;
+    let mut count: u64 = 0;
+    for value in values {
+        if 0 < count && *value != last {
+            put_run(text, last, count)?;
+            put_words(text, ",")?;
+            count = 0;
+        }
+        last = *value;
+        count = count.saturating_add(1);
+    }
+    put_run(text, last, count)?;
+    put_words(text, "\n")
+}
+
 /// Appends the lines of a slice.
 fn put_slice(text: &mut Vec<u8>, slice: &CodedSlice) -> Result<(), NoMemory> {
     put_pair(text, "slice index ", u64::from(slice.index))?;
     put_words(text, "\n")?;
     put_blocks(text, "Y", slice.y.as_slice())?;
     put_blocks(text, "Cb", slice.cb.as_slice())?;
-    put_blocks(text, "Cr", slice.cr.as_slice())
+    put_blocks(text, "Cr", slice.cr.as_slice())?;
+    let values = slice.alpha.as_slice();
+    if values.is_empty() {
+        return Ok(());
+    }
+    put_values(text, values)
 }
 
 /// Appends all that a frame stands for.
