@@ -1,6 +1,5 @@
 -- What the header of a frame says of its pictures and slices (SMPTE RDD 36, picture, slice and component).
-use Rattle.std.specs.Prelude.{◌≡◌, ℕ, ◌*◌, ◌/◌, Bool, true, false, List, length}
-use Rattle.pw_planes.specs.declared.kinds.Chroma.TheVariants.{C422}
+use Rattle.std.specs.Prelude.{ℕ, ◌*◌, ◌/◌, Bool, true, false, List, length}
 use Rattle.pw_planes.specs.declared.kinds.AlphaKind.{AlphaKind}
 use Rattle.pw_planes.specs.declared.kinds.AlphaKind.TheVariants.{Absent, Eight, Sixteen}
 use Rattle.pw_planes.specs.declared.kinds.Interlace.{Interlace}
@@ -43,9 +42,3 @@ abbrev pub alpha_depth : AlphaKind → ℕ
 alpha_depth Absent = 0
 alpha_depth Eight = 8
 alpha_depth Sixteen = 16
-
--- The forms that are coded from pictures so far: progressive frames in 4:2:2 without alpha.
-pub record IsBuilt (h : FrameHeader) : Type 0 where
-  pub chroma : h.chroma ≡ C422
-  pub interlace : h.interlace ≡ Progressive
-  pub alpha : h.alpha ≡ Absent
