@@ -1,7 +1,6 @@
 -- Laws of proof files in both formats, over the definitions alone.
 use Rattle.std.specs.Prelude.{◌≡◌, ℕ, ◌+◌, ◌<◌, ◌^◌, List, [], ◌∷◌, ◌++◌, length, Ok, Some}
-use Rattle.pw_outside.specs.Reading.{Rest}
-use Rattle.rate_table.specs.Spelled.{AreBytes, Took}
+use Rattle.pw_outside.specs.Reading.{Rest, AreBytes, Took}
 use Rattle.rate_cert.specs.declared.settings.Settings.{Settings}
 use Rattle.rate_cert.specs.Settings.{IsSettings}
 use Rattle.rate_cert.specs.Numbers.{number_bytes, short_at}
