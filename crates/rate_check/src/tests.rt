@@ -18,7 +18,8 @@ fn pair(size: u32, error: u64) -> Pair {
 }
 
 fn weights() -> [u8; 64]
-    ensures { All IsWeight result }
+    ensures each { All IsWeight result }
+    ensures count { length result ≡ 64 }
 {
     [4; 64]
 }

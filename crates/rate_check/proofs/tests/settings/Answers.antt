@@ -31,8 +31,10 @@ returns c = record {
   num_to = omega arith;
   den_from = omega arith;
   den_to = omega arith;
-  luma = c.weights-luma.ensures;
-  chroma_weights = c.weights-chroma_weights.ensures;
+  luma_count = c.weights-luma.ensures.count;
+  luma = c.weights-luma.ensures.each;
+  chroma_count = c.weights-chroma_weights.ensures.count;
+  chroma_weights = c.weights-chroma_weights.ensures.each;
   some_budget = c.requires.some;
   budget = c.requires.small;
 }

@@ -3,5 +3,5 @@ use Rattle.std.proofs.lemmas.List.Elements.{All-replicate}
 use Rattle.pr_quant.specs.Matrices.{IsWeight}
 use Rattle.rate_check.proofs.tests.weights.Goals as goal
 
-pub returns : goal.returns
-returns c = All-replicate IsWeight 64 4 (omega arith, omega arith)
+pub returns-clause-each : goal.returns-clause-each
+returns-clause-each c = All-replicate IsWeight 64 4 (omega arith, omega arith)
