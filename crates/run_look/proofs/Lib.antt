@@ -1,2 +1,6 @@
 pub mod Numbers
 pub mod Texts
+pub mod Alone
+pub mod Orders
+pub mod Rewriting
+pub mod Reproofed
