@@ -1,5 +1,5 @@
 -- The grammar of the command line: a table of commands, and the walk over the words. Our own definition.
-use Rattle.std.specs.Prelude.{◌≡◌, ℕ, ◌+◌, ◌==◌, nat_eq, nat_lt, Bool, true, false, List, [], ◌∷◌, ◌++◌, length, find, slice_get, Option, None, Some, Result, Ok, Err, codes, if◌then◌else◌}
+use Rattle.std.specs.Prelude.{◌≡◌, ℕ, ◌+◌, ◌==◌, nat_eq, nat_lt, Bool, true, false, List, [], ◌∷◌, ◌++◌, length, find, slice_get, Option, None, Some, Result, Ok, Err, codes, String, string_bytes, map, if◌then◌else◌}
 use Rattle.std.specs.List.{starts_with, list_any}
 use Rattle.std.specs.Str.{bytes_eq}
 use Rattle.workshop.specs.declared.words.Command.{Command}
@@ -38,6 +38,22 @@ abbrev pub ports_of : Command → List ℕ → Names
 ports_of command.Plan operands = record no_names { proof = slice_get operands 0 }
 ports_of command.List operands = record no_names { movie = slice_get operands 0 }
 
+-- which ports a command uses: it reads `pictures`, `proof` and `movie`, and writes `out`, `cert` and `text`
+pub record Ports : Type 0 where
+  pub pictures : Bool
+  pub proof : Bool
+  pub movie : Bool
+  pub out : Bool
+  pub cert : Bool
+  pub text : Bool
+
+abbrev pub no_ports : Ports
+no_ports = record { pictures = false; proof = false; movie = false; out = false; cert = false; text = false }
+
+abbrev pub uses_of : Command → Ports
+uses_of command.Plan = record no_ports { proof = true; text = true }
+uses_of command.List = record no_ports { movie = true; text = true }
+
 -- ---- the walk over the words
 
 abbrev pub command_named : List ℕ → Option Command
@@ -72,40 +88,61 @@ walk c (word ∷ words) at operands =
     if is_option word then (if is_option_of c word then walk c words (at + 1) operands else Err (UnknownOption, at))
     else (if nat_lt (length operands) (most_operands c) then walk c words (at + 1) (operands ++ at ∷ []) else Err (ExtraOperand, at))
 
-abbrev pub with_command : Command → Result (List ℕ) (UsageKind × ℕ) → Result (Command × List ℕ) (UsageKind × ℕ)
+-- what the words say: the command and its operands by their word numbers; or the first fault with its word
+abbrev pub Said : Type 0
+Said = Result (Command × List ℕ) (UsageKind × ℕ)
+
+abbrev pub with_command : Command → Result (List ℕ) (UsageKind × ℕ) → Said
 with_command c (Ok operands) = Ok (c, operands)
 with_command c (Err fault) = Err fault
 
-abbrev pub settings_for : Option Command → List (List ℕ) → Result (Command × List ℕ) (UsageKind × ℕ)
+abbrev pub settings_for : Option Command → List (List ℕ) → Said
 settings_for None words = Err (UnknownCommand, 0)
 settings_for (Some c) words = with_command c (walk c words 1 [])
 
--- the command and its operands by their word numbers; or the first fault with its word
-abbrev pub settings : List (List ℕ) → Result (Command × List ℕ) (UsageKind × ℕ)
+abbrev pub settings : List (List ℕ) → Said
 settings [] = Err (NoCommand, 0)
 settings (first ∷ words) = settings_for (command_named first) words
 
+-- the same of words of the command line
+abbrev pub said : {Z : Type 0} → List (String Z) → Said
+said words = settings (map string_bytes words)
+
 -- the fault of the words, where they have one
-abbrev pub usage_fault : Result (Command × List ℕ) (UsageKind × ℕ) → Option (UsageKind × ℕ)
+abbrev pub usage_fault : Said → Option (UsageKind × ℕ)
 usage_fault (Ok s) = None
 usage_fault (Err fault) = Some fault
 
 -- The words are a run of this command.
-abbrev pub IsRun : Command → Result (Command × List ℕ) (UsageKind × ℕ) → Type 0
+abbrev pub IsRun : Command → Said → Type 0
 IsRun c (Ok s) = s.0 ≡ c
 IsRun c (Err fault) = ⊥
 
--- whether the run reads the port `proof`, and whether it reads `movie`
-abbrev pub reads_proof : Result (Command × List ℕ) (UsageKind × ℕ) → Bool
-reads_proof (Ok (command.Plan, operands)) = true
-reads_proof _ = false
+-- the ports that the run uses: none where the words have a fault
+abbrev pub uses_in : Said → Ports
+uses_in (Ok s) = uses_of s.0
+uses_in (Err fault) = no_ports
 
-abbrev pub reads_movie : Result (Command × List ℕ) (UsageKind × ℕ) → Bool
-reads_movie (Ok (command.List, operands)) = true
-reads_movie _ = false
+abbrev pub reads_pictures : Said → Bool
+reads_pictures s = (uses_in s).pictures
+
+abbrev pub reads_proof : Said → Bool
+reads_proof s = (uses_in s).proof
+
+abbrev pub reads_movie : Said → Bool
+reads_movie s = (uses_in s).movie
+
+abbrev pub writes_out : Said → Bool
+writes_out s = (uses_in s).out
+
+abbrev pub writes_cert : Said → Bool
+writes_cert s = (uses_in s).cert
+
+abbrev pub writes_text : Said → Bool
+writes_text s = (uses_in s).text
 
 -- the words that name each port's file; none where the words have a fault
-abbrev pub names_in : Result (Command × List ℕ) (UsageKind × ℕ) → Names
+abbrev pub names_in : Said → Names
 names_in (Ok s) = ports_of s.0 s.1
 names_in (Err fault) = no_names
 
@@ -116,6 +153,6 @@ abbrev pub IsWalk : {X : Type 0} → (X → List ℕ) → Result X BadWords → 
 IsWalk view (Ok x) walked = walked ≡ Ok (view x)
 IsWalk view (Err e) walked = walked ≡ Err (e.kind, e.word)
 
-abbrev pub IsSettings : Result Settings BadWords → Result (Command × List ℕ) (UsageKind × ℕ) → Type 0
+abbrev pub IsSettings : Result Settings BadWords → Said → Type 0
 IsSettings (Ok s) walked = walked ≡ Ok (s.command, s.operands.items)
 IsSettings (Err e) walked = walked ≡ Err (e.kind, e.word)

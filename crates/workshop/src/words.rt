@@ -1,7 +1,7 @@
 //! The words of the command line.
 
 ghost use Rattle.std.specs.Prelude.{◌≡◌, ◌<◌, ◌≤◌, ◌↔◌, [], IsTrue, IfOk, map, drop, length, string_bytes};
-ghost use Rattle.workshop.specs.Words.{IsWalk, IsSettings, command_named, is_option_of, most_operands, takes, walk, settings, ports_of, names_in, no_names};
+ghost use Rattle.workshop.specs.Words.{IsWalk, IsSettings, command_named, is_option_of, most_operands, takes, walk, said, ports_of, names_in, no_names};
 
 use crate::status::UsageKind;
 use arrayvec::ArrayVec;
@@ -153,7 +153,7 @@ fn operands_in(
 
 /// The command and its operands, or the first fault of the words.
 pub(crate) fn settings_of(words: &[String]) -> Result<Settings, BadWords>
-    ensures { IsSettings result (settings (map string_bytes words.now)) }
+    ensures { IsSettings result (said words.now) }
 {
     let Some(first) = words.first() else {
         return Err(BadWords {
@@ -174,7 +174,7 @@ pub(crate) fn settings_of(words: &[String]) -> Result<Settings, BadWords>
 /// For each port the number of the word that names its file: that of its operand where the words are in the
 /// grammar, and none elsewhere. It takes no memory.
 pub fn names_of(words: &[String]) -> Names
-    ensures { result ≡ names_in (settings (map string_bytes words.now)) }
+    ensures { result ≡ names_in (said words.now) }
 {
     match settings_of(words) {
         Ok(settings) => settings.command.names(&settings.operands),
