@@ -1,0 +1,16 @@
+pub mod Forms
+pub mod Watching
+pub mod Samples
+pub mod Spans
+pub mod Writers
+pub mod Turning
+pub mod Sinks
+pub mod Reports
+pub mod Showing
+pub mod Rolling
+pub mod Ending
+pub mod Going
+pub mod Fronts
+pub mod Deciding
+pub mod Completes
+pub mod Extending
