@@ -13,4 +13,5 @@ pub mod Going
 pub mod Fronts
 pub mod Deciding
 pub mod Completes
+pub mod Kept
 pub mod Extending

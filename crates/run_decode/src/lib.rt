@@ -8,6 +8,8 @@ mod laws;
 mod pictures;
 mod reading;
 mod run;
+#[cfg(test)]
+mod tests;
 mod turn;
 mod watch;
 
