@@ -1,0 +1,16 @@
+mod Sinks
+mod Cutting
+mod Shares
+mod Grouped
+mod Layouts
+mod Looping
+mod Ending
+mod Turning
+mod Running
+mod Beginning
+mod Printing
+mod Gathering
+mod FramesLeft
+mod Sums
+mod Opening
+mod Lining

@@ -66,7 +66,7 @@ none_record j ps = record { table = table_in j ps; said = none (least_bytes (tab
 -- ---- the text
 
 -- the line of a frame: its number, its bytes and its error
-abbrev pub frame_line : (number size error : ℕ) → List ℕ
+unfoldable pub frame_line : (number size error : ℕ) → List ℕ
 frame_line number size error = codes "frame " ++ decimal number ++ codes " size " ++ decimal size ++ codes " error " ++ decimal error ++ codes "\n"
 
 -- a line for each part of a choice; a frame has the fixed bytes of one frame and the sizes of its part

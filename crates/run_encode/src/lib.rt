@@ -2,10 +2,24 @@
 //! each frame.
 #![tactic(auto)]
 
+mod coding;
 mod end;
+mod finish;
+mod fit;
+mod frames;
+mod groups;
 mod job;
+mod laws;
+mod lines;
+mod parts;
+mod reading;
 mod run;
+mod settings;
+mod stubs;
+mod tables;
+mod turn;
 
 pub use end::EncodeEnd;
 pub use job::{EncodeWords, Job};
+pub use laws::{cut_has_headline, encoded_has_headline, encoding_goes_on};
 pub use run::encode_run;
