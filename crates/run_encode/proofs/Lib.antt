@@ -1,0 +1,10 @@
+mod Shares
+mod Grouped
+mod Layouts
+mod Framed
+mod Ready
+mod Holding
+mod Numbered
+mod Below
+mod Proving
+mod Whole

@@ -4,8 +4,10 @@
 
 mod end;
 mod job;
+mod laws;
 mod run;
 
 pub use end::EncodeEnd;
 pub use job::{EncodeWords, Job};
+pub use laws::{cut_has_headline, encoded_has_headline};
 pub use run::encode_run;
