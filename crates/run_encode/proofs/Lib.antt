@@ -5,6 +5,8 @@ mod Framed
 mod Ready
 mod Holding
 mod Numbered
+mod Tabled
 mod Below
 mod Proving
 mod Whole
+mod Going

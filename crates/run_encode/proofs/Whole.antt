@@ -30,7 +30,8 @@ use Rattle.run_encode.specs.Encoding.{Group, IsCoded, IsNarrow, printed_of, fram
 use Rattle.run_encode.specs.Headline.{GroupHolds, GroupsHold, record_of_printed, records_from, records_in, last_record, HasSamples, HasFrames, Proves, FilesEnd, Headline}
 use Rattle.run_encode.proofs.Below.{LawsOfGroups, LawsOfFiles}
 use Rattle.run_encode.proofs.Layouts.{settings-are}
-use Rattle.run_encode.proofs.Ready.{frames-of-pictures, group-is-table, all-ready}
+use Rattle.run_encode.proofs.Ready.{all-ready}
+use Rattle.run_encode.proofs.Tabled as tabled
 use Rattle.run_encode.proofs.Holding.{table-of, holds}
 use Rattle.run_encode.proofs.Proving.{GroupIsWritten, none-written, fit-written, all-written, small-written}
 use Rattle.run_encode.proofs.Numbered.{Fulls, fulls, wholes, group-length, concat-groups, count-bound, count-left, count-all, count-cut, count-few, count-below}
@@ -132,22 +133,16 @@ groups-few j all k (g ∷ gs) pics =
 module _ (j : Job) (is : IsJob j) (all : Pictures) (are : ArePictures j.head all) (b : LawsOfGroups) where
   -- the frames of group k
   here-frames : (k : ℕ) → AllByRecursion (IsFrameOf j) (map (coefficients_in j) (group_at j.group all.pictures k))
-  here-frames k = frames-of-pictures j is b.of_layout (group_at j.group all.pictures k) (recursion_from_All (IsPicture j.head) (group_at j.group all.pictures k)
-      (All-take (IsPicture j.head) j.group (drop (j.group * k) all.pictures) (All-drop (IsPicture j.head) (j.group * k) all.pictures are.each)))
+  here-frames = tabled.here-frames b.of_layout b.group_table j is all are
 
   here-some : (k : ℕ) → k < group_count j.group all → 1 ≤ length (group_at j.group all.pictures k)
-  here-some k lt =
-      let left = count-left j.group k (length all.pictures) all.fault is.some_group lt in
-      omega (arith, group-length j.group k all.pictures, left, is.some_group)
+  here-some = tabled.here-some b.of_layout b.group_table j is all are
 
   here-few : (k : ℕ) → length (group_at j.group all.pictures k) ≤ j.group
-  here-few k = omega (arith, group-length j.group k all.pictures)
+  here-few = tabled.here-few b.of_layout b.group_table j is all are
 
-  -- its table is within the limits
-  pub here-table : (k : ℕ) → k < group_count j.group all → IsTable (table_in j (group_at j.group all.pictures k))
-  here-table k lt =
-      let n = length-map (group_at j.group all.pictures k) (coefficients_in j) in
-      group-is-table j is b.group_table (map (coefficients_in j) (group_at j.group all.pictures k)) (here-frames k) (omega (arith, n, here-some k lt)) (omega (arith, n, here-few k))
+  here-table : (k : ℕ) → k < group_count j.group all → IsTable (table_in j (group_at j.group all.pictures k))
+  here-table = tabled.here-table b.of_layout b.group_table j is all are
 
   group-frames : (k : ℕ) (g : Group) → g.pictures ≡ group_at j.group all.pictures k → AllByRecursion (IsFrameOf j) (map (coefficients_in j) g.pictures)
   group-frames k g e = subst (λ ps. AllByRecursion (IsFrameOf j) (map (coefficients_in j) ps)) (sym e) (here-frames k)
