@@ -10,3 +10,4 @@ mod Below
 mod Proving
 mod Whole
 mod Going
+mod Headlines
