@@ -1,5 +1,5 @@
 -- The frames of a group's choice: their sizes, and that they stand for the coded frames.
-use Rattle.std.proofs.Common.{◌≡◌, refl, ℕ, ◌+◌, ◌*◌, ◌<◌, ◌≤◌, ◌^◌, List, [], ◌∷◌, arith, length, map, take, drop, ap, sym, subst, ◌∙◌}
+use Rattle.std.proofs.Common.{◌≡◌, ℕ, ◌+◌, ◌*◌, ◌<◌, ◌≤◌, ◌^◌, List, [], ◌∷◌, arith, length, map, take, drop, ap, sym, subst, ◌∙◌}
 use Rattle.std.specs.List.{flat_map, AllByRecursion, AllZip, sum_by}
 use Rattle.std.proofs.lemmas.List.Sums.{sum_by-cons}
 use Rattle.pr_frame.specs.Coded.{HasShape, IsWritable}

@@ -1,6 +1,6 @@
 -- Encoding always gives an answer and lists, and goes on behind any groups.
-use Rattle.std.proofs.Common.{◌≡◌, refl, ℕ, zero, suc, ◌+◌, ◌-◌, ◌*◌, ◌<◌, ◌≤◌, ◌⊎◌, inl, inr, ⊎_elim, List, [], ◌∷◌, ◌++◌, arith, length, map, ap, sym, subst, ◌∙◌, length-append, append_assoc, append-nil, Option, None, Some}
-use Rattle.std.specs.List.{flat_map, range_with_len, All}
+use Rattle.std.proofs.Common.{◌≡◌, refl, ℕ, zero, suc, ◌+◌, ◌-◌, ◌*◌, ◌<◌, ◌⊎◌, inl, inr, ⊎_elim, List, [], ◌∷◌, ◌++◌, arith, length, map, ap, sym, ◌∙◌, length-append, append_assoc, append-nil, Option, None, Some}
+use Rattle.std.specs.List.{flat_map, range_with_len}
 use Rattle.std.proofs.lemmas.Bool.{cases_lt}
 use Rattle.std.proofs.lemmas.List.{map-append}
 use Rattle.std.proofs.lemmas.List.Concat.{flat_map-append}
@@ -13,21 +13,19 @@ use Rattle.pic_y4m.specs.declared.fault.PictureKind.{PictureKind}
 use Rattle.pic_y4m.specs.Frames.{Pictures}
 use Rattle.qt_movie.specs.MovieBytes.{ftyp_bytes, frame_bytes, moov_bytes, extents}
 use Rattle.rate_table.specs.declared.entry.Entry.{Entry}
-use Rattle.rate_table.specs.Table.{Table, IsTable, IsChoice, Fits, HasNoFit, IsBest, error_of, least_bytes}
+use Rattle.rate_table.specs.Table.{Table, IsTable, IsChoice, Fits, HasNoFit, error_of, least_bytes}
 use Rattle.rate_table.specs.Laws.{NoneFitsBelowLeast, BestExists}
 use Rattle.rate_table.proofs.Entries.{least_choice}
 use Rattle.rate_layers.specs.Laws.{MultiplierExists, KeptExist}
-use Rattle.rate_build.specs.Groups.{GroupTableIsTable, group_at}
-use Rattle.rate_build.specs.Laws.{CoefficientsAreOfLayout}
-use Rattle.rate_cert.specs.Records.{Record}
+use Rattle.rate_build.specs.Groups.{group_at}
 use Rattle.rate_cert.specs.Files.{record_bytes, end_bytes, proof_bytes}
 use Rattle.rate_cert.specs.Head.{head_bytes}
 use Rattle.run_encode.specs.declared.job.Job.{Job}
 use Rattle.run_encode.specs.declared.end.EncodeEnd.{EncodeEnd}
 use Rattle.run_encode.specs.declared.end.EncodeEnd.TheVariants as ends
-use Rattle.run_encode.specs.Groups.{IsJob, ArePictures, settings_of, group_count, table_in}
+use Rattle.run_encode.specs.Groups.{settings_of, group_count, table_in}
 use Rattle.run_encode.specs.Outputs.{Lists, nothing, joined}
-use Rattle.run_encode.specs.Encoding.{Group, IsCoded, AreFirst, all_frames, frames_of, record_in, records_bytes, group_lines, lines_of, frames_line, group_behind, none_record, cut_lists, whole_lists, small_lists, Ends, Encodes}
+use Rattle.run_encode.specs.Encoding.{Group, IsCoded, AreFirst, all_frames, frames_of, record_in, records_bytes, group_lines, lines_of, frames_line, group_behind, none_record, cut_lists, whole_lists, small_lists, Encodes}
 
 abbrev pub GoesOn : Job → Pictures → List Group → Type 0
 GoesOn j ps coded = (end : EncodeEnd) × (lists : Lists) × Encodes j ps end lists × ((more : Lists) × (joined (cut_lists j coded) more ≡ lists))

@@ -15,9 +15,9 @@ use Rattle.rate_build.specs.Coefficients.{FrameCoefficients}
 use Rattle.rate_build.specs.Tables.{entry_of, entries_of, fixed_bytes}
 use Rattle.rate_build.specs.declared.slices.SliceCoefficients.{SliceCoefficients}
 use Rattle.rate_build.specs.Laws.{FrameHasTableSize}
-use Rattle.rate_cert.specs.Records.{HasIndices, IsTableOf, IsGood, fits}
+use Rattle.rate_cert.specs.Records.{HasIndices, IsTableOf}
 use Rattle.run_encode.specs.declared.job.Job.{Job}
-use Rattle.run_encode.specs.Groups.{IsFrameOf, IsJob, settings_of, coefficients_in, frame_slices, slice_tables, table_of_group, table_in}
+use Rattle.run_encode.specs.Groups.{IsFrameOf, IsJob, settings_of, coefficients_in, frame_slices, slice_tables, table_in}
 use Rattle.run_encode.specs.Encoding.{Group, IsCoded, printed_of, frames_of}
 use Rattle.run_encode.specs.Headline.{GroupHolds}
 use Rattle.run_encode.proofs.Framed.{FrameIsReady, all-sizes, all-stand}

@@ -1,5 +1,5 @@
 -- The records of groups can be written in a proof, which is then read again.
-use Rattle.std.proofs.Common.{◌≡◌, refl, ℕ, zero, suc, ◌+◌, ◌*◌, ◌<◌, ◌≤◌, ◌^◌, ⊎_elim, Bool, true, false, List, [], ◌∷◌, ◌++◌, arith, length, map, take, drop, get_or, ap, sym, subst, ◌∙◌, Ok}
+use Rattle.std.proofs.Common.{◌≡◌, ℕ, ◌+◌, ◌*◌, ◌<◌, ◌≤◌, ◌^◌, ⊎_elim, true, List, [], ◌∷◌, ◌++◌, arith, length, map, take, get_or, ap, sym, ◌∙◌}
 use Rattle.std.specs.Prelude.{IsTrue, nat_le}
 use Rattle.std.specs.List.{All, AllByRecursion}
 use Rattle.std.proofs.lemmas.Bool.{cases_lt}
@@ -10,12 +10,11 @@ use Rattle.std.proofs.lemmas.List.Elements.{All-take, All-contains, All-from_get
 use Rattle.rate_table.specs.declared.entry.Entry.{Entry}
 use Rattle.rate_table.specs.declared.entry.Pair.{Pair}
 use Rattle.rate_table.specs.Table.{Table, IsTable, IsSlice, IsEntry, IsChoice, IsBest, size_of, error_of, indices, least_bytes}
-use Rattle.rate_table.specs.Records.{Printed, IsGoodFit, record_of}
+use Rattle.rate_table.specs.Records.{IsGoodFit, record_of}
 use Rattle.rate_table.proofs.Entries.{least_choice}
 use Rattle.rate_layers.specs.Layers.{IsKept, AreKept, pairs_in}
 use Rattle.rate_layers.specs.Best.{TellsLayers, PassesByBest}
 use Rattle.rate_layers.specs.Laws.{MultiplierExists, MultiplierIsOne}
-use Rattle.rate_build.specs.Coefficients.{FrameCoefficients}
 use Rattle.rate_build.proofs.Whole.{choice_error_small}
 use Rattle.rate_cert.specs.Settings as cert
 use Rattle.rate_cert.specs.Layers.{most_pairs}

@@ -1,9 +1,8 @@
 -- Pictures of a run can be coded: their coefficients are those of the layout, tables of groups are within the limits, and the frame of
 -- a choice can be written.
-use Rattle.std.proofs.Common.{◌≡◌, refl, ℕ, ◌+◌, ◌*◌, ◌<◌, ◌≤◌, ◌^◌, Bool, true, false, Option, None, Some, List, [], ◌∷◌, arith, length, map, ap, sym, subst, ◌∙◌}
+use Rattle.std.proofs.Common.{◌≡◌, refl, ◌+◌, ◌*◌, ◌<◌, ◌≤◌, Option, None, Some, List, [], ◌∷◌, arith, length, map, ap, sym, subst, ◌∙◌}
 use Rattle.std.specs.Prelude.{IfSome, is_some}
-use Rattle.std.specs.List.{All, AllByRecursion, sum_by}
-use Rattle.std.proofs.lemmas.List.{length-map}
+use Rattle.std.specs.List.{All, AllByRecursion}
 use Rattle.std.proofs.lemmas.List.Sums.{sum_by-cons}
 use Rattle.std.proofs.lemmas.List.Elements.{All-from_recursion}
 use Rattle.std.proofs.lemmas.Nat.{mul-le}
@@ -18,8 +17,7 @@ use Rattle.pr_geom.specs.Slices.{pictures_of}
 use Rattle.pr_frame.specs.Coded.{HasArrays, IsWritableHeader}
 use Rattle.pic_y4m.specs.Frames.{has_alpha}
 use Rattle.pic_raw.specs.Raw.{IsPicture, alpha_limit}
-use Rattle.rate_table.specs.declared.entry.Entry.{Entry}
-use Rattle.rate_table.specs.Table.{IsTable, IsChoice, indices}
+use Rattle.rate_table.specs.Table.{IsTable, indices}
 use Rattle.rate_build.specs.Coefficients.{FrameCoefficients, AreOfLayout, IsPictureOf, HasDepth}
 use Rattle.rate_build.specs.Coding.{IsHeaderOf}
 use Rattle.rate_build.specs.Groups.{GroupTableIsTable, group_slices}

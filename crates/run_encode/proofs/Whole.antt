@@ -1,33 +1,28 @@
 -- What encoding gives has the headline.
-use Rattle.std.proofs.Common.{◌≡◌, refl, ℕ, zero, suc, ◌+◌, ◌-◌, ◌*◌, ◌<◌, ◌≤◌, ◌^◌, ◌↔◌, min, Option, None, Some, List, [], ◌∷◌, ◌++◌, arith, length, map, take, drop, ap, sym, subst, ◌∙◌, length-append, append_assoc, append-nil, take_at, length-take, length-drop, Ok}
+use Rattle.std.proofs.Common.{◌≡◌, refl, ℕ, suc, ◌+◌, ◌*◌, ◌<◌, ◌≤◌, min, None, List, [], ◌∷◌, ◌++◌, arith, length, map, take, drop, ap, sym, subst, ◌∙◌, length-append, append_assoc, append-nil, take_at, length-take}
 use Rattle.std.specs.List.{flat_map, range_with_len, All, AllByRecursion, sum_by}
-use Rattle.std.proofs.lemmas.List.{map-append, length-map, take_all, drop_at}
+use Rattle.std.proofs.lemmas.List.{length-map, take_all, drop_at}
 use Rattle.std.proofs.lemmas.List.Sums.{sum_by-cons}
 use Rattle.std.proofs.lemmas.Nat.{mul-le}
 use Rattle.std.proofs.lemmas.List.Folds.{flat_map-map}
-use Rattle.std.proofs.lemmas.List.Elements.{All-take, All-drop, All-from_recursion, recursion_from_All}
+use Rattle.std.proofs.lemmas.List.Elements.{All-from_recursion, recursion_from_All}
 use Rattle.pw_planes.specs.declared.picture.Picture.{Picture}
 use Rattle.pic_y4m.specs.Frames.{Pictures}
-use Rattle.pic_raw.specs.Raw.{IsPicture}
 use Rattle.pr_frame.specs.Written.{written}
 use Rattle.qt_movie.specs.Laws.{written_movie}
-use Rattle.qt_movie.specs.MovieBytes.{ftyp_bytes, frame_bytes, movie_bytes}
-use Rattle.rate_table.specs.declared.entry.Entry.{Entry}
+use Rattle.qt_movie.specs.MovieBytes.{movie_bytes}
 use Rattle.rate_table.specs.Table.{IsTable, HasNoFit, least_bytes}
-use Rattle.rate_table.specs.Records.{Printed}
-use Rattle.rate_build.specs.Coefficients.{FrameCoefficients}
 use Rattle.rate_build.specs.Groups.{group_at, shares}
-use Rattle.rate_cert.specs.Records.{Record, IsGood, fits, none}
-use Rattle.rate_cert.specs.Files.{IsWritten, record_bytes, proof_bytes, no_records, most_records}
+use Rattle.rate_cert.specs.Records.{IsGood, none}
+use Rattle.rate_cert.specs.Files.{record_bytes, proof_bytes, no_records}
 use Rattle.rate_cert.specs.Head.{head_bytes}
-use Rattle.rate_cert.specs.Laws.{AreWritten}
 use Rattle.run_encode.specs.declared.job.Job.{Job}
 use Rattle.run_encode.specs.declared.end.EncodeEnd.{EncodeEnd}
 use Rattle.run_encode.specs.declared.end.EncodeEnd.TheVariants as ends
 use Rattle.run_encode.specs.Groups.{IsFrameOf, IsJob, ArePictures, settings_of, coefficients_in, group_count, table_in, coded_group, frame_slices}
 use Rattle.run_encode.specs.Outputs.{Lists}
-use Rattle.run_encode.specs.Encoding.{Group, IsCoded, IsNarrow, printed_of, frames_of, all_frames, record_in, none_record, group_behind, AreFirst, Ends, Encodes, cut_lists}
-use Rattle.run_encode.specs.Headline.{GroupHolds, GroupsHold, record_of_printed, records_from, records_in, last_record, HasSamples, HasFrames, Proves, FilesEnd, Headline}
+use Rattle.run_encode.specs.Encoding.{Group, IsCoded, IsNarrow, printed_of, frames_of, all_frames, record_in, none_record, group_behind, AreFirst, Ends, cut_lists}
+use Rattle.run_encode.specs.Headline.{GroupHolds, GroupsHold, record_of_printed, records_from, records_in, HasSamples, HasFrames, Proves, FilesEnd, Headline}
 use Rattle.run_encode.proofs.Below.{LawsOfGroups, LawsOfFiles}
 use Rattle.run_encode.proofs.Layouts.{settings-are}
 use Rattle.run_encode.proofs.Ready.{all-ready}
