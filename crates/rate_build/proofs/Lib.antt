@@ -14,3 +14,6 @@ pub mod Layouts
 pub mod Limits
 pub mod Writable
 pub mod Grouped
+pub mod Straight
+pub mod Framed
+pub mod Alphas

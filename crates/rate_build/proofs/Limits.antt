@@ -84,7 +84,7 @@ slices_few : (l : Layout) → length (slices_of l) ≤ 65535
 unfolding slice_count
 slices_few l = l.allowed.slices
 
-fixed_small : (l : Layout) → fixed_bytes l < 2 ^ 31
+pub fixed_small : (l : Layout) → fixed_bytes l < 2 ^ 31
 fixed_small l =
     let few = slices_few l in
     omega (arith, mul-le (pictures_of l.interlace) (8 + 2 * length (slices_of l)) 2 131078 (pictures_few l.interlace).1 (omega arith))

@@ -20,6 +20,7 @@ use Rattle.pr_frame.specs.declared.coded.CodedSlice.{CodedSlice}
 use Rattle.pr_frame.specs.declared.coded.CodedPicture.{CodedPicture}
 use Rattle.pr_frame.specs.Forms.{places_in}
 use Rattle.pr_frame.specs.Coded.{IsCodedSlice, AreCodedSlices, IsCodedPicture, IsCodedFrame, IsWritableBlock, IsWritableSlice, IsWritablePicture, IsWritableHeader, IsWritable, HasArrays, HasBlocks, IsBlock as Is64}
+use Rattle.pr_frame.specs.Ready.{IsReadyPart}
 use Rattle.rate_table.specs.declared.entry.Entry.{Entry}
 use Rattle.rate_table.specs.Table.{IsChoice, indices}
 use Rattle.rate_table.proofs.Lists.{contains_map}
@@ -82,11 +83,17 @@ coded_of_zip h (p ∷ places) (s ∷ slices) zip = (zip.0, coded_of_zip h places
 
 -- ---- slices
 
-part_writable : (weights : List ℕ) (index : ℕ) (blocks : List (List ℤ)) → length weights ≡ 64 → All IsWeight weights → IsIndex index → ArePart blocks → All IsWritableBlock (quantised_part weights index blocks)
+pub part_writable : (weights : List ℕ) (index : ℕ) (blocks : List (List ℤ)) → length weights ≡ 64 → All IsWeight weights → IsIndex index → ArePart blocks → All IsWritableBlock (quantised_part weights index blocks)
 unfolding quantised_part
 part_writable weights index blocks whole range is are =
     let ms = multipliers weights index in
     blocks_writable ms (are_multipliers weights index whole range is.least is.most) blocks (map (quantised_block ms) blocks) are.each refl
+
+pub part_ready : (weights : List ℕ) (index : ℕ) (blocks : List (List ℤ)) → length weights ≡ 64 → All IsWeight weights → IsIndex index → ArePart blocks → IsReadyPart (quantised_part weights index blocks)
+unfolding quantised_part
+part_ready weights index blocks whole range is are =
+    let n = length-map blocks (quantised_block (multipliers weights index)) in
+    record { some = omega (arith, n, are.some); few = omega (arith, n, are.few); values = part_writable weights index blocks whole range is are }
 
 part_whole : (weights : List ℕ) (index : ℕ) (blocks : List (List ℤ)) → All Is64 (quantised_part weights index blocks)
 unfolding quantised_part
@@ -201,10 +208,10 @@ coded_ready c h choice are is arrays writable number each = ready c h choice are
 
 -- ---- the indices of a choice
 
-abbrev InRange : ℕ → ℕ → ℕ → Type 0
+abbrev pub InRange : ℕ → ℕ → ℕ → Type 0
 InRange lo n i = (lo ≤ i) × (i < lo + n)
 
-range_bounds : (lo n : ℕ) → All (InRange lo n) (range_with_len lo n)
+pub range_bounds : (lo n : ℕ) → All (InRange lo n) (range_with_len lo n)
 range_bounds lo n k d l =
     let h : k < n = omega (arith, l, length-range_with_len lo n) in
     subst (InRange lo n) (sym (get_or-range_with_len lo n k d h)) (omega arith, omega arith)

@@ -74,8 +74,11 @@ pub(crate) fn quantise_block(block: &Block, multipliers: &[u32; 64], quantised: 
 }
 
 /// Writes the blocks of a part quantised, and gives the sum of their squared errors.
-#[cfg(test)]
-fn quantise_blocks(blocks: &[Block], multipliers: &[u32; 64], quantised: &mut [Block]) -> u64
+pub(crate) fn quantise_blocks(
+    blocks: &[Block],
+    multipliers: &[u32; 64],
+    quantised: &mut [Block],
+) -> u64
     requires few { length blocks.now ≤ 32 }
     requires room { length blocks.now ≤ length quantised.old }
     requires each { All IsBlock blocks.now }

@@ -8,6 +8,7 @@ mod slices;
 mod tables;
 mod transform;
 mod walk;
+mod writing;
 
 pub use coding::coded;
 pub use costs::{Measure, measure_all};
@@ -16,8 +17,9 @@ pub use laws::{
     table_is_table,
 };
 pub use slices::{CoefficientSlices, Coefficients, SliceCoefficients};
-pub use tables::build_table;
+pub use tables::{build_table, fixed_size};
 pub use transform::coefficients_of;
+pub use writing::{write_chosen, write_part};
 
 #[cfg(test)]
 mod tests;

@@ -14,11 +14,11 @@ pub invariant_of-result : goal.invariant_of-result
 invariant_of-result c =
     let v = c.in-Ok.ensures in
     let n = ap length (c.from_vec.ensures ∙ v.value) ∙ length-map c.as_slice-slices.result.now (entries_of c.coefficients.inside.layout.interlace Absent c.args.weights.now c.args.lo c.args.hi) ∙ ap length c.as_slice-slices.ensures in
-    let number = frame_slices (record { layout = c.coefficients.inside.layout; alpha = c.coefficients.inside.alpha; slices = c.coefficients.inside.slices }) c.coefficients.invariant c.fixed_of.ensures.some c.fixed_of.ensures.few in
+    let number = frame_slices (record { layout = c.coefficients.inside.layout; alpha = c.coefficients.inside.alpha; slices = c.coefficients.inside.slices }) c.coefficients.invariant c.fixed_size.ensures.some c.fixed_size.ensures.few in
     record {
       some_budget = c.requires.some_budget;
       budget_limit = c.requires.budget;
-      fixed_limit = c.fixed_of.ensures.small;
+      fixed_limit = c.fixed_size.ensures.small;
       some = omega (arith, n, number.0);
       few = omega (arith, n, number.1);
       each = subst (All IsSlice) (sym c.from_vec.ensures) v.slices;
@@ -28,5 +28,5 @@ pub returns-in-Ok-clause-errors : goal.returns-in-Ok-clause-errors
 returns-in-Ok-clause-errors c =
     let v = c.in-Ok.ensures in
     let n = ap length (c.from_vec.ensures ∙ v.value) ∙ length-map c.as_slice-slices.result.now (entries_of c.coefficients.inside.layout.interlace Absent c.args.weights.now c.args.lo c.args.hi) ∙ ap length c.as_slice-slices.ensures in
-    let number = frame_slices (record { layout = c.coefficients.inside.layout; alpha = c.coefficients.inside.alpha; slices = c.coefficients.inside.slices }) c.coefficients.invariant c.fixed_of.ensures.some c.fixed_of.ensures.few in
+    let number = frame_slices (record { layout = c.coefficients.inside.layout; alpha = c.coefficients.inside.alpha; slices = c.coefficients.inside.slices }) c.coefficients.invariant c.fixed_size.ensures.some c.fixed_size.ensures.few in
     λ choice h. choice_error_small c.from_vec.result choice (subst (All IsSlice) (sym c.from_vec.ensures) v.slices) (omega (arith, n, number.1)) h
