@@ -14,3 +14,13 @@ mod FramesLeft
 mod Sums
 mod Opening
 mod Lining
+mod Framed
+mod Ready
+mod Holding
+mod Numbered
+mod Tabled
+mod Below
+mod Proving
+mod Whole
+mod Going
+mod Headlines
