@@ -5,7 +5,7 @@ use Rattle.std.proofs.lemmas.List.Folds.{flat_map-map}
 use Rattle.std.proofs.lemmas.List.Sums.{sum_by-cons}
 use Rattle.std.proofs.lemmas.Nat.{mul-le}
 use Rattle.pr_geom.specs.declared.layout.Layout.{Layout}
-use Rattle.rate_table.specs.Table.{Table}
+use Rattle.rate_table.specs.Table.{Table, group_table}
 use Rattle.rate_build.specs.Coefficients.{FrameCoefficients}
 use Rattle.rate_build.specs.Tables.{table_of, fixed_bytes}
 use Rattle.run_encode.specs.declared.job.Job.{Job}
@@ -15,6 +15,11 @@ use Rattle.run_encode.proofs.Shares.{slices-are}
 module _ (j : Job) where
   abbrev one : FrameCoefficients → Table
   one c = table_of c j.weights j.lo j.hi j.budget
+
+  -- it is the table of the frames' tables together
+  pub table-is : (cs : List FrameCoefficients) → table_of_group j cs ≡ group_table (map one cs)
+  unfolding table_of_group
+  table-is cs = refl
 
   pub table-slices : (cs : List FrameCoefficients) → (table_of_group j cs).slices ≡ flat_map (slice_tables j) cs
   unfolding table_of_group

@@ -8,6 +8,9 @@ use Rattle.pr_geom.specs.declared.layout.Layout.{Layout}
 use Rattle.pr_geom.specs.Layout.{slices_of, IsLayoutOf}
 use Rattle.pr_geom.specs.Slices.{pictures_of, macroblocks, picture_slices}
 use Rattle.pr_geom.specs.Faults.{slice_count}
+use Rattle.pr_quant.specs.declared.weights.Matrix.{Matrix}
+use Rattle.pr_quant.specs.declared.weights.Matrix.TheVariants.{Flat, Steep}
+use Rattle.pr_quant.specs.Matrices.{weights_of}
 use Rattle.rate_cert.specs.Settings as cert
 use Rattle.rate_cert.specs.Settings.{IsSettings}
 use Rattle.run_encode.specs.declared.job.Job.{Job}
@@ -62,3 +65,8 @@ settings-are j is = record {
   some_budget = is.some_budget;
   budget = is.budget;
 }
+
+-- a named matrix has 64 weights
+pub weights-number : (name : Matrix) → length (weights_of name) ≡ 64
+weights-number Flat = refl
+weights-number Steep = refl

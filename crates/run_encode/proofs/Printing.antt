@@ -6,19 +6,19 @@ use Rattle.pr_frame.specs.Written.{written}
 use Rattle.qt_movie.specs.MovieBytes.{frame_bytes}
 use Rattle.rate_table.specs.declared.entry.Entry.{Entry}
 use Rattle.rate_table.specs.declared.entry.Pair.{Pair}
-use Rattle.rate_table.specs.Table.{Table, IsBest, indices}
+use Rattle.rate_table.specs.Table.{Table, IsBest, indices, least_bytes}
 use Rattle.rate_table.specs.Records.{Printed, record_of}
 use Rattle.rate_layers.specs.Best.{TellsBest, TellsLayers, PassesByBest}
 use Rattle.rate_build.specs.Coefficients.{FrameCoefficients}
 use Rattle.run_encode.specs.declared.job.Job.{Job}
 use Rattle.rate_build.specs.Groups.{shares}
-use Rattle.rate_cert.specs.Records.{Record, fits}
+use Rattle.rate_cert.specs.Records.{Record, fits, none}
 use Rattle.rate_cert.specs.Files.{record_bytes}
 use Rattle.run_encode.specs.Groups.{frame_slices, table_of_group, coded_group}
 use Rattle.run_encode.specs.Outputs.{Outputs, PutsAll, PutsFronts}
 use Rattle.run_encode.specs.Encoding.{part_lines}
 use Rattle.run_encode.specs.Steps.{Counts}
-use Rattle.run_encode.specs.Over.{IsChosen, WroteFrames, frames_lists, fit_lists}
+use Rattle.run_encode.specs.Over.{IsChosen, WroteFrames, frames_lists, fit_lists, none_of_frames}
 
 module _ (a b : SinkState) (j : Job) (cs : List FrameCoefficients) (choice choice' : List ℕ) (e : choice ≡ choice') where
   pub movie-all : Puts a b (flat_map frame_bytes (map written (coded_group j cs choice))) → Puts a b (flat_map frame_bytes (map written (coded_group j cs choice')))
@@ -36,6 +36,12 @@ module _ (a b : SinkState) (format format' : ℕ) (same : format ≡ format') (t
 
   pub proof-front : PutsFront a b (record_bytes format printed) → PutsFront a b (record_bytes format' (record { table = t'; said = fits r }))
   proof-front p = subst (PutsFront a b) bytes-same p
+
+-- a front of the record that says that no choice fits
+pub none-front : (a b : SinkState) (j : Job) (cs : List FrameCoefficients) (format least : ℕ) (t : Table) → t ≡ table_of_group j cs → format ≡ j.format → least ≡ least_bytes t
+    → PutsFront a b (record_bytes format (record { table = t; said = none least })) → PutsFront a b (none_of_frames j cs).proof
+none-front a b j cs format least t table same e p =
+    subst (PutsFront a b) (λ i. record_bytes (same i) (record { table = table i; said = none ((e ∙ ap least_bytes table) i) })) p
 
 module _ (j : Job) (number : ℕ) (cs : List FrameCoefficients) (t : Table) (r : Printed) (lines : List ℕ) (before after : Outputs) (table : t ≡ table_of_group j cs)
     (best : TellsBest t r) (layers : TellsLayers t r) (lines-are : lines ≡ part_lines j number (map (λ p. p.1) (shares (frame_slices j) cs best.best))) where

@@ -68,11 +68,11 @@ small-are j ps coded n count =
 module _ (j : Job) (all : Pictures) (before mid : Outputs) (start : PutsAll before mid (begun j)) where
   -- the run ended behind some groups
   pub ran-ended : (now : Counts) (end : EncodeEnd) (after : Outputs) → ((frame least : ℕ) → end ≡ ends.TooSmall frame least → ⊥) → EndedBehind j all now end mid after → RanSo j all end before after
-  ran-ended now ends.NoMemory after no e = (e.coded, e.first, all_then start e.ended.0, e.ended.1)
-  ran-ended now ends.ReadFault after no e = (e.coded, e.first, all_then start e.ended.0, e.ended.1)
-  ran-ended now (ends.BadPictures kind place) after no e =
+  ran-ended now ends.NoMemory after unlike e = (e.coded, e.first, all_then start e.ended.0, e.ended.1)
+  ran-ended now ends.ReadFault after unlike e = (e.coded, e.first, all_then start e.ended.0, e.ended.1)
+  ran-ended now (ends.BadPictures kind place) after unlike e =
       (cut_lists j e.coded, record { coded = e.coded; first = e.first; ends = (e.ended.0, e.ended.1, refl) }, all_then start e.ended.2, e.ended.3)
-  ran-ended now (ends.LayersFull frame) after no e = record {
+  ran-ended now (ends.LayersFull frame) after unlike e = record {
     coded = e.coded;
     first = e.first;
     there = e.ended.0;
@@ -81,8 +81,8 @@ module _ (j : Job) (all : Pictures) (before mid : Outputs) (start : PutsAll befo
     puts = all_then start e.ended.3;
     narrow = e.ended.4;
   }
-  ran-ended now (ends.TooSmall frame least) after no e = absurd (no frame least refl)
-  ran-ended now ends.WriteFault after no e = failed e.coded e.first e.ended
+  ran-ended now (ends.TooSmall frame least) after unlike e = absurd (unlike frame least refl)
+  ran-ended now ends.WriteFault after unlike e = failed e.coded e.first e.ended
     where
       failed : (coded : List Group) → AreFirst j all coded → Behind j all coded now ends.WriteFault mid after → RanSo j all ends.WriteFault before after
       failed coded first (inl p) = (cut_lists j coded, inl (coded, first, refl), then_fronts start p)
@@ -91,7 +91,7 @@ module _ (j : Job) (all : Pictures) (before mid : Outputs) (start : PutsAll befo
         inr (ends.TooSmall (j.group * length coded) (least_bytes (table_in j (group_behind j all coded))), record { coded = coded; first = first; ends = (there, none, refl, refl, refl) }),
         subst (PutsFronts before after) (small-are j all coded (length coded + 1) refl) (fronts_more (close_lists (length coded + 1)) (then_fronts start p)),
       )
-  ran-ended now ends.Done after no e = absurd e.ended
+  ran-ended now ends.Done after unlike e = absurd e.ended
 
   -- no choice fits, and the proof's end was written
   pub ran-closed : (now : Counts) (frame least : ℕ) (late : Outputs) (end : EncodeEnd) (after : Outputs) → EndedBehind j all now (ends.TooSmall frame least) mid late
