@@ -1,5 +1,5 @@
 -- A slice of coefficients, made of its parts.
-use Rattle.std.proofs.Common.{◌≡◌, ℕ, List, [], length, ℤ, None}
+use Rattle.std.proofs.Common.{◌≡◌, ℕ, List, length, ℤ}
 use Rattle.std.proofs.lemmas.List.{length-map}
 use Rattle.pw_planes.specs.declared.kinds.Chroma.{Chroma}
 use Rattle.pw_planes.specs.declared.kinds.Depth.{Depth}
@@ -17,12 +17,9 @@ part_length plane depth chroma part slice = length-map (blocks_of chroma part sl
 
 module _ (p : Planes) (depth : Depth) (chroma : Chroma) (slice : SlicePlace) (y cb cr : List (List ℤ)) (alpha : List ℕ)
     (y_is : y ≡ part_coefficients p.y depth chroma Y slice) (cb_is : cb ≡ part_coefficients p.cb depth chroma Cb slice) (cr_is : cr ≡ part_coefficients p.cr depth chroma Cr slice)
-    (alpha_is : alpha ≡ []) where
+    (alpha_is : alpha ≡ alpha_values p.alpha slice) where
   abbrev sliced : SliceCoefficients
   sliced = record { y = y; cb = cb; cr = cr; alpha = alpha }
 
-  pub slice_is : p.alpha ≡ None → sliced ≡ slice_coefficients p depth chroma slice
-  unfolding alpha_values
-  slice_is none =
-      let a : alpha ≡ alpha_values p.alpha slice = rw none alpha_is in
-      λ j. record { y = y_is j; cb = cb_is j; cr = cr_is j; alpha = a j }
+  pub slice_is : sliced ≡ slice_coefficients p depth chroma slice
+  slice_is = λ j. record { y = y_is j; cb = cb_is j; cr = cr_is j; alpha = alpha_is j }

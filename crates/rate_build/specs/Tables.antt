@@ -34,11 +34,11 @@ entry_of mode alpha w s index = record { index = index; size = slice_size mode a
 unfoldable pub entries_of : Interlace → AlphaKind → Weights → ℕ → ℕ → SliceCoefficients → List Entry
 entries_of mode alpha w lo hi s = map (entry_of mode alpha w s) (range_with_len lo (hi + 1 - lo))
 
--- the entry at an index, joined of what its three parts cost there
-abbrev pub joined_entry : List Measure → List Measure → List Measure → ℕ → ℕ → Entry
-joined_entry y cb cr lo k = record {
+-- the entry at an index, joined of what its three parts cost there and of the bytes beside them
+abbrev pub joined_entry : ℕ → List Measure → List Measure → List Measure → ℕ → ℕ → Entry
+joined_entry beside y cb cr lo k = record {
   index = lo + k;
-  size = 6 + (get_or y k no_measure).bytes + (get_or cb k no_measure).bytes + (get_or cr k no_measure).bytes;
+  size = beside + (get_or y k no_measure).bytes + (get_or cb k no_measure).bytes + (get_or cr k no_measure).bytes;
   error = (get_or y k no_measure).error + (get_or cb k no_measure).error + (get_or cr k no_measure).error;
 }
 

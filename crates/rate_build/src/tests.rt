@@ -1,14 +1,16 @@
 //! Tables that were worked out outside of this crate.
 
-ghost use Rattle.std.specs.Prelude.{◌≡◌, ◌<◌, ◌^◌, None};
-ghost use Rattle.pw_planes.specs.declared.kinds.AlphaKind.TheVariants.{Absent};
+ghost use Rattle.std.specs.Prelude.{◌≡◌, ◌<◌, ◌^◌};
 ghost use Rattle.pw_planes.specs.Samples.{bits_of};
 ghost use Rattle.std.specs.List.{All};
 ghost use Rattle.pr_geom.specs.Layout.{IsLayoutOf};
 ghost use Rattle.pr_dct.specs.Transform.{AreWithin};
 ghost use Rattle.pr_quant.specs.Quantised.{greatest_coefficient};
-ghost use Rattle.rate_build.specs.Coding.{IsIndex};
+ghost use Rattle.pr_frame.specs.Coded.{IsWritableHeader};
+ghost use Rattle.rate_build.specs.Chosen.{AreTablesOf};
+ghost use Rattle.rate_build.specs.Coding.{IsHeaderOf, IsIndex, weights_in};
 ghost use Rattle.rate_build.specs.Coefficients.{HasDepth};
+ghost use Rattle.rate_build.specs.Laws.{HasAlpha};
 ghost use Rattle.rate_build.specs.Measures.{ArePart};
 
 use super::*;
@@ -16,12 +18,12 @@ use crate::costs::measure_each;
 use pr_coeff::{Block, Scan};
 use pr_frame::{frame_length, write_frame};
 use pr_geom::Layout;
-use pr_head::own_header;
+use pr_head::{FrameHeader, own_header};
 use pr_quant::laws::named_weights_are_in_range;
 use pr_quant::{Matrix, Weights};
 use pw_outside::MemSink;
 use pw_planes::{AlphaKind, Chroma, Depth, Interlace, Picture, Plane};
-use rate_table::{Entry, FrameTable};
+use rate_table::{Entry, FrameTable, total};
 use std::alloc::Global;
 use std::process::Abort;
 
@@ -31,22 +33,24 @@ struct Form {
     chroma: Chroma,
     interlace: Interlace,
     depth: Depth,
+    alpha: AlphaKind,
     log2: u8,
     matrix: Matrix,
 }
 
-/// The form of progressive pictures in 4:2:2.
+/// The form of progressive pictures in 4:2:2 without alpha.
 fn plain(depth: Depth, log2: u8, matrix: Matrix) -> Form {
     Form {
         chroma: Chroma::C422,
         interlace: Interlace::Progressive,
         depth,
+        alpha: AlphaKind::Absent,
         log2,
         matrix,
     }
 }
 
-fn limit(depth: Depth) -> u16
+fn limit(depth: Depth) -> u32
     ensures { result ≡ 2 ^ bits_of depth }
 {
     match depth {
@@ -56,43 +60,62 @@ fn limit(depth: Depth) -> u16
     }
 }
 
-/// A plane of samples of two bytes each, the low byte first.
-fn plane(rt: &impl Abort, alloc: Global, bytes: &[u8], size: (u32, u32), depth: Depth) -> Plane
-    ensures { HasDepth result depth }
+/// A plane of samples of two bytes each, the low byte first; each is below a limit.
+fn plane(rt: &impl Abort, alloc: Global, bytes: &[u8], size: (u32, u32), limit: u32) -> Plane
+    ensures { All (λ sample. sample < limit) result.samples }
 {
     let (width, height) = size;
     assert!(rt; 1 <= width && width <= 64 && 1 <= height && height <= 64);
-    let limit = limit(depth);
     let mut samples = Vec::new(alloc);
     for i in 0..bytes.len() / 2 {
         let sample = u16::from(bytes[2 * i]) + 256 * u16::from(bytes[2 * i + 1]);
-        assert!(rt; sample < limit);
+        assert!(rt; u32::from(sample) < limit);
         samples.push(sample).expect(rt, "memory");
     }
     assert!(rt; samples.len() == (height * width) as usize);
     Plane::from_samples(width, height, samples)
 }
 
+/// A plane of alpha, where there is one.
+fn alpha_plane(
+    rt: &impl Abort,
+    alloc: Global,
+    bytes: &[u8],
+    size: (u32, u32),
+    alpha: AlphaKind,
+) -> Option<Plane>
+    ensures { HasAlpha alpha result }
+{
+    match alpha {
+        AlphaKind::Absent => None,
+        AlphaKind::Eight => Some(plane(rt, alloc, bytes, size, 256)),
+        AlphaKind::Sixteen => Some(plane(rt, alloc, bytes, size, 65536)),
+    }
+}
+
 /// A picture of so many columns and rows, plane behind plane.
 fn picture(rt: &impl Abort, alloc: Global, bytes: &[u8], size: (u32, u32), form: &Form) -> Picture
     ensures depth { (result.depth ≡ form.now.depth) × HasDepth result.y result.depth × HasDepth result.cb result.depth × HasDepth result.cr result.depth }
-    ensures form { (result.chroma ≡ form.now.chroma) × (result.alpha ≡ None) }
+    ensures form { (result.chroma ≡ form.now.chroma) × HasAlpha form.now.alpha result.alpha }
 {
     let (width, height) = size;
     let depth = form.depth;
+    let limit = limit(depth);
     assert!(rt; width <= 64 && height <= 64);
     let columns = form.chroma.plane_width(width);
     assert!(rt; columns <= 64);
     let luma = 2 * (width * height) as usize;
     let chroma = 2 * (columns * height) as usize;
+    let behind = luma + 2 * chroma;
     let y = bytes.get(..luma).unwrap_or(&[]);
     let cb = bytes.get(luma..luma + chroma).unwrap_or(&[]);
-    let cr = bytes.get(luma + chroma..).unwrap_or(&[]);
+    let cr = bytes.get(luma + chroma..behind).unwrap_or(&[]);
+    let alpha = bytes.get(behind..).unwrap_or(&[]);
     Picture {
-        y: plane(rt, alloc, y, (width, height), depth),
-        cb: plane(rt, alloc, cb, (columns, height), depth),
-        cr: plane(rt, alloc, cr, (columns, height), depth),
-        alpha: None,
+        y: plane(rt, alloc, y, size, limit),
+        cb: plane(rt, alloc, cb, (columns, height), limit),
+        cr: plane(rt, alloc, cr, (columns, height), limit),
+        alpha: alpha_plane(rt, alloc, alpha, size, form.alpha),
         chroma: form.chroma,
         depth,
     }
@@ -106,18 +129,16 @@ fn coefficients(
     size: (u16, u16),
     form: &Form,
 ) -> Coefficients
-    requires form { (picture.now.chroma ≡ form.now.chroma) × (picture.now.alpha ≡ None) }
+    requires form { (picture.now.chroma ≡ form.now.chroma) × HasAlpha form.now.alpha picture.now.alpha }
     requires depth { HasDepth picture.now.y picture.now.depth × HasDepth picture.now.cb picture.now.depth × HasDepth picture.now.cr picture.now.depth }
-    ensures alpha { result.alpha ≡ Absent }
+    ensures alpha { result.alpha ≡ form.now.alpha }
     ensures layout { IsLayoutOf result.layout size.0 size.1 form.now.log2 form.now.interlace form.now.chroma }
 {
     let (width, height) = size;
     assert!(rt; form.log2 <= 3);
     assert!(rt; picture.has_size(u32::from(width), u32::from(height)));
     match Layout::new(width, height, form.log2, form.interlace, form.chroma) {
-        Ok(layout) => coefficients_of(alloc, picture, &layout, AlphaKind::Absent).expect(
-            rt, "memory",
-        ),
+        Ok(layout) => coefficients_of(alloc, picture, &layout, form.alpha).expect(rt, "memory"),
         Err(_) => rt.abort(),
     }
 }
@@ -336,7 +357,7 @@ fn frame(
         height,
         form.chroma,
         form.interlace,
-        AlphaKind::Absent,
+        form.alpha,
         &weights,
     );
     assert!(rt; choice.len() == coefficients.slices.as_slice().len());
@@ -387,6 +408,7 @@ fn codes_the_bottom_field_first(rt: HostRuntime) {
         chroma: Chroma::C444,
         interlace: Interlace::BottomFirst,
         depth: Depth::D10,
+        alpha: AlphaKind::Absent,
         log2: 3,
         matrix: Matrix::Flat,
     };
@@ -410,6 +432,146 @@ fn codes_the_bottom_field_first(rt: HostRuntime) {
     let (length, sink) = frame(&rt, rt.alloc(), bytes, (1, 2), &form, &[120, 122]);
     assert_eq!(rt; length, 176 + 12 + 12);
     assert_eq!(rt; sink.bytes().len(), 176 + 12 + 12);
+}
+
+/// The table of coefficients from one index to another, with the weights of a header.
+fn table_for(
+    rt: &impl Abort,
+    alloc: Global,
+    coefficients: &Coefficients,
+    header: &FrameHeader,
+    range: (u8, u8),
+) -> FrameTable
+    requires { IsWritableHeader header.now }
+    ensures { AreTablesOf coefficients.now (weights_in header.now) result.slices }
+{
+    let (lo, hi) = range;
+    assert!(rt; 1 <= lo && lo <= hi && hi <= 224);
+    let weights = Weights {
+        luma: header.luma,
+        chroma: header.chroma_weights,
+    };
+    build_table(alloc, coefficients, &weights, lo, hi, 1000).expect(rt, "memory")
+}
+
+/// The frame that is written straight from the coefficients has these bytes.
+fn assert_chosen(
+    rt: &impl Abort,
+    alloc: Global,
+    coefficients: &Coefficients,
+    header: &FrameHeader,
+    table: &FrameTable,
+    choice: &[u8],
+    want: &[u8],
+)
+    requires header { IsHeaderOf coefficients.now header.now }
+    requires writable { IsWritableHeader header.now }
+    requires tables { AreTablesOf coefficients.now (weights_in header.now) table.now.slices }
+{
+    let (size, _) = total(table, choice).expect(rt, "a choice");
+    assert!(rt; size < 1 << 31);
+    let mut sink = MemSink::new(alloc, 1000, 4096, Vec::new(alloc)).expect(rt, "memory");
+    assert!(rt; write_chosen(coefficients, header, table, choice, &mut sink).is_ok());
+    assert_eq!(rt; sink.bytes(), want);
+}
+
+/// A sink whose fourth call fails has taken a front of these bytes, and the call fails.
+fn assert_refused(
+    rt: &impl Abort,
+    alloc: Global,
+    coefficients: &Coefficients,
+    header: &FrameHeader,
+    table: &FrameTable,
+    choice: &[u8],
+    want: &[u8],
+)
+    requires header { IsHeaderOf coefficients.now header.now }
+    requires writable { IsWritableHeader header.now }
+    requires tables { AreTablesOf coefficients.now (weights_in header.now) table.now.slices }
+{
+    let (size, _) = total(table, choice).expect(rt, "a choice");
+    assert!(rt; size < 1 << 31);
+    let fails = vec![in alloc; 3].expect(rt, "memory");
+    let mut sink = MemSink::new(alloc, 1000, 4096, fails).expect(rt, "memory");
+    assert!(rt; write_chosen(coefficients, header, table, choice, &mut sink).is_err());
+    let taken = sink.bytes();
+    assert!(rt; 156 < taken.len() && taken.len() < want.len());
+    assert_eq!(rt; taken, &want[..taken.len()]);
+}
+
+/// The frame that is written straight from the coefficients is the one that is coded first.
+fn assert_straight(
+    rt: &impl Abort,
+    alloc: Global,
+    bytes: &[u8],
+    (width, height): (u16, u16),
+    form: &Form,
+    range: (u8, u8),
+    choice: &[u8],
+) {
+    let size = (u32::from(width), u32::from(height));
+    let (_, want) = frame(rt, alloc, bytes, (width, height), form, choice);
+    let picture = picture(rt, alloc, bytes, size, form);
+    let coefficients = coefficients(rt, alloc, &picture, (width, height), form);
+    named_weights_are_in_range();
+    let weights = Weights::named(form.matrix);
+    let header = own_header(
+        width,
+        height,
+        form.chroma,
+        form.interlace,
+        form.alpha,
+        &weights,
+    );
+    let table = table_for(rt, alloc, &coefficients, &header, range);
+    assert_eq!(rt; table.fixed, fixed_size(&coefficients.layout));
+    assert_chosen(
+        rt,
+        alloc,
+        &coefficients,
+        &header,
+        &table,
+        choice,
+        want.bytes(),
+    );
+    assert_refused(
+        rt,
+        alloc,
+        &coefficients,
+        &header,
+        &table,
+        choice,
+        want.bytes(),
+    );
+}
+
+#[test]
+fn writes_a_chosen_frame_straight(rt: HostRuntime) {
+    let bytes = b"\x29\x08\xba\x08\x4b\x09\xdc\x09\x6d\x0a\xfe\x0a\x8f\x0b\x20\x0c\xb1\x0c\x42\x0d\
+        \xd3\x0d\x64\x0e\xf5\x0e\x86\x0f\xff\x0f\xff\x0f\xff\x0f\xff\x0f\xff\x0f\xff\x0f\
+        \xce\x08\x64\x08\xfa\x07\x90\x07\x26\x07\xbc\x06\x52\x06\xe8\x05\x7e\x05\x14\x05\
+        \x1e\x09\x9d\x08\x1c\x08\x9b\x07\x1a\x07\x99\x06\x18\x06\x97\x05\x16\x05\x95\x04";
+    let form = plain(Depth::D12, 0, Matrix::Flat);
+    assert_straight(&rt, rt.alloc(), bytes, (20, 1), &form, (2, 4), &[2, 4]);
+}
+
+#[test]
+fn writes_fields_with_alpha_straight(rt: HostRuntime) {
+    let bytes = b"\x8a\x02\x8a\x02\x9d\x0b\x9b\x0b\x59\x04\x5c\x04\x85\x00\x84\x00";
+    let form = Form {
+        chroma: Chroma::C422,
+        interlace: Interlace::BottomFirst,
+        depth: Depth::D12,
+        alpha: AlphaKind::Eight,
+        log2: 3,
+        matrix: Matrix::Steep,
+    };
+    let table = table(&rt, rt.alloc(), bytes, (1, 2), &form, (7, 8));
+    assert_eq!(rt; table.fixed, 176);
+    assert_eq!(rt; table.slices.as_slice().len(), 2);
+    has_entries(&rt, &table, 0, 7, &[(21, 832), (19, 1152)]);
+    has_entries(&rt, &table, 1, 7, &[(21, 736), (19, 1280)]);
+    assert_straight(&rt, rt.alloc(), bytes, (1, 2), &form, (7, 8), &[8, 7]);
 }
 
 /// The coefficients of the block are in range.

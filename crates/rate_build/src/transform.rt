@@ -1,11 +1,11 @@
 //! From the samples of a picture to its coefficients.
 
-ghost use Rattle.std.specs.Prelude.{◌≡◌, ◌++◌, ◌%◌, None, IfOk, OnOk};
-ghost use Rattle.pw_planes.specs.declared.kinds.AlphaKind.TheVariants.{Absent};
+ghost use Rattle.std.specs.Prelude.{◌≡◌, ◌++◌, ◌%◌, IfOk, IfSome, OnOk, Some};
 ghost use Rattle.pr_dct.specs.Transform.{AreWithin};
 ghost use Rattle.pr_geom.specs.Layout.{IsSlice};
 ghost use Rattle.rate_build.specs.Measures.{IsBlock, ArePart};
-ghost use Rattle.rate_build.specs.Coefficients.{coefficients_at, part_coefficients, planes_of, field_planes, slice_coefficients, picture_coefficients, frame_coefficients, AreOfLayout, HasDepth, IsPictureOf};
+ghost use Rattle.rate_build.specs.Coefficients.{coefficients_at, part_coefficients, alpha_values, field_of_alpha, planes_of, field_planes, slice_coefficients, picture_coefficients, frame_coefficients, AreOfLayout, HasDepth, IsPictureOf};
+ghost use Rattle.rate_build.specs.Laws.{HasAlpha};
 
 use crate::slices::{CoefficientSlices, Coefficients, SliceCoefficients};
 use pr_coeff::Block;
@@ -61,7 +61,35 @@ fn part_of(
     Ok(blocks)
 }
 
-/// The coefficients of a slice of a coded picture without alpha.
+/// The samples of a plane of alpha that a slice has: its 16 rows from the left.
+fn values_of(alloc: Global, plane: &Plane, slice: &SlicePlace) -> Result<Vec<u16>, AllocError>
+    ensures { IfOk result (λ v. v.items ≡ alpha_values (Some plane.now) slice.now) }
+{
+    let width = 16 * u32::from(slice.width);
+    let column = 16 * u32::from(slice.column);
+    let row = 16 * u32::from(slice.row);
+    let mut values = Vec::with_capacity(alloc, 16 * width as usize)?;
+    for k in 0..16 * width {
+        values.push(plane.sample(column + k % width, row + k / width))?;
+    }
+    Ok(values)
+}
+
+/// The alpha values of a slice; none where there is no plane of alpha.
+fn alpha_of(
+    alloc: Global,
+    plane: &Option<Plane>,
+    slice: &SlicePlace,
+) -> Result<Vec<u16>, AllocError>
+    ensures { IfOk result (λ v. v.items ≡ alpha_values plane.now slice.now) }
+{
+    match plane {
+        Some(plane) => values_of(alloc, plane, slice),
+        None => Ok(Vec::new(alloc)),
+    }
+}
+
+/// The coefficients of a slice of a coded picture, and its alpha values.
 fn slice_of(
     alloc: Global,
     picture: &Picture,
@@ -70,22 +98,22 @@ fn slice_of(
 ) -> Result<SliceCoefficients, AllocError>
     requires luma { HasDepth picture.now.y picture.now.depth }
     requires chroma { HasDepth picture.now.cb picture.now.depth × HasDepth picture.now.cr picture.now.depth }
-    requires no_alpha { picture.now.alpha ≡ None }
     requires slice { IsSlice layout.now slice.now }
     ensures { IfOk result (λ s. s ≡ slice_coefficients (planes_of picture.now) picture.now.depth layout.now.chroma slice.now) }
 {
     let y = part_of(alloc, &picture.y, picture.depth, layout, slice, Part::Y)?;
     let cb = part_of(alloc, &picture.cb, picture.depth, layout, slice, Part::Cb)?;
     let cr = part_of(alloc, &picture.cr, picture.depth, layout, slice, Part::Cr)?;
+    let alpha = alpha_of(alloc, &picture.alpha, slice)?;
     Ok(SliceCoefficients {
         y: Blocks::from_vec(y),
         cb: Blocks::from_vec(cb),
         cr: Blocks::from_vec(cr),
-        alpha: AlphaValues::from_vec(Vec::new(alloc)),
+        alpha: AlphaValues::from_vec(alpha),
     })
 }
 
-/// Puts the coefficients of all slices of a coded picture without alpha behind those that are there.
+/// Puts the coefficients of all slices of a coded picture behind those that are there.
 fn add_slices(
     alloc: Global,
     picture: &Picture,
@@ -94,7 +122,6 @@ fn add_slices(
 ) -> Result<(), AllocError>
     requires luma { HasDepth picture.now.y picture.now.depth }
     requires chroma { HasDepth picture.now.cb picture.now.depth × HasDepth picture.now.cr picture.now.depth }
-    requires no_alpha { picture.now.alpha ≡ None }
     ensures { OnOk result (slices.new.items ≡ slices.old.items ++ picture_coefficients layout.now picture.now.depth (planes_of picture.now)) }
 {
     let count = layout.slices();
@@ -115,7 +142,6 @@ fn add_picture(
 ) -> Result<(), NoMemory>
     requires luma { HasDepth picture.now.y picture.now.depth }
     requires chroma { HasDepth picture.now.cb picture.now.depth × HasDepth picture.now.cr picture.now.depth }
-    requires no_alpha { picture.now.alpha ≡ None }
     ensures { OnOk result (slices.new.items ≡ slices.old.items ++ picture_coefficients layout.now picture.now.depth (planes_of picture.now)) }
 {
     match add_slices(alloc, picture, layout, slices) {
@@ -124,11 +150,26 @@ fn add_picture(
     }
 }
 
-/// A field of a picture without alpha, as a picture of half the height.
+/// A field of a plane of alpha, where there is one.
+fn alpha_field(
+    alloc: Global,
+    plane: &Option<Plane>,
+    parity: Parity,
+) -> Result<Option<Plane>, NoMemory>
+    requires { IfSome plane.now (λ a. a.height % 2 ≡ 0) }
+    ensures { IfOk result (λ f. f ≡ field_of_alpha plane.now parity) }
+{
+    match plane {
+        Some(plane) => Ok(Some(plane.field(alloc, parity)?)),
+        None => Ok(None),
+    }
+}
+
+/// A field of a picture, as a picture of half the height.
 fn field_of(alloc: Global, picture: &Picture, parity: Parity) -> Result<Picture, NoMemory>
     requires luma { picture.now.y.height % 2 ≡ 0 }
     requires chroma { (picture.now.cb.height % 2 ≡ 0) × (picture.now.cr.height % 2 ≡ 0) }
-    requires no_alpha { picture.now.alpha ≡ None }
+    requires alpha { IfSome picture.now.alpha (λ a. a.height % 2 ≡ 0) }
     ensures planes { IfOk result (λ f. planes_of f ≡ field_planes (planes_of picture.now) parity) }
     ensures depth { IfOk result (λ f. f.depth ≡ picture.now.depth) }
 {
@@ -136,7 +177,7 @@ fn field_of(alloc: Global, picture: &Picture, parity: Parity) -> Result<Picture,
         y: picture.y.field(alloc, parity)?,
         cb: picture.cb.field(alloc, parity)?,
         cr: picture.cr.field(alloc, parity)?,
-        alpha: None,
+        alpha: alpha_field(alloc, &picture.alpha, parity)?,
         chroma: picture.chroma,
         depth: picture.depth,
     })
@@ -152,21 +193,19 @@ fn add_field(
 ) -> Result<(), NoMemory>
     requires picture { IsPictureOf layout.now picture.now }
     requires even { layout.now.height % 2 ≡ 0 }
-    requires no_alpha { picture.now.alpha ≡ None }
     ensures { OnOk result (slices.new.items ≡ slices.old.items ++ picture_coefficients layout.now picture.now.depth (field_planes (planes_of picture.now) parity)) }
 {
     let field = field_of(alloc, picture, parity)?;
     add_picture(alloc, &field, layout, slices)
 }
 
-/// The coefficients of all slices of a progressive picture without alpha.
+/// The coefficients of all slices of a progressive picture.
 fn whole_picture(
     alloc: Global,
     picture: &Picture,
     layout: &Layout,
 ) -> Result<Vec<SliceCoefficients>, NoMemory>
     requires picture { IsPictureOf layout.now picture.now }
-    requires no_alpha { picture.now.alpha ≡ None }
     ensures { IfOk result (λ v. v.items ≡ picture_coefficients layout.now picture.now.depth (planes_of picture.now)) }
 {
     let mut slices = Vec::new(alloc);
@@ -174,7 +213,7 @@ fn whole_picture(
     Ok(slices)
 }
 
-/// The coefficients of all slices of the two fields of a picture without alpha, the earlier field first.
+/// The coefficients of all slices of the two fields of a picture, the earlier field first.
 fn both_fields(
     alloc: Global,
     picture: &Picture,
@@ -184,7 +223,6 @@ fn both_fields(
 ) -> Result<Vec<SliceCoefficients>, NoMemory>
     requires picture { IsPictureOf layout.now picture.now }
     requires even { layout.now.height % 2 ≡ 0 }
-    requires no_alpha { picture.now.alpha ≡ None }
     ensures { IfOk result (λ v. v.items ≡ picture_coefficients layout.now picture.now.depth (field_planes (planes_of picture.now) first) ++ picture_coefficients layout.now picture.now.depth (field_planes (planes_of picture.now) second)) }
 {
     let mut slices = Vec::new(alloc);
@@ -193,14 +231,13 @@ fn both_fields(
     Ok(slices)
 }
 
-/// The coefficients of all slices of the coded pictures of a picture without alpha, the earlier one first.
+/// The coefficients of all slices of the coded pictures of a picture, the earlier one first.
 fn all_slices_of(
     alloc: Global,
     picture: &Picture,
     layout: &Layout,
 ) -> Result<Vec<SliceCoefficients>, NoMemory>
     requires picture { IsPictureOf layout.now picture.now }
-    requires no_alpha { picture.now.alpha ≡ None }
     ensures { IfOk result (λ v. v.items ≡ frame_coefficients picture.now layout.now) }
 {
     match layout.interlace {
@@ -210,21 +247,22 @@ fn all_slices_of(
     }
 }
 
-fn whole_of(layout: &Layout, slices: Vec<SliceCoefficients>) -> Coefficients
-    requires { AreOfLayout (record { layout = layout.now; alpha = Absent; slices = slices.items }) }
+fn whole_of(layout: &Layout, alpha: AlphaKind, slices: Vec<SliceCoefficients>) -> Coefficients
+    requires { AreOfLayout (record { layout = layout.now; alpha = alpha; slices = slices.items }) }
     ensures layout { result.layout ≡ layout.now }
-    ensures alpha { result.alpha ≡ Absent }
+    ensures alpha { result.alpha ≡ alpha }
     ensures slices { result.slices ≡ slices.items }
 {
     Coefficients {
         layout: *layout,
-        alpha: AlphaKind::Absent,
+        alpha,
         slices: CoefficientSlices::from_vec(slices),
     }
 }
 
 /// The coefficients of a picture, which has the layout's size and chroma format and samples of its depth: those of its
-/// coded pictures, the earlier field first where it is interlaced. The picture has no alpha: it isn't built.
+/// coded pictures, the earlier field first where it is interlaced. The picture has a plane of alpha where the kind of alpha
+/// is one of 8 or 16 bits, with values of so many bits, and none where there is no alpha.
 ///
 /// The error says that memory ran out.
 pub fn coefficients_of(
@@ -234,11 +272,11 @@ pub fn coefficients_of(
     alpha: AlphaKind,
 ) -> Result<Coefficients, NoMemory>
     requires picture { IsPictureOf layout.now picture.now }
-    requires no_alpha { (alpha ≡ Absent) × (picture.now.alpha ≡ None) }
+    requires alpha { HasAlpha alpha picture.now.alpha }
     ensures layout { IfOk result (λ c. c.layout ≡ layout.now) }
     ensures alpha { IfOk result (λ c. c.alpha ≡ alpha) }
     ensures slices { IfOk result (λ c. c.slices ≡ frame_coefficients picture.now layout.now) }
 {
     let slices = all_slices_of(alloc, picture, layout)?;
-    Ok(whole_of(layout, slices))
+    Ok(whole_of(layout, alpha, slices))
 }

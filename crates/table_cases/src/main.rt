@@ -1,12 +1,14 @@
-//! Makes the tables of pictures in memory. Each line of standard input has a picture's width, height, chroma format, depth
-//! and interlace mode, the least and the greatest index, the logarithm of the slices' size, the matrices and the samples in
-//! hexadecimal, two bytes each; for each the fixed bytes are printed and the entries of every slice. The cases and the
-//! answers that are compared with it are those of an independent reference.
+//! Makes the tables of pictures in memory. Each line of standard input has a picture's width, height, chroma format, depth,
+//! bits of alpha and interlace mode, the least and the greatest index, the logarithm of the slices' size, the matrices and
+//! the samples in hexadecimal, two bytes each; for each the fixed bytes are printed and the entries of every slice. The cases
+//! and the answers that are compared with it are those of an independent reference.
 #![tactic(auto)]
 
-ghost use Rattle.std.specs.Prelude.{◌≡◌, ◌<◌, ◌≤◌, ◌^◌, IfSome, None};
+ghost use Rattle.std.specs.Prelude.{◌≡◌, ◌<◌, ◌≤◌, ◌^◌, IfSome};
+ghost use Rattle.std.specs.List.{All};
 ghost use Rattle.pw_planes.specs.Samples.{bits_of};
 ghost use Rattle.rate_build.specs.Coefficients.{HasDepth};
+ghost use Rattle.rate_build.specs.Laws.{HasAlpha};
 
 use pr_geom::Layout;
 use pr_quant::laws::named_weights_are_in_range;
@@ -49,7 +51,7 @@ fn small(word: &str) -> Option<u8> {
     u8::try_from(number(word)?).ok()
 }
 
-fn limit(depth: Depth) -> u16
+fn limit(depth: Depth) -> u32
     ensures { result ≡ 2 ^ bits_of depth }
 {
     match depth {
@@ -59,19 +61,18 @@ fn limit(depth: Depth) -> u16
     }
 }
 
-/// A plane of samples of two bytes each, the low byte first.
-fn plane(alloc: Global, bytes: &[u8], size: (u16, u16), depth: Depth) -> Option<Plane>
-    ensures { IfSome result (λ p. HasDepth p depth) }
+/// A plane of samples of two bytes each, the low byte first; each is below a limit.
+fn plane(alloc: Global, bytes: &[u8], size: (u16, u16), limit: u32) -> Option<Plane>
+    ensures { IfSome result (λ p. All (λ sample. sample < limit) p.samples) }
 {
     let (width, height) = (u32::from(size.0), u32::from(size.1));
     if width == 0 || 64 < width || height == 0 || 64 < height {
         return None;
     }
-    let limit = limit(depth);
     let mut samples = Vec::new(alloc);
     for i in 0..bytes.len() / 2 {
         let sample = u16::from(bytes[2 * i]) + 256 * u16::from(bytes[2 * i + 1]);
-        if sample >= limit {
+        if u32::from(sample) >= limit {
             return None;
         }
         samples.push(sample).ok()?;
@@ -94,6 +95,22 @@ fn chroma_columns(chroma: Chroma, width: u16) -> u16
     }
 }
 
+/// A plane of alpha, where there is one.
+fn alpha_plane(
+    alloc: Global,
+    bytes: &[u8],
+    size: (u16, u16),
+    alpha: AlphaKind,
+) -> Option<Option<Plane>>
+    ensures { IfSome result (HasAlpha alpha) }
+{
+    match alpha {
+        AlphaKind::Absent => Some(None),
+        AlphaKind::Eight => Some(Some(plane(alloc, bytes, size, 256)?)),
+        AlphaKind::Sixteen => Some(Some(plane(alloc, bytes, size, 65536)?)),
+    }
+}
+
 /// A picture of so many columns and rows, plane behind plane.
 fn picture(
     alloc: Global,
@@ -101,25 +118,29 @@ fn picture(
     size: (u16, u16),
     chroma: Chroma,
     depth: Depth,
+    alpha: AlphaKind,
 ) -> Option<Picture>
     ensures depth { IfSome result (λ p. (p.depth ≡ depth) × HasDepth p.y depth × HasDepth p.cb depth × HasDepth p.cr depth) }
-    ensures form { IfSome result (λ p. (p.chroma ≡ chroma) × (p.alpha ≡ None)) }
+    ensures form { IfSome result (λ p. (p.chroma ≡ chroma) × HasAlpha alpha p.alpha) }
 {
     let (width, height) = size;
     if 64 < width || 64 < height {
         return None;
     }
     let columns = chroma_columns(chroma, width);
+    let limit = limit(depth);
     let luma = 2 * usize::from(width * height);
-    let behind = luma + 2 * usize::from(columns * height);
-    let y = plane(alloc, bytes.get(..luma)?, (width, height), depth)?;
-    let cb = plane(alloc, bytes.get(luma..behind)?, (columns, height), depth)?;
-    let cr = plane(alloc, bytes.get(behind..)?, (columns, height), depth)?;
+    let second = luma + 2 * usize::from(columns * height);
+    let behind = second + 2 * usize::from(columns * height);
+    let y = plane(alloc, bytes.get(..luma)?, size, limit)?;
+    let cb = plane(alloc, bytes.get(luma..second)?, (columns, height), limit)?;
+    let cr = plane(alloc, bytes.get(second..behind)?, (columns, height), limit)?;
+    let alpha = alpha_plane(alloc, bytes.get(behind..)?, size, alpha)?;
     Some(Picture {
         y,
         cb,
         cr,
-        alpha: None,
+        alpha,
         chroma,
         depth,
     })
@@ -130,10 +151,11 @@ fn table_of(
     alloc: Global,
     picture: &Picture,
     layout: &Layout,
+    alpha: AlphaKind,
     matrix: Matrix,
     range: (u8, u8),
 ) -> Option<FrameTable>
-    requires form { (picture.now.chroma ≡ layout.now.chroma) × (picture.now.alpha ≡ None) }
+    requires form { (picture.now.chroma ≡ layout.now.chroma) × HasAlpha alpha picture.now.alpha }
     requires depth { HasDepth picture.now.y picture.now.depth × HasDepth picture.now.cb picture.now.depth × HasDepth picture.now.cr picture.now.depth }
 {
     let (lo, hi) = range;
@@ -143,7 +165,7 @@ fn table_of(
     if !picture.has_size(u32::from(layout.width), u32::from(layout.height)) {
         return None;
     }
-    let coefficients = coefficients_of(alloc, picture, layout, AlphaKind::Absent).ok()?;
+    let coefficients = coefficients_of(alloc, picture, layout, alpha).ok()?;
     named_weights_are_in_range();
     let weights = Weights::named(matrix);
     build_table(alloc, &coefficients, &weights, lo, hi, 1000).ok()
@@ -175,6 +197,15 @@ fn depth_of(word: &str) -> Option<Depth> {
     }
 }
 
+fn alpha_of(word: &str) -> Option<AlphaKind> {
+    match word {
+        "0" => Some(AlphaKind::Absent),
+        "8" => Some(AlphaKind::Eight),
+        "16" => Some(AlphaKind::Sixteen),
+        _ => None,
+    }
+}
+
 fn matrix_of(word: &str) -> Option<Matrix> {
     match word {
         "flat" => Some(Matrix::Flat),
@@ -185,25 +216,26 @@ fn matrix_of(word: &str) -> Option<Matrix> {
 
 /// The table that a line asks for.
 fn asked(alloc: Global, words: &[&str]) -> Option<FrameTable> {
-    if words.len() != 10 {
+    if words.len() != 11 {
         return None;
     }
     let size = (number(words[0])?, number(words[1])?);
     let chroma = chroma_of(words[2])?;
     let depth = depth_of(words[3])?;
-    let interlace = interlace_of(words[4])?;
-    let range = (small(words[5])?, small(words[6])?);
-    let log2 = small(words[7])?;
-    let matrix = matrix_of(words[8])?;
+    let alpha = alpha_of(words[4])?;
+    let interlace = interlace_of(words[5])?;
+    let range = (small(words[6])?, small(words[7])?);
+    let log2 = small(words[8])?;
+    let matrix = matrix_of(words[9])?;
     if 3 < log2 {
         return None;
     }
     let Ok(layout) = Layout::new(size.0, size.1, log2, interlace, chroma) else {
         return None;
     };
-    let bytes = bytes_of(alloc, words[9].as_bytes())?;
-    let picture = picture(alloc, &bytes, size, chroma, depth)?;
-    table_of(alloc, &picture, &layout, matrix, range)
+    let bytes = bytes_of(alloc, words[10].as_bytes())?;
+    let picture = picture(alloc, &bytes, size, chroma, depth, alpha)?;
+    table_of(alloc, &picture, &layout, alpha, matrix, range)
 }
 
 /// Prints the fixed bytes and the entries.

@@ -7,7 +7,7 @@ use Rattle.rate_build.proofs.tables.joined.Given as goal
 
 abbrev pub invariant-loop-i : goal.invariant-loop-i
 invariant-loop-i l = record {
-  entries : l.table ≡ map (joined_entry l.y l.cb l.cr l.lo) (range_with_len 0 l.i);
+  entries : l.table ≡ map (joined_entry l.beside l.y l.cb l.cr l.lo) (range_with_len 0 l.i);
   slice : IsSlice l.table;
   short : All IsShort l.table;
   last : last_index l.table < l.lo + l.i;

@@ -1,7 +1,6 @@
-use Rattle.std.proofs.Common.{◌<◌, ◌^◌}
+use Rattle.std.proofs.Common.{◌<◌}
 use Rattle.std.specs.List.{All}
-use Rattle.pw_planes.specs.Samples.{bits_of}
 use Rattle.rate_build.proofs.tests.plane.Given as goal
 
 abbrev pub invariant-loop-i : goal.invariant-loop-i
-invariant-loop-i g l = All (λ s. s < 2 ^ bits_of l.fn.depth) l.samples.items
+invariant-loop-i g l = All (λ s. s < l.limit) l.samples.items
