@@ -21,7 +21,9 @@ use Rattle.run_encode.specs.declared.end.EncodeEnd.TheVariants as ends
 use Rattle.run_encode.specs.Groups.{IsJobOf, has_layout}
 use Rattle.run_encode.specs.Outputs.{Outputs, nothing, PutsAll}
 use Rattle.run_encode.specs.Encoding.{end_of_fault, StopsFirst, Ran, RanOn}
+use Rattle.run_encode.specs.Headline.{HasHeadline}
 use Rattle.run_encode.specs.Steps.{left_by}
+use Rattle.run_encode.proofs.Headlines.{headline-refused}
 
 pub nothing-put : (a : Outputs) → a.movie.taken ≤ last → a.proof.taken ≤ last → a.text.taken ≤ last → PutsAll a a nothing
 nothing-put a m p t = record { movie = puts_none a.movie m; proof = puts_none a.proof p; text = puts_none a.text t }
@@ -42,6 +44,13 @@ refused w left a (faults.Bad kind place) p e =
     inr (subst (λ x. RanOn w x (ends.BadPictures kind place) a a) (sym (meant-err w.raw (bytes_of left) (record { kind = kind; place = place }) e)) (refl, p))
 refused w left a faults.Failed p e = inl (inl refl, p)
 refused w left a faults.NoMemory p e = inl (inr refl, p)
+
+-- no headline is asked where the head has a fault, or couldn't be read
+pub unread-headline : (w : EncodeWords) (left : Option (List ℕ)) (a : Outputs) (fault : PictureFault) → Fails told_fault fault (start_of w.raw (rest_of 0 left))
+    → HasHeadline w (pictures_of w.raw (bytes_of left)) (end_of_fault fault) a a
+unread-headline w left a (faults.Bad kind place) e = headline-refused w a a _ (record { kind = kind; place = place }) (ends.BadPictures kind place) (meant-err w.raw (bytes_of left) (record { kind = kind; place = place }) e)
+unread-headline w left a faults.Failed e = tt
+unread-headline w left a faults.NoMemory e = tt
 
 when-false : {P : Type 0} (Q : Type 0) (b : Bool) → b ≡ false → P → OnFalse b P × OnTrue b Q
 when-false Q true e p = cc

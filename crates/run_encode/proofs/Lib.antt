@@ -24,3 +24,4 @@ mod Proving
 mod Whole
 mod Going
 mod Headlines
+mod Strong

@@ -1,5 +1,5 @@
 -- What a whole run did: the beginning, the groups and the end together.
-use Rattle.std.proofs.Common.{◌≡◌, refl, ℕ, ◌+◌, ◌*◌, ◌<◌, ◌≤◌, ◌⊎◌, inl, inr, List, [], ◌∷◌, ◌++◌, arith, length, map, ap, sym, subst, ◌∙◌, length-append, append_assoc, append-nil}
+use Rattle.std.proofs.Common.{◌≡◌, refl, ℕ, ◌+◌, ◌*◌, ◌<◌, ◌≤◌, ◌⊎◌, inl, inr, Bool, true, false, List, [], ◌∷◌, ◌++◌, arith, length, map, ap, sym, subst, ◌∙◌, length-append, append_assoc, append-nil}
 use Rattle.std.specs.List.{flat_map, All}
 use Rattle.std.proofs.lemmas.List.{map-append, length-map}
 use Rattle.std.proofs.lemmas.List.Concat.{flat_map-append}
@@ -19,7 +19,7 @@ use Rattle.rate_cert.specs.Files.{record_bytes, end_bytes, proof_bytes}
 use Rattle.rate_cert.specs.Head.{head_bytes}
 use Rattle.run_encode.specs.Groups.{settings_of, group_count, table_in}
 use Rattle.run_encode.specs.Outputs.{Outputs, Lists, nothing, joined, PutsAll, PutsFronts}
-use Rattle.run_encode.specs.Encoding.{Group, IsCoded, frames_line, all_frames, record_in, none_record, group_behind, AreFirst, body_lists, cut_lists, whole_lists, small_lists, Encodes, records_bytes}
+use Rattle.run_encode.specs.Encoding.{Group, IsCoded, frames_line, all_frames, record_in, none_record, group_behind, AreFirst, body_lists, cut_lists, whole_lists, small_lists, Encodes, records_bytes, is_done, is_settled}
 use Rattle.run_encode.specs.Steps.{Counts, small_body, end_lists, close_lists, AllGroups, EndedBehind, Behind, Finishes, Closes, RanSo}
 use Rattle.run_encode.proofs.Sinks.{all_then, all_then_none, then_fronts, fronts_more}
 use Rattle.run_encode.proofs.Looping.{same-lists}
@@ -139,3 +139,13 @@ ran-unbegun j all before after p = (
   inl ([], no-groups j all, refl),
   record { movie = front_more [] p.movie; proof = front_more [] p.proof; text = p.text },
 )
+
+-- an answer that is neither Done nor TooSmall
+pub unsettled : (end : EncodeEnd) → ((frame least : ℕ) → end ≡ ends.TooSmall frame least → ⊥) → is_done end ≡ false → is_settled end ≡ false
+unsettled ends.Done unlike e = cc
+unsettled ends.NoMemory unlike e = refl
+unsettled ends.ReadFault unlike e = refl
+unsettled ends.WriteFault unlike e = refl
+unsettled (ends.BadPictures kind place) unlike e = refl
+unsettled (ends.TooSmall frame least) unlike e = absurd (unlike frame least refl)
+unsettled (ends.LayersFull frame) unlike e = refl

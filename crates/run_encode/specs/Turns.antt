@@ -6,7 +6,7 @@ use Rattle.pic_raw.specs.Any.{head_of, frames_of}
 use Rattle.run_encode.specs.declared.turn.Turn.{Turn}
 use Rattle.run_encode.specs.declared.turn.Turn.TheVariants as turns
 use Rattle.run_encode.specs.declared.end.EncodeEnd.{EncodeEnd}
-use Rattle.run_encode.specs.Encoding.{is_read_fault, is_write_fault}
+use Rattle.run_encode.specs.Encoding.{is_done, is_read_fault, is_write_fault}
 use Rattle.run_encode.specs.Steps.{Counts}
 
 -- whether a whole group was written
@@ -35,7 +35,17 @@ is_write_turn turns.Whole = false
 is_write_turn turns.Last = false
 is_write_turn turns.End = false
 
+abbrev pub is_done_turn : Turn → Bool
+is_done_turn (turns.Ended end) = is_done end
+is_done_turn turns.Whole = false
+is_done_turn turns.Last = false
+is_done_turn turns.End = false
+
 -- the same of an answer
+abbrev pub is_done_end : {X : Type 0} → Result X EncodeEnd → Bool
+is_done_end (Err end) = is_done end
+is_done_end (Ok _) = false
+
 abbrev pub is_read_end : {X : Type 0} → Result X EncodeEnd → Bool
 is_read_end (Err end) = is_read_fault end
 is_read_end (Ok _) = false

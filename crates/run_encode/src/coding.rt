@@ -1,6 +1,6 @@
 //! The frames of a group: coded by the best choice, and written.
 
-ghost use Rattle.std.specs.Prelude.{◌≡◌, ◌+◌, ◌≤◌, ◌<◌, ◌++◌, length, map, IsTrue, OnOk, OnErr, is_err};
+ghost use Rattle.std.specs.Prelude.{◌≡◌, ◌+◌, ◌≤◌, ◌<◌, ◌++◌, length, map, false, IsTrue, OnOk, OnErr, is_err};
 ghost use Rattle.std.specs.List.{All};
 ghost use Rattle.pw_outside.specs.Ports.{CountsFault};
 ghost use Rattle.pw_outside.specs.Writing.{Puts, PutsFront};
@@ -13,7 +13,7 @@ ghost use Rattle.rate_layers.specs.Best.{TellsBest, TellsLayers, PassesByBest};
 ghost use Rattle.run_encode.specs.Groups.{IsJob, IsFrameOf, table_of_group, coded_group};
 ghost use Rattle.run_encode.specs.Outputs.{state_of, outputs, PutsAll, PutsFronts, CountsFaults};
 ghost use Rattle.run_encode.specs.Steps.{IsOpen, counts_of};
-ghost use Rattle.run_encode.specs.Turns.{is_write_end};
+ghost use Rattle.run_encode.specs.Turns.{is_done_end, is_write_end};
 ghost use Rattle.run_encode.specs.Over.{FramesEnd, HasFitting, fit_lists};
 
 use crate::end::EncodeEnd;
@@ -96,6 +96,7 @@ fn write_fit<K: ByteSink>(
         (outputs K.held K.taken out.old cert.old text.old) (outputs K.held K.taken out.new cert.new text.new) }
     ensures open { OnOk result (length frames.now ≡ job.now.group → IsOpen job.now proof.new) }
     ensures head { movie.new.head ≡ movie.old.head }
+    ensures kinds { is_done_end result ≡ false }
     ensures write { CountsFaults K.faults out.old cert.old text.old out.new cert.new text.new (is_write_end result) }
 {
     let lines = match lines_for(alloc, job, number, frames, &table, &fit.choice) {
@@ -160,6 +161,7 @@ pub(crate) fn encode_frames<K: ByteSink>(
         (outputs K.held K.taken out.old cert.old text.old) (outputs K.held K.taken out.new cert.new text.new) }
     ensures open { OnOk result (length frames.now ≡ job.now.group → IsOpen job.now proof.new) }
     ensures head { movie.new.head ≡ movie.old.head }
+    ensures kinds { is_done_end result ≡ false }
     ensures write { CountsFaults K.faults out.old cert.old text.old out.new cert.new text.new (is_write_end result) }
 {
     let table = match table_for(alloc, job, frames) {

@@ -1,12 +1,12 @@
 //! The loop over groups.
 
-ghost use Rattle.std.specs.Prelude.{◌≡◌, [], IsSome, OnOk};
+ghost use Rattle.std.specs.Prelude.{◌≡◌, [], IsSome, OnOk, false};
 ghost use Rattle.std.specs.Io.KnownBytes.{IsAtEnd};
 ghost use Rattle.pw_outside.specs.Ports.{CountsFault};
 ghost use Rattle.pic_raw.specs.Any.{IsReader, head_of, frames_of};
 ghost use Rattle.run_encode.specs.Groups.{IsJob};
 ghost use Rattle.run_encode.specs.Outputs.{outputs, CountsFaults};
-ghost use Rattle.run_encode.specs.Turns.{is_read_end, is_write_end};
+ghost use Rattle.run_encode.specs.Turns.{is_done_end, is_read_end, is_write_end};
 ghost use Rattle.run_encode.specs.Steps.{IsOpen, left_by, counts_of, GroupsEnd};
 
 use crate::end::EncodeEnd;
@@ -41,6 +41,7 @@ pub(crate) fn encode_groups<S: ByteSource, K: ByteSink>(
         (outputs K.held K.taken out.old cert.old text.old) (outputs K.held K.taken out.new cert.new text.new) }
     ensures head { movie.new.head ≡ movie.old.head }
     ensures end { OnOk result (IsAtEnd (S.left pictures.new)) }
+    ensures kinds { is_done_end result ≡ false }
     ensures read { CountsFault (S.faults pictures.old) (S.faults pictures.new) (is_read_end result) }
     ensures write { CountsFaults K.faults out.old cert.old text.old out.new cert.new text.new (is_write_end result) }
 {

@@ -15,7 +15,6 @@ mod parts;
 mod reading;
 mod run;
 mod settings;
-mod stubs;
 mod tables;
 mod turn;
 

@@ -4,7 +4,7 @@ ghost use Rattle.std.specs.Prelude.{◌≡◌, ◌≤◌, IsSome, IfOk, IfErr, f
 ghost use Rattle.pw_outside.specs.Ports.{CountsFault};
 ghost use Rattle.pic_raw.specs.Any.{IsReader, head_of};
 ghost use Rattle.run_encode.specs.Groups.{IsJob};
-ghost use Rattle.run_encode.specs.Encoding.{is_write_fault, end_of_fault};
+ghost use Rattle.run_encode.specs.Encoding.{is_done, is_write_fault, end_of_fault};
 ghost use Rattle.run_encode.specs.Steps.{left_by};
 ghost use Rattle.run_encode.specs.Turns.{is_read_end};
 ghost use Rattle.run_encode.specs.Over.{ReadsGroup, StopsGroup};
@@ -42,7 +42,7 @@ pub(crate) fn read_group<S: ByteSource>(
     ensures group { IfOk result (λ cs. ReadsGroup job.now reader.old reader.new (S.left pictures.old) (S.left pictures.new) cs.items) }
     ensures reader { IsReader reader.new }
     ensures stops { IfErr result (λ end. IsSome (S.left pictures.old) → StopsGroup job.now (left_by reader.old (S.left pictures.old)) end) }
-    ensures kinds { IfErr result (λ end. is_write_fault end ≡ false) }
+    ensures kinds { IfErr result (λ end. (is_write_fault end ≡ false) × (is_done end ≡ false)) }
     ensures cause { CountsFault (S.faults pictures.old) (S.faults pictures.new) (is_read_end result) }
 {
     next_is_first();

@@ -1,12 +1,13 @@
 //! The run of `encode`.
 
-ghost use Rattle.std.specs.Prelude.{◌≡◌, ◌⊎◌, IsSome, IfSome, IfNone, true, false};
+ghost use Rattle.std.specs.Prelude.{◌≡◌, ◌⊎◌, ℕ, IsSome, IfSome, IfNone, true, false};
 ghost use Rattle.std.specs.Bool.{OnTrue};
 ghost use Rattle.std.specs.Io.KnownBytes.{IsAtEnd};
 ghost use Rattle.pw_outside.specs.Ports.{CountsFault};
 ghost use Rattle.pw_outside.specs.Reading.{Told};
 ghost use Rattle.pic_raw.specs.Any.{IsReader, head_of, frames_of, pictures_of};
 ghost use Rattle.pic_y4m.specs.HeadLine.{IsHead};
+ghost use Rattle.run_encode.specs.declared.end.EncodeEnd.TheVariants as ends;
 ghost use Rattle.run_encode.specs.Groups.{AreWords, IsJob, IsJobOf, has_layout};
 ghost use Rattle.run_encode.specs.Outputs.{outputs, CountsFaults};
 ghost use Rattle.run_encode.specs.Encoding.{is_done, is_read_fault, is_write_fault, is_settled, StopsFirst, RanOn};
@@ -65,6 +66,22 @@ fn job_of(words: &EncodeWords, head: &Head) -> Option<Job>
     })
 }
 
+/// The first frame of the group for which no choice fits, and the least that it needs, where the answer says so.
+fn small_of(end: EncodeEnd) -> Option<(u32, u64)>
+    ensures some { IfSome result (λ small. end ≡ ends.TooSmall small.0 small.1) }
+    ensures none { IfNone result ((frame : ℕ) (least : ℕ) → end ≡ ends.TooSmall frame least → ⊥) }
+{
+    match end {
+        EncodeEnd::TooSmall { frame, least } => Some((frame, least)),
+        EncodeEnd::Done => None,
+        EncodeEnd::NoMemory => None,
+        EncodeEnd::ReadFault => None,
+        EncodeEnd::WriteFault => None,
+        EncodeEnd::BadPictures { .. } => None,
+        EncodeEnd::LayersFull { .. } => None,
+    }
+}
+
 /// Encodes the pictures behind the head.
 fn run_job<S: ByteSource, K: ByteSink>(
     alloc: Global,
@@ -98,8 +115,10 @@ fn run_job<S: ByteSource, K: ByteSink>(
         alloc, job, reader, pictures, &mut movie, &mut proof, out, cert, text,
     ) {
         Ok(()) => finish(alloc, job, movie, proof, out, cert, text),
-        Err(EncodeEnd::TooSmall { frame, least }) => close(proof, frame, least, out, cert, text),
-        Err(end) => end,
+        Err(end) => match small_of(end) {
+            Some((frame, least)) => close(proof, frame, least, out, cert, text),
+            None => end,
+        },
     }
 }
 

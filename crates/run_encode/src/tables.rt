@@ -7,10 +7,9 @@ ghost use Rattle.rate_build.specs.Tables.{table_of};
 ghost use Rattle.run_encode.specs.Groups.{IsJob, IsFrameOf, coefficients_in, table_of_group};
 
 use crate::job::Job;
-use crate::stubs::{build_table, coefficients_of};
 use pw_outside::NoMemory;
 use pw_planes::Picture;
-use rate_build::{Coefficients, group_table_is_table};
+use rate_build::{Coefficients, build_table, coefficients_of, group_table_is_table};
 use rate_table::{FrameTable, join};
 use std::alloc::Global;
 

@@ -1,13 +1,13 @@
 //! One turn of the loop over groups: a group is read, coded by its best choice, and written.
 
-ghost use Rattle.std.specs.Prelude.{◌≡◌, ◌≤◌, IsSome, length};
+ghost use Rattle.std.specs.Prelude.{◌≡◌, ◌≤◌, IsSome, length, false};
 ghost use Rattle.std.specs.Bool.{OnTrue};
 ghost use Rattle.std.specs.Io.KnownBytes.{IsAtEnd};
 ghost use Rattle.pw_outside.specs.Ports.{CountsFault};
 ghost use Rattle.pic_raw.specs.Any.{IsReader, head_of, frames_of};
 ghost use Rattle.run_encode.specs.Groups.{IsJob};
 ghost use Rattle.run_encode.specs.Outputs.{outputs, CountsFaults};
-ghost use Rattle.run_encode.specs.Turns.{is_read_turn, is_write_turn, is_last, goes_on, Moves};
+ghost use Rattle.run_encode.specs.Turns.{is_done_turn, is_read_turn, is_write_turn, is_last, goes_on, Moves};
 ghost use Rattle.run_encode.specs.Steps.{IsOpen, left_by, counts_of, TurnIs};
 
 use crate::coding::encode_frames;
@@ -60,6 +60,7 @@ pub(crate) fn take_turn<S: ByteSource, K: ByteSink>(
     ensures open { OnTrue (goes_on result) (IsOpen job.now proof.new) }
     ensures head { movie.new.head ≡ movie.old.head }
     ensures end { OnTrue (is_last result) (IsAtEnd (S.left pictures.new)) }
+    ensures kinds { is_done_turn result ≡ false }
     ensures read { CountsFault (S.faults pictures.old) (S.faults pictures.new) (is_read_turn result) }
     ensures write { CountsFaults K.faults out.old cert.old text.old out.new cert.new text.new (is_write_turn result) }
 {

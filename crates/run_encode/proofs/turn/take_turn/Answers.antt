@@ -7,7 +7,7 @@ use Rattle.run_encode.proofs.Turning.{wrote, stopped, unread, counts-kept, nonem
 use Rattle.run_encode.proofs.turn.take_turn.Goals as goal
 
 pub returns-in-Err-clause-write : goal.returns-in-Err-clause-write
-returns-in-Err-clause-write g c = counts-kept _ _ _ _ _ c.in-Err.ensures.kinds
+returns-in-Err-clause-write g c = counts-kept _ _ _ _ _ c.in-Err.ensures.kinds.0
 
 pub returns-in-Err-clause-turn : goal.returns-in-Err-clause-turn
 returns-in-Err-clause-turn g c = λ told. unread _ _ _ (counts_of c.args.movie.now c.args.proof.now) (counts_of c.args.movie.now c.args.proof.now) _ c.in-Err.end
