@@ -1,9 +1,8 @@
 -- The head of the pictures, and what a run does with it.
-use Rattle.std.proofs.Common.{◌≡◌, refl, ℕ, ◌≤◌, ◌⊎◌, inl, inr, List, [], Bool, true, false, ap, sym, subst, ◌∙◌, Result, Ok, Err, Option}
-use Rattle.std.specs.Prelude.{IsSome}
+use Rattle.std.proofs.Common.{◌≡◌, refl, ℕ, ◌≤◌, ◌⊎◌, inl, inr, List, Bool, true, false, ap, sym, subst, Ok, Err, Option}
 use Rattle.std.specs.Bool.{OnTrue, OnFalse}
 use Rattle.pw_outside.specs.Ports.{last}
-use Rattle.pw_outside.specs.Reading.{Fault, Rest, Fails, bind, ◌>>=◌, bytes_of, rest_of}
+use Rattle.pw_outside.specs.Reading.{Fault, Rest, Fails, bind, bytes_of, rest_of}
 use Rattle.pw_outside.proofs.Puts.{puts_none}
 use Rattle.pic_y4m.specs.declared.head.Head.{Head}
 use Rattle.pic_y4m.specs.declared.fault.PictureFault.{PictureFault}
@@ -11,7 +10,6 @@ use Rattle.pic_y4m.specs.declared.fault.PictureFault.TheVariants as faults
 use Rattle.pic_y4m.specs.declared.fault.PictureKind.{PictureKind}
 use Rattle.pic_y4m.specs.declared.fault.PictureKind.TheVariants as kinds
 use Rattle.pic_y4m.specs.Faults.{told_fault}
-use Rattle.pic_y4m.specs.Frames.{Pictures}
 use Rattle.pic_raw.specs.declared.any.AnyReader.{AnyReader}
 use Rattle.pic_raw.specs.Any.{start_of, left_of, head_of, place_of, pictures_of}
 use Rattle.run_encode.specs.declared.job.Job.{Job}

@@ -1,7 +1,7 @@
 -- Pictures cut into groups.
-use Rattle.std.proofs.Common.{◌≡◌, refl, ℕ, zero, suc, ◌+◌, ◌-◌, ◌*◌, ◌/◌, ◌<◌, ◌≤◌, List, [], ◌∷◌, ◌++◌, arith, length, map, take, drop, ap, sym, subst, take_at, ◌∙◌, length-append, append_assoc}
-use Rattle.std.specs.List.{flat_map, range_with_len, All, AllByRecursion}
-use Rattle.std.proofs.lemmas.List.{drop_at, drop-drop, take_all}
+use Rattle.std.proofs.Common.{◌≡◌, refl, ℕ, zero, suc, ◌+◌, ◌-◌, ◌*◌, ◌/◌, ◌<◌, ◌≤◌, List, [], ◌∷◌, ◌++◌, arith, length, map, take, drop, ap, sym, take_at, ◌∙◌, length-append, append_assoc}
+use Rattle.std.specs.List.{flat_map, range_with_len, AllByRecursion}
+use Rattle.std.proofs.lemmas.List.{drop_at, drop-drop}
 use Rattle.std.proofs.lemmas.Nat.{div-mul-add, le-div}
 use Rattle.rate_build.specs.Groups.{group_at}
 

@@ -1,20 +1,18 @@
 -- How the loop ends behind whole groups.
-use Rattle.std.proofs.Common.{◌≡◌, refl, ℕ, ◌+◌, ◌*◌, ◌<◌, ◌≤◌, ◌⊎◌, inl, inr, List, [], ◌∷◌, ◌++◌, arith, length, map, take, ap, sym, subst, ◌∙◌, length-append, append-nil, Option, None, Some, Result, Ok, Err}
-use Rattle.std.specs.List.{flat_map, All}
+use Rattle.std.proofs.Common.{◌≡◌, ℕ, ◌+◌, ◌*◌, ◌≤◌, inl, inr, [], ◌∷◌, ◌++◌, length, take, ap, sym, subst, ◌∙◌, append-nil}
 use Rattle.std.proofs.lemmas.List.Elements.{All-push}
-use Rattle.pw_planes.specs.declared.picture.Picture.{Picture}
 use Rattle.pic_y4m.specs.Frames.{Pictures}
 use Rattle.rate_table.specs.Table.{HasNoFit, least_bytes}
 use Rattle.rate_layers.specs.Best.{PassesByPicks}
 use Rattle.run_encode.specs.declared.job.Job.{Job}
 use Rattle.run_encode.specs.declared.end.EncodeEnd.{EncodeEnd}
 use Rattle.run_encode.specs.declared.end.EncodeEnd.TheVariants as ends
-use Rattle.run_encode.specs.Groups.{table_in, group_count}
+use Rattle.run_encode.specs.Groups.{table_in}
 use Rattle.rate_cert.specs.Files.{record_bytes}
-use Rattle.run_encode.specs.Outputs.{Outputs, Lists, nothing, joined, PutsAll, PutsFronts}
-use Rattle.run_encode.specs.Encoding.{Group, IsCoded, IsNarrow, body_lists, record_in, none_record, AreFirst, group_behind}
-use Rattle.run_encode.specs.Steps.{Counts, in_front, no_pictures, group_lists, none_lists, small_body, Wrote, WroteLast, WholeGroups, AllGroups, HasGroup, EndsIn, FailsIn, EndedBehind, Behind}
-use Rattle.run_encode.proofs.Sinks.{all_then, all_then_none, then_fronts, all_fronts}
+use Rattle.run_encode.specs.Outputs.{Outputs, nothing, joined, PutsAll, PutsFronts}
+use Rattle.run_encode.specs.Encoding.{IsNarrow, body_lists, none_record, AreFirst, group_behind}
+use Rattle.run_encode.specs.Steps.{Counts, in_front, no_pictures, group_lists, none_lists, small_body, WroteLast, WholeGroups, AllGroups, EndsIn, EndedBehind}
+use Rattle.run_encode.proofs.Sinks.{all_then, all_then_none, then_fronts}
 use Rattle.run_encode.proofs.Cutting.{whole-length}
 use Rattle.run_encode.proofs.Looping.{pictures_in, same-lists, body-more, by-recursion, first-are, behind-is, has-more, cut-count, end-count, more-first, last-count, last-there, last-next, wrote-more, sizes-more, records-more}
 

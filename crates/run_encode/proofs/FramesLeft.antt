@@ -6,7 +6,7 @@ use Rattle.pw_outside.specs.Ports.{last}
 use Rattle.std.proofs.lemmas.List.{take-map, drop-map, drop_at, map-append, length-map, nil_from_length, length-drop}
 use Rattle.std.proofs.lemmas.List.Concat.{flat_map-append}
 use Rattle.pw_outside.specs.Writing.{SinkState, Puts, PutsFront}
-use Rattle.pw_outside.proofs.Puts.{puts_none, puts_then, front_more, then_front, puts_front}
+use Rattle.pw_outside.proofs.Puts.{puts_none, puts_then, front_more, then_front}
 use Rattle.pr_frame.specs.Written.{written}
 use Rattle.qt_movie.specs.MovieBytes.{frame_head_bytes, frame_bytes}
 use Rattle.rate_table.specs.declared.entry.Entry.{Entry}
@@ -18,7 +18,7 @@ use Rattle.run_encode.specs.declared.job.Job.{Job}
 use Rattle.run_encode.specs.Groups.{IsFrameOf, header_in, frame_slices, slice_tables, table_of_group, coded_group}
 use Rattle.run_encode.specs.Over.{HasFitting, IsFrameChoice}
 use Rattle.run_encode.proofs.Shares.{slices-are, part-of, sizes-split}
-use Rattle.run_encode.proofs.Grouped.{table-slices, table-fixed, table-budget}
+use Rattle.run_encode.proofs.Grouped.{table-slices, table-fixed}
 
 -- the choice of the frames that are left, and the frames that were written
 pub record Left (j : Job) (left : List FrameCoefficients) (all : List (List ℕ)) (slices : List (List Entry)) (part : List ℕ) (done : List (List ℕ)) : Type 0 where

@@ -1,10 +1,8 @@
 -- The table of a group: its budget, its fixed bytes and its slices.
-use Rattle.std.proofs.Common.{◌≡◌, refl, ℕ, ◌+◌, ◌*◌, ◌^◌, ◌<◌, ◌≤◌, List, [], ◌∷◌, ◌++◌, arith, length, map, ap, sym, subst, ◌∙◌, length-append}
-use Rattle.std.specs.List.{flat_map, All, AllByRecursion, sum_by}
+use Rattle.std.proofs.Common.{◌≡◌, refl, ◌+◌, ◌*◌, List, [], ◌∷◌, arith, length, map, ap, ◌∙◌, length-append}
+use Rattle.std.specs.List.{flat_map, AllByRecursion, sum_by}
 use Rattle.std.proofs.lemmas.List.Folds.{flat_map-map}
 use Rattle.std.proofs.lemmas.List.Sums.{sum_by-cons}
-use Rattle.std.proofs.lemmas.Nat.{mul-le}
-use Rattle.pr_geom.specs.declared.layout.Layout.{Layout}
 use Rattle.rate_table.specs.Table.{Table, group_table}
 use Rattle.rate_build.specs.Coefficients.{FrameCoefficients}
 use Rattle.rate_build.specs.Tables.{table_of, fixed_bytes}

@@ -1,8 +1,8 @@
 -- The groups so far, and one more; and how a run ends behind them.
-use Rattle.std.proofs.Common.{◌≡◌, refl, ℕ, zero, suc, ◌+◌, ◌-◌, ◌*◌, ◌/◌, ◌<◌, ◌≤◌, ◌⊎◌, inl, inr, cond, List, [], ◌∷◌, ◌++◌, arith, length, map, take, drop, ap, sym, subst, ◌∙◌, length-append, append_assoc, append-nil, Option, None, Some}
+use Rattle.std.proofs.Common.{◌≡◌, refl, ℕ, ◌+◌, ◌-◌, ◌*◌, ◌/◌, ◌<◌, ◌≤◌, cond, List, [], ◌∷◌, ◌++◌, arith, length, map, take, ap, sym, subst, ◌∙◌, length-append, append_assoc, append-nil, Option, None, Some}
 use Rattle.std.specs.Prelude.{is_some}
 use Rattle.std.specs.List.{flat_map, range_with_len, All, AllByRecursion}
-use Rattle.std.proofs.lemmas.List.{take_all, map-append, length-map}
+use Rattle.std.proofs.lemmas.List.{take_all, map-append}
 use Rattle.std.proofs.lemmas.List.Concat.{flat_map-append}
 use Rattle.std.proofs.lemmas.List.Elements.{All-push, All-nil, recursion_from_All}
 use Rattle.std.proofs.lemmas.List.FromFn.{map-range_with_len_more}
@@ -19,8 +19,8 @@ use Rattle.rate_cert.specs.Files.{record_bytes}
 use Rattle.run_encode.specs.Groups.{group_count}
 use Rattle.run_encode.specs.Outputs.{Outputs, Lists, joined, PutsAll}
 use Rattle.run_encode.specs.Encoding.{Group, IsCoded, IsNarrow, body_lists, all_frames, frames_of, record_in, group_lines, lines_of, AreFirst, group_behind}
-use Rattle.run_encode.specs.Steps.{Counts, in_front, no_pictures, group_lists, Wrote, WroteWhole, WroteLast, WholeGroups, AllGroups, HasGroup}
-use Rattle.run_encode.proofs.Sinks.{all_then, all_then_none}
+use Rattle.run_encode.specs.Steps.{Counts, in_front, no_pictures, group_lists, Wrote, WroteWhole, WholeGroups, HasGroup}
+use Rattle.run_encode.proofs.Sinks.{all_then}
 use Rattle.run_encode.proofs.Cutting.{whole-groups, whole-length, next-group, count-whole, count-up-none, count-up-some, count-least}
 
 abbrev pub pictures_in : List Group → List Picture

@@ -1,12 +1,12 @@
 -- What is written of a printed choice is what is written of the best choice.
-use Rattle.std.proofs.Common.{◌≡◌, refl, ℕ, ◌+◌, ◌++◌, List, length, map, ap, sym, subst, ◌∙◌}
+use Rattle.std.proofs.Common.{◌≡◌, ℕ, ◌+◌, ◌++◌, List, length, map, ap, subst, ◌∙◌}
 use Rattle.std.specs.List.{flat_map}
 use Rattle.pw_outside.specs.Writing.{SinkState, Puts, PutsFront}
 use Rattle.pr_frame.specs.Written.{written}
 use Rattle.qt_movie.specs.MovieBytes.{frame_bytes}
 use Rattle.rate_table.specs.declared.entry.Entry.{Entry}
 use Rattle.rate_table.specs.declared.entry.Pair.{Pair}
-use Rattle.rate_table.specs.Table.{Table, IsBest, indices, least_bytes}
+use Rattle.rate_table.specs.Table.{Table, IsBest, least_bytes}
 use Rattle.rate_table.specs.Records.{Printed, record_of}
 use Rattle.rate_layers.specs.Best.{TellsBest, TellsLayers, PassesByBest}
 use Rattle.rate_build.specs.Coefficients.{FrameCoefficients}

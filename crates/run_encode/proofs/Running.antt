@@ -1,25 +1,22 @@
 -- What a whole run did: the beginning, the groups and the end together.
-use Rattle.std.proofs.Common.{◌≡◌, refl, ℕ, ◌+◌, ◌*◌, ◌<◌, ◌≤◌, ◌⊎◌, inl, inr, Bool, true, false, List, [], ◌∷◌, ◌++◌, arith, length, map, ap, sym, subst, ◌∙◌, length-append, append_assoc, append-nil}
-use Rattle.std.specs.List.{flat_map, All}
-use Rattle.std.proofs.lemmas.List.{map-append, length-map}
+use Rattle.std.proofs.Common.{◌≡◌, refl, ℕ, ◌+◌, ◌*◌, inl, inr, false, List, [], ◌∷◌, ◌++◌, arith, length, map, ap, sym, subst, ◌∙◌, length-append, append_assoc, append-nil}
+use Rattle.std.specs.List.{flat_map}
+use Rattle.std.proofs.lemmas.List.{length-map}
 use Rattle.std.proofs.lemmas.List.Concat.{flat_map-append}
 use Rattle.std.proofs.lemmas.List.Folds.{flat_map-map}
 use Rattle.std.proofs.lemmas.List.Elements.{All-nil}
-use Rattle.pw_outside.specs.Ports.{last}
-use Rattle.pw_outside.specs.Writing.{Puts, PutsFront}
-use Rattle.pw_outside.proofs.Puts.{front_more, puts_front}
+use Rattle.pw_outside.proofs.Puts.{front_more}
 use Rattle.pic_y4m.specs.Frames.{Pictures}
 use Rattle.qt_movie.specs.MovieBytes.{ftyp_bytes, frame_bytes, moov_bytes, extents}
 use Rattle.run_encode.specs.declared.job.Job.{Job}
 use Rattle.run_encode.specs.declared.end.EncodeEnd.{EncodeEnd}
 use Rattle.run_encode.specs.declared.end.EncodeEnd.TheVariants as ends
 use Rattle.rate_table.specs.Table.{least_bytes}
-use Rattle.rate_cert.specs.Records.{Record}
 use Rattle.rate_cert.specs.Files.{record_bytes, end_bytes, proof_bytes}
 use Rattle.rate_cert.specs.Head.{head_bytes}
-use Rattle.run_encode.specs.Groups.{settings_of, group_count, table_in}
-use Rattle.run_encode.specs.Outputs.{Outputs, Lists, nothing, joined, PutsAll, PutsFronts}
-use Rattle.run_encode.specs.Encoding.{Group, IsCoded, frames_line, all_frames, record_in, none_record, group_behind, AreFirst, body_lists, cut_lists, whole_lists, small_lists, Encodes, records_bytes, is_done, is_settled}
+use Rattle.run_encode.specs.Groups.{settings_of, table_in}
+use Rattle.run_encode.specs.Outputs.{Outputs, Lists, joined, PutsAll, PutsFronts}
+use Rattle.run_encode.specs.Encoding.{Group, IsCoded, frames_line, all_frames, record_in, none_record, group_behind, AreFirst, cut_lists, whole_lists, small_lists, records_bytes, is_done, is_settled}
 use Rattle.run_encode.specs.Steps.{Counts, small_body, end_lists, close_lists, AllGroups, EndedBehind, Behind, Finishes, Closes, RanSo}
 use Rattle.run_encode.proofs.Sinks.{all_then, all_then_none, then_fronts, fronts_more}
 use Rattle.run_encode.proofs.Looping.{same-lists}

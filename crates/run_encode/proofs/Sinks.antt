@@ -1,8 +1,8 @@
 -- What three sinks took, one thing after the other.
-use Rattle.std.proofs.Common.{◌≡◌, refl, ℕ, ◌+◌, ◌≤◌, List, [], ◌∷◌, ◌++◌, arith, length, take, subst, Option, append-nil, sym, ap, Result, Ok, Err, OnOk, OnErr}
+use Rattle.std.proofs.Common.{ℕ, ◌≤◌, List, [], subst, append-nil, Result, Ok, Err, OnOk, OnErr}
 use Rattle.pw_outside.specs.Ports.{last}
-use Rattle.pw_outside.specs.Writing.{SinkState, Puts, PutsFront, PutsPart}
-use Rattle.pw_outside.proofs.Puts.{puts_none, puts_then, puts_front, part_front, front_more, then_front}
+use Rattle.pw_outside.specs.Writing.{SinkState, Puts, PutsFront}
+use Rattle.pw_outside.proofs.Puts.{puts_none, puts_then, puts_front, front_more, then_front}
 use Rattle.run_encode.specs.Outputs.{Outputs, Lists, nothing, joined, PutsAll, PutsFronts}
 
 -- a sink that was left as it was

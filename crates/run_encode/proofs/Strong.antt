@@ -1,6 +1,5 @@
 -- What a whole run did, by the laws of encoding.
-use Rattle.std.proofs.Common.{◌≡◌, ℕ, ◌+◌, ◌≤◌, ◌⊎◌, inl, inr, List, arith, length, ap, sym, subst, ◌∙◌, Option}
-use Rattle.std.specs.List.{All}
+use Rattle.std.proofs.Common.{ℕ, inl, inr, List, arith, subst, Option}
 use Rattle.pw_outside.specs.Reading.{rest_of}
 use Rattle.pic_y4m.specs.Frames.{Pictures}
 use Rattle.pic_raw.specs.declared.any.AnyReader.{AnyReader}

@@ -1,5 +1,5 @@
 -- The sums of a frame's part of a choice, and the length of the frame.
-use Rattle.std.proofs.Common.{◌≡◌, refl, ℕ, ◌+◌, ◌<◌, ◌≤◌, ◌^◌, List, arith, length, ap, sym, subst, ◌∙◌}
+use Rattle.std.proofs.Common.{◌≡◌, refl, ℕ, ◌+◌, ◌≤◌, List, arith, length, ap, sym, subst, ◌∙◌}
 use Rattle.std.specs.List.{All}
 use Rattle.pr_frame.specs.Laws.{WrittenHasLength}
 use Rattle.pr_frame.specs.Written.{written}

@@ -1,7 +1,7 @@
 -- One turn: the pictures of a group, and what was done with their coefficients.
-use Rattle.std.proofs.Common.{◌≡◌, refl, ℕ, zero, suc, ◌+◌, ◌<◌, ◌≤◌, ◌⊎◌, inl, inr, ⊎_elim, Bool, true, false, List, [], ◌∷◌, ◌++◌, arith, length, map, take, drop, ap, sym, subst, ◌∙◌, length-append, append-nil, take_at, Option, None, Some}
+use Rattle.std.proofs.Common.{◌≡◌, refl, ℕ, zero, suc, ◌+◌, ◌<◌, ◌≤◌, inl, inr, ⊎_elim, Bool, true, false, List, [], ◌∷◌, ◌++◌, arith, length, map, take, drop, ap, sym, subst, ◌∙◌, length-append, append-nil, take_at, Option}
 use Rattle.std.specs.Prelude.{IsSome, ◌==◌}
-use Rattle.std.specs.Bool.{OnTrue, OnFalse}
+use Rattle.std.specs.Bool.{OnTrue}
 use Rattle.std.proofs.lemmas.Bool.{cases_lt}
 use Rattle.std.proofs.lemmas.List.{take_all, length-map}
 use Rattle.pw_planes.specs.declared.picture.Picture.{Picture}
@@ -19,10 +19,10 @@ use Rattle.run_encode.specs.declared.end.EncodeEnd.{EncodeEnd}
 use Rattle.run_encode.specs.declared.end.EncodeEnd.TheVariants as ends
 use Rattle.rate_build.specs.Groups.{shares}
 use Rattle.run_encode.specs.Groups.{coefficients_in, header_in, frame_slices, coded_group, table_in}
-use Rattle.run_encode.specs.Outputs.{Outputs, Lists, nothing, PutsAll, PutsFronts, CountsFaults}
-use Rattle.run_encode.specs.Encoding.{Group, IsCoded, part_lines, is_write_fault}
-use Rattle.run_encode.specs.Steps.{Counts, left_by, in_front, no_pictures, group_lists, Wrote, WroteWhole, WroteLast, HasGroup, EndsIn, none_lists}
-use Rattle.run_encode.specs.Over.{ReadsGroup, StopsGroup, IsChosen, WroteFrames, StopsFrames, frames_lists}
+use Rattle.run_encode.specs.Outputs.{Outputs, nothing, PutsAll, PutsFronts, CountsFaults}
+use Rattle.run_encode.specs.Encoding.{Group, part_lines}
+use Rattle.run_encode.specs.Steps.{Counts, left_by, in_front, group_lists, Wrote, HasGroup, EndsIn, none_lists}
+use Rattle.run_encode.specs.Over.{ReadsGroup, StopsGroup, WroteFrames, StopsFrames, frames_lists}
 
 -- the parts of a choice are the same whatever they are of
 parts-same : {A X Y : Type 0} (f : X → Y) (n : ℕ) (xs : List X) (choice : List A) → map (λ p. p.1) (shares n (map f xs) choice) ≡ map (λ p. p.1) (shares n xs choice)

@@ -1,5 +1,5 @@
 -- What is done with the coefficients of a group: coded by the best choice, and written. Our own definitions.
-use Rattle.std.specs.Prelude.{◌≡◌, ℕ, ◌+◌, ◌<◌, ◌≤◌, ◌^◌, ◌⊎◌, List, [], ◌∷◌, ◌++◌, length, map, Option, None, Some, IsSome, Result, Ok, Err}
+use Rattle.std.specs.Prelude.{◌≡◌, ℕ, ◌+◌, ◌<◌, ◌≤◌, ◌^◌, ◌⊎◌, List, [], ◌++◌, length, map, Option, Some, IsSome, Result, Ok, Err}
 use Rattle.std.specs.Io.KnownBytes.{IsAtEnd}
 use Rattle.std.specs.List.{flat_map, All}
 use Rattle.pw_planes.specs.declared.picture.Picture.{Picture}
@@ -17,7 +17,7 @@ use Rattle.rate_layers.specs.Best.{TellsLayers, PassesByPicks, PassesByBest}
 use Rattle.rate_build.specs.Coefficients.{FrameCoefficients}
 use Rattle.rate_build.specs.Groups.{shares}
 use Rattle.rate_build.specs.Tables.{fixed_bytes}
-use Rattle.rate_cert.specs.Records.{Record, fits, none}
+use Rattle.rate_cert.specs.Records.{fits, none}
 use Rattle.rate_cert.specs.Files.{record_bytes}
 use Rattle.run_encode.specs.declared.job.Job.{Job}
 use Rattle.run_encode.specs.declared.end.EncodeEnd.{EncodeEnd}

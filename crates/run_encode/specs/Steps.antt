@@ -1,9 +1,8 @@
 -- What the steps of a run do with the pictures that are left. Our own definitions.
-use Rattle.std.specs.Prelude.{◌≡◌, ℕ, ◌+◌, ◌*◌, ◌<◌, ◌≤◌, ◌⊎◌, Bool, true, List, [], ◌∷◌, ◌++◌, length, map, take, Option, None, Some, Result, Ok, Err, IsTrue}
+use Rattle.std.specs.Prelude.{◌≡◌, ℕ, ◌+◌, ◌*◌, ◌<◌, ◌≤◌, ◌⊎◌, List, [], ◌++◌, length, map, take, Option, None, Some, Result, Ok, Err, IsTrue}
 use Rattle.std.specs.List.{flat_map, All}
-use Rattle.pw_outside.specs.Reading.{Fault, rest_of}
+use Rattle.pw_outside.specs.Reading.{rest_of}
 use Rattle.pw_planes.specs.declared.picture.Picture.{Picture}
-use Rattle.pic_y4m.specs.declared.fault.PictureKind.{PictureKind}
 use Rattle.pic_y4m.specs.Frames.{Pictures}
 use Rattle.pic_raw.specs.declared.any.AnyReader.{AnyReader}
 use Rattle.pic_raw.specs.Any.{left_of, place_of}

@@ -1,5 +1,5 @@
 -- Which answers a turn of the loop gives. Our own definitions.
-use Rattle.std.specs.Prelude.{◌≡◌, ℕ, ◌+◌, ◌≤◌, ◌<◌, Bool, true, false, Result, Ok, Err}
+use Rattle.std.specs.Prelude.{◌≡◌, ℕ, ◌≤◌, ◌<◌, Bool, true, false, Result, Ok, Err}
 use Rattle.pic_y4m.specs.declared.head.TheConstants.{MAX_FRAMES}
 use Rattle.pic_raw.specs.declared.any.AnyReader.{AnyReader}
 use Rattle.pic_raw.specs.Any.{head_of, frames_of}

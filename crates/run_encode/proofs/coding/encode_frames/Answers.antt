@@ -1,4 +1,4 @@
-use Rattle.std.proofs.Common.{◌≡◌, inr, subst}
+use Rattle.std.proofs.Common.{inr, subst}
 use Rattle.rate_table.specs.Table.{HasNoFit}
 use Rattle.run_encode.proofs.Sinks.{front_none}
 use Rattle.run_encode.proofs.Printing.{none-front}

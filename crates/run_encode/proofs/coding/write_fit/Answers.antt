@@ -1,4 +1,4 @@
-use Rattle.std.proofs.Common.{◌≡◌, rules, sym, ap, subst, ◌∙◌, ◌++◌, inl, length, map}
+use Rattle.std.proofs.Common.{sym, ap, ◌∙◌, ◌++◌, inl, length, map}
 use Rattle.pr_frame.specs.Written.{written}
 use Rattle.rate_table.specs.Records.{Printed}
 use Rattle.run_encode.specs.Groups.{coded_group}

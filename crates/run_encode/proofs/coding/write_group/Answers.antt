@@ -1,10 +1,6 @@
-use Rattle.std.proofs.Common.{◌≡◌, rules, sym, ap, subst, ◌∙◌, map}
+use Rattle.std.proofs.Common.{ap, ◌∙◌}
 use Rattle.std.proofs.lemmas.Result.{on_ok_weaker, on_err_weaker}
-use Rattle.std.specs.List.{flat_map}
-use Rattle.pw_outside.specs.Writing.{Puts, PutsFront}
 use Rattle.pw_outside.proofs.Puts.{part_front, puts_front}
-use Rattle.pr_frame.specs.Written.{written}
-use Rattle.qt_movie.specs.MovieBytes.{frame_bytes}
 use Rattle.rate_table.specs.Records.{Printed}
 use Rattle.rate_cert.specs.Files.{further}
 use Rattle.run_encode.proofs.Sinks.{any_err, any_ok, front_none}

@@ -1,4 +1,4 @@
-use Rattle.std.proofs.Common.{rules, ◌≡◌, ◌+◌, ◌<◌, ◌≤◌, ◌^◌, refl, arith, List, ℕ, [], ◌∷◌, ◌++◌, length, map, take, drop, ap, sym, subst, ◌∙◌}
+use Rattle.std.proofs.Common.{◌<◌, ◌^◌, refl, arith, List, ℕ, [], ◌∷◌, ◌++◌, length, ap, sym, subst, ◌∙◌}
 use Rattle.pw_outside.specs.Writing.{Puts, PutsFront}
 use Rattle.pr_frame.specs.Written.{written}
 use Rattle.qt_movie.specs.MovieBytes.{frame_bytes}
@@ -6,10 +6,10 @@ use Rattle.std.specs.List.{All}
 use Rattle.std.proofs.lemmas.List.Elements.{All-take, All-drop}
 use Rattle.rate_table.specs.Table.{Table, IsSlice}
 use Rattle.rate_build.specs.Coding.{coded_frame}
-use Rattle.run_encode.specs.Groups.{IsFrameOf, header_in}
+use Rattle.run_encode.specs.Groups.{header_in}
 use Rattle.run_encode.specs.Outputs.{state_of}
 use Rattle.run_encode.proofs.Sinks.{any_err}
-use Rattle.run_encode.proofs.FramesLeft.{none-written, current, frame-is, long-enough, here-part, front-all, frame-more, frames-all, moved, at-end}
+use Rattle.run_encode.proofs.FramesLeft.{none-written, current, frame-is, long-enough, here-part, front-all, frame-more, moved, at-end}
 use Rattle.run_encode.proofs.frames.write_frames.Goals as goal
 
 pub frames-init : goal.frames-init

@@ -1,4 +1,4 @@
-use Rattle.std.proofs.Common.{◌≡◌, refl, arith, length, ap, ◌∙◌, rules}
+use Rattle.std.proofs.Common.{refl, arith, length, ap, ◌∙◌}
 use Rattle.run_encode.proofs.Looping.{none-yet, one-more}
 use Rattle.run_encode.proofs.Ending.{ended, all-done, last-done}
 use Rattle.run_encode.proofs.groups.encode_groups.Goals as goal

@@ -1,8 +1,7 @@
-use Rattle.std.proofs.Common.{rules, ◌≡◌, ◌+◌, ◌*◌, ◌++◌, refl, ap, sym, subst, ◌∙◌, take, drop, List, ℕ}
+use Rattle.std.proofs.Common.{◌+◌, ◌*◌, ◌++◌, ap, sym, subst, ◌∙◌, take}
 use Rattle.std.specs.List.{All}
 use Rattle.std.proofs.lemmas.List.Elements.{All-take, All-drop}
-use Rattle.rate_table.specs.declared.entry.Entry.{Entry}
-use Rattle.rate_table.specs.Table.{Table, IsSlice, IsChoice, indices}
+use Rattle.rate_table.specs.Table.{Table, IsSlice, IsChoice}
 use Rattle.run_encode.specs.Encoding.{frame_line}
 use Rattle.run_encode.proofs.Lining.{AreFirstLines, no-lines, all-lines, line-more, enough-slices, enough-choice, part-here, behind-next, from-first}
 use Rattle.run_encode.proofs.lines.lines_for.Goals as goal
