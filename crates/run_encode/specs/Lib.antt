@@ -1,0 +1,9 @@
+pub mod Groups
+pub mod Outputs
+pub mod Encoding
+pub mod Headline
+pub mod Laws
+pub mod Steps
+pub mod Turns
+pub mod Over
+pub mod Completing

@@ -1,0 +1,171 @@
+//! The run of `encode`.
+
+ghost use Rattle.std.specs.Prelude.{◌≡◌, ◌⊎◌, ℕ, IsSome, IfSome, IfNone, true, false};
+ghost use Rattle.std.specs.Bool.{OnTrue};
+ghost use Rattle.std.specs.Io.KnownBytes.{IsAtEnd};
+ghost use Rattle.pw_outside.specs.Ports.{CountsFault};
+ghost use Rattle.pw_outside.specs.Reading.{Told};
+ghost use Rattle.pic_raw.specs.Any.{IsReader, head_of, frames_of, pictures_of};
+ghost use Rattle.pic_y4m.specs.HeadLine.{IsHead};
+ghost use Rattle.run_encode.specs.declared.end.EncodeEnd.TheVariants as ends;
+ghost use Rattle.run_encode.specs.Groups.{AreWords, IsJob, IsJobOf, has_layout};
+ghost use Rattle.run_encode.specs.Outputs.{outputs, CountsFaults};
+ghost use Rattle.run_encode.specs.Encoding.{is_done, is_read_fault, is_write_fault, is_settled, StopsFirst, RanOn};
+ghost use Rattle.run_encode.specs.Headline.{HasHeadline};
+ghost use Rattle.run_encode.specs.Steps.{left_by, RanSo};
+
+use crate::end::EncodeEnd;
+use crate::finish::{close, finish};
+use crate::groups::encode_groups;
+use crate::job::{EncodeWords, Job};
+use crate::laws::{cut_has_headline, encoded_has_headline, encoding_goes_on};
+use crate::reading::end_of;
+use crate::settings::settings_for;
+use pic_raw::{AnyReader, left_have_form};
+use pic_y4m::{Head, PictureKind};
+use pr_geom::Layout;
+use pr_quant::Weights;
+use pr_quant::laws::named_weights_are_in_range;
+use pw_outside::{ByteSink, ByteSource};
+use qt_movie::MovieWriter;
+use rate_cert::ProofWriter;
+use std::alloc::Global;
+
+/// What is fixed for all frames; none where the pictures have no layout.
+fn job_of(words: &EncodeWords, head: &Head) -> Option<Job>
+    requires words { AreWords words.now }
+    requires head { IsHead head.now }
+    ensures some { IfSome result (λ j. IsJob j × IsJobOf words.now head.now j × (has_layout words.now head.now ≡ true)) }
+    ensures none { IfNone result (has_layout words.now head.now ≡ false) }
+{
+    let layout = match Layout::new(
+        head.width,
+        head.height,
+        words.log2,
+        head.interlace,
+        head.chroma,
+    ) {
+        Ok(layout) => layout,
+        Err(_) => return None,
+    };
+    named_weights_are_in_range();
+    let slices = u32::from(layout.pictures()) * layout.slices();
+    if u32::from(words.group) * slices > 131_070 {
+        return None;
+    }
+    Some(Job {
+        head: *head,
+        layout,
+        weights: Weights::named(words.matrix),
+        lo: words.lo,
+        hi: words.hi,
+        budget: words.budget,
+        group: words.group,
+        raw: words.raw.is_some(),
+        format: words.proof,
+    })
+}
+
+/// The first frame of the group for which no choice fits, and the least that it needs, where the answer says so.
+fn small_of(end: EncodeEnd) -> Option<(u32, u64)>
+    ensures some { IfSome result (λ small. end ≡ ends.TooSmall small.0 small.1) }
+    ensures none { IfNone result ((frame : ℕ) (least : ℕ) → end ≡ ends.TooSmall frame least → ⊥) }
+{
+    match end {
+        EncodeEnd::TooSmall { frame, least } => Some((frame, least)),
+        EncodeEnd::Done => None,
+        EncodeEnd::NoMemory => None,
+        EncodeEnd::ReadFault => None,
+        EncodeEnd::WriteFault => None,
+        EncodeEnd::BadPictures { .. } => None,
+        EncodeEnd::LayersFull { .. } => None,
+    }
+}
+
+/// Encodes the pictures behind the head.
+fn run_job<S: ByteSource, K: ByteSink>(
+    alloc: Global,
+    job: &Job,
+    reader: &mut AnyReader,
+    pictures: &mut S,
+    out: &mut K,
+    cert: &mut K,
+    text: &mut K,
+) -> EncodeEnd
+    requires job { IsJob job.now }
+    requires head { head_of reader.old ≡ job.now.head }
+    requires reader { IsReader reader.old }
+    requires fresh { frames_of reader.old ≡ 0 }
+    ensures ran { IsSome (S.left pictures.old) → RanSo job.now (left_by reader.old (S.left pictures.old)) result
+        (outputs K.held K.taken out.old cert.old text.old) (outputs K.held K.taken out.new cert.new text.new) }
+    ensures settled { OnTrue (is_settled result) ((K.settled out.new ≡ K.taken out.new) × (K.settled cert.new ≡ K.taken cert.new) × (K.settled text.new ≡ K.taken text.new)) }
+    ensures end { OnTrue (is_done result) (IsAtEnd (S.left pictures.new)) }
+    ensures read { CountsFault (S.faults pictures.old) (S.faults pictures.new) (is_read_fault result) }
+    ensures write { CountsFaults K.faults out.old cert.old text.old out.new cert.new text.new (is_write_fault result) }
+{
+    let mut movie = match MovieWriter::begin(alloc, out, &job.head) {
+        Ok(movie) => movie,
+        Err(_) => return EncodeEnd::WriteFault,
+    };
+    let mut proof = match ProofWriter::begin(cert, &settings_for(job), job.format) {
+        Ok(proof) => proof,
+        Err(_) => return EncodeEnd::WriteFault,
+    };
+    match encode_groups(
+        alloc, job, reader, pictures, &mut movie, &mut proof, out, cert, text,
+    ) {
+        Ok(()) => finish(alloc, job, movie, proof, out, cert, text),
+        Err(end) => match small_of(end) {
+            Some((frame, least)) => close(proof, frame, least, out, cert, text),
+            None => end,
+        },
+    }
+}
+
+/// Reads pictures, group by group, and writes a movie of their frames to `out`, a proof of the chosen indices to `cert`, and to
+/// `text` a line for each frame and a last one for their number.
+///
+/// All memory of a group is taken before its first byte is written.
+pub fn encode_run<S: ByteSource, K: ByteSink>(
+    alloc: Global,
+    words: &EncodeWords,
+    pictures: &mut S,
+    out: &mut K,
+    cert: &mut K,
+    text: &mut K,
+) -> EncodeEnd
+    requires words { AreWords words.now }
+    // Where the pictures' bytes are told, they decide the answer and all that is written. After every refusal but a fault of writing the
+    // sinks hold whole groups or nothing; after a fault of writing each has a front of what encoding gives.
+    ensures ran { Told (S.left pictures.old) (λ bytes.
+        StopsFirst result (outputs K.held K.taken out.old cert.old text.old) (outputs K.held K.taken out.new cert.new text.new)
+        ⊎ RanOn words.now (pictures_of words.now.raw bytes) result (outputs K.held K.taken out.old cert.old text.old) (outputs K.held K.taken out.new cert.new text.new)) }
+    // What was appended has the headline: each group has at most its budget's bytes; each sample stands for its picture's coefficients
+    // quantised at the chosen indices; no choice that fits has less error; the printed records are good; where no choice fits, the last
+    // record says so.
+    ensures headline { Told (S.left pictures.old) (λ bytes. HasHeadline words.now (pictures_of words.now.raw bytes) result
+        (outputs K.held K.taken out.old cert.old text.old) (outputs K.held K.taken out.new cert.new text.new)) }
+    // After Done, and after TooSmall, all that was written is settled.
+    ensures settled { OnTrue (is_settled result) ((K.settled out.new ≡ K.taken out.new) × (K.settled cert.new ≡ K.taken cert.new) × (K.settled text.new ≡ K.taken text.new)) }
+    // Done says that the input was read to its end.
+    ensures end { OnTrue (is_done result) (IsAtEnd (S.left pictures.new)) }
+    // A fault of a port is answered only where that port's count rose, and every other answer leaves the counts as they were.
+    ensures read { CountsFault (S.faults pictures.old) (S.faults pictures.new) (is_read_fault result) }
+    ensures write { CountsFaults K.faults out.old cert.old text.old out.new cert.new text.new (is_write_fault result) }
+{
+    encoded_has_headline();
+    cut_has_headline();
+    encoding_goes_on();
+    left_have_form();
+    let mut reader = match AnyReader::start(pictures, words.raw) {
+        Ok(reader) => reader,
+        Err(fault) => return end_of(fault),
+    };
+    match job_of(words, &reader.head()) {
+        Some(job) => run_job(alloc, &job, &mut reader, pictures, out, cert, text),
+        None => EncodeEnd::BadPictures {
+            kind: PictureKind::TooManySlices,
+            place: 0,
+        },
+    }
+}
