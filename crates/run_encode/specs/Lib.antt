@@ -1,0 +1,6 @@
+pub mod Groups
+pub mod Outputs
+pub mod Encoding
+pub mod Headline
+pub mod Laws
+pub mod Completing
