@@ -7,7 +7,7 @@ ghost use Rattle.pw_outside.specs.Ports.{CountsFault};
 ghost use Rattle.pw_outside.specs.Reading.{Told};
 ghost use Rattle.pic_raw.specs.Any.{pictures_of};
 ghost use Rattle.run_encode.specs.Groups.{AreWords};
-ghost use Rattle.run_encode.specs.Outputs.{outputs, CountsFaults};
+ghost use Rattle.run_encode.specs.Outputs.{outputs, CountsFaults, Extends};
 ghost use Rattle.run_encode.specs.Encoding.{is_done, is_read_fault, is_write_fault, is_settled, StopsFirst, RanOn};
 ghost use Rattle.run_encode.specs.Headline.{HasHeadline};
 
@@ -39,6 +39,8 @@ pub fn encode_run<S: ByteSource, K: ByteSink>(
     // record says so.
     ensures headline { Told (S.left pictures.old) (λ bytes. HasHeadline words.now (pictures_of words.now.raw bytes) result
         (outputs K.held K.taken out.old cert.old text.old) (outputs K.held K.taken out.new cert.new text.new)) }
+    // Whatever the answer, and whether the pictures' bytes are told or not, each sink extends what it held.
+    ensures extends { Extends (outputs K.held K.taken out.old cert.old text.old) (outputs K.held K.taken out.new cert.new text.new) }
     // After Done, and after TooSmall, all that was written is settled.
     ensures settled { OnTrue (is_settled result) ((K.settled out.new ≡ K.taken out.new) × (K.settled cert.new ≡ K.taken cert.new) × (K.settled text.new ≡ K.taken text.new)) }
     // Done says that the input was read to its end.

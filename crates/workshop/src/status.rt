@@ -1,5 +1,6 @@
 //! What a run answers.
 
+use pic_y4m::PictureKind;
 use qt_tables::MovieKind;
 use rate_table::ProofKind;
 use std::fmt;
@@ -13,10 +14,18 @@ pub enum UsageKind {
     UnknownCommand,
     /// A word begins with `--` and names no option of the command.
     UnknownOption,
+    /// An option that was given before.
+    RepeatedOption,
+    /// A value that the option doesn't have.
+    BadValue,
     /// An operand more than the command takes.
     ExtraOperand,
     /// Fewer operands than the command takes. The word number is the number of words.
     MissingOperand,
+    /// An option is wanting that the command needs. The word number is the number of words.
+    MissingOption,
+    /// Values that don't go together. The word number is the number of words.
+    Conflict,
 }
 
 /// How a run ended.
@@ -32,7 +41,11 @@ pub enum Status {
     ReadFault,
     /// A port that the command writes failed.
     WriteFault,
-    /// The layers of this frame's table number more than 2^25 pairs; the table of `plan` is frame 0.
+    /// The pictures have this first fault, at this byte.
+    BadPictures { kind: PictureKind, place: u64 },
+    /// No choice fits for the group that begins at this frame, and the least number of bytes that any has.
+    TooSmall { frame: u32, least: u64 },
+    /// The layers of the table of the group that begins at this frame number more than 2^25 pairs; the table of `plan` is frame 0.
     LayersFull { frame: u32 },
     /// The movie has this first fault, at this byte.
     BadMovie { kind: MovieKind, place: u64 },
@@ -54,6 +67,8 @@ impl Status {
             Status::NoMemory => 2,
             Status::ReadFault => 3,
             Status::WriteFault => 4,
+            Status::BadPictures { .. } => 5,
+            Status::TooSmall { .. } => 6,
             Status::LayersFull { .. } => 7,
             Status::BadMovie { .. } => 8,
             Status::BadProof { .. } => 10,
@@ -70,6 +85,8 @@ impl fmt::Display for Status {
             Status::NoMemory => write!(f, "no memory"),
             Status::ReadFault => write!(f, "read fault"),
             Status::WriteFault => write!(f, "write fault"),
+            Status::BadPictures { kind, place } => write!(f, "pictures: {kind:?} at {place}"),
+            Status::TooSmall { frame, least } => write!(f, "frame {frame}: no choice fits, least is {least}"),
             Status::LayersFull { frame } => write!(f, "frame {frame}: too many pairs"),
             Status::BadMovie { kind, place } => write!(f, "movie: {kind:?} at {place}"),
             Status::BadProof { kind, place } => write!(f, "proof: {kind:?} at {place}"),
