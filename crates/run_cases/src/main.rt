@@ -7,6 +7,7 @@
 //!   that has it, if the front before has another.
 //! - `failing COMMAND FILE`: how many of the first 100 calls of the port that is read, and of `text`, are told when they fail.
 //! - `words WORD ..`: the files' names among these words, the exit status over empty files, and its line.
+//! - `line WORD ..`: the fault of these words, or a lone dash where they are in the grammar.
 //! - `places MOVIE`: where the samples of the movie lie.
 //! - `write DEN ALPHA SIZE ..`: a movie of frames of zeros of these sizes, in hexadecimal.
 //! - `written DEN ALPHA SIZE ..`: what `list` answers over that movie.
@@ -24,6 +25,7 @@ fn answer(rt: &HostRuntime, line: &str) -> io::Result<String> {
     let (form, rest) = line.split_once(' ').unwrap_or((line, ""));
     match form {
         "words" => runs::words_told(rt, rest),
+        "line" => runs::line_told(rt, rest),
         "fronts" => runs::fronts_told(rt, rest),
         "failing" => runs::failing_told(rt, rest),
         "plan" | "list" => runs::told(rt, line),

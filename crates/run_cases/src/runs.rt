@@ -190,12 +190,18 @@ pub(crate) fn failing_told(rt: &HostRuntime, case: &str) -> io::Result<String> {
     Ok(format!(in rt.alloc(); "{reads} reads, {writes} writes, {answer}")?)
 }
 
+/// The words of a case, with a space between them.
+fn words_of(rt: &HostRuntime, case: &str) -> io::Result<Vec<String>> {
+    let mut words = Vec::new(rt.alloc());
+    for word in case.split_whitespace() {
+        words.push(word.to_string(rt.alloc())?)?;
+    }
+    Ok(words)
+}
+
 pub(crate) fn words_told(rt: &HostRuntime, case: &str) -> io::Result<String> {
     let alloc = rt.alloc();
-    let mut words = Vec::new(alloc);
-    for word in case.split_whitespace() {
-        words.push(word.to_string(alloc)?)?;
-    }
+    let words = words_of(rt, case)?;
     let ports = Ports {
         step: 1,
         reading: None,
@@ -206,4 +212,19 @@ pub(crate) fn words_told(rt: &HostRuntime, case: &str) -> io::Result<String> {
     let code = status.code();
     let length = text.len();
     Ok(format!(in alloc; "{names:?}, {code}, {status}, {length} bytes")?)
+}
+
+pub(crate) fn line_told(rt: &HostRuntime, case: &str) -> io::Result<String> {
+    let words = words_of(rt, case)?;
+    let ports = Ports {
+        step: 1,
+        reading: None,
+        writing: None,
+    };
+    match ran(rt, &words, &[], &ports)? {
+        (Status::Usage { kind, word }, _) => {
+            Ok(format!(in rt.alloc(); "usage: {kind:?} at word {word}")?)
+        }
+        _ => Ok("-".to_string(rt.alloc())?),
+    }
 }
