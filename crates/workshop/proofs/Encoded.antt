@@ -1,5 +1,5 @@
--- Where no port failed, and each group has a fitting choice, a run is done.
-use Rattle.std.proofs.Common.{◌≡◌, refl, ℕ, ◌<◌, ◌⊎◌, inl, inr, Bool, true, false, None, Result, Ok, Err, sym, subst, ◌∙◌, ap}
+-- Where no port failed, and each group has a fitting choice, a run of `encode` is done.
+use Rattle.std.proofs.Common.{◌≡◌, refl, ℕ, List, ◌<◌, ◌⊎◌, inl, inr, Bool, true, false, None, Result, Ok, Err, sym, subst, ◌∙◌, ap}
 use Rattle.std.specs.Bool.{OnTrue, OnFalse}
 use Rattle.pw_outside.specs.Ports.{Rose}
 use Rattle.pw_outside.specs.Reading.{Fault}
@@ -17,6 +17,10 @@ use Rattle.run_encode.specs.Completing.{EachFits}
 use Rattle.workshop.specs.declared.status.Status.{Status}
 use Rattle.workshop.specs.declared.status.Status.TheVariants as s
 use Rattle.workshop.specs.Encoding.{status_of, CompletesEncode}
+use Rattle.workshop.specs.declared.words.Task.{Task}
+use Rattle.workshop.specs.declared.words.Task.TheVariants as task
+use Rattle.workshop.specs.Words.{Said, IsEncode, uses_in, uses_of, command_of}
+use Rattle.workshop.specs.Faults.{Faults, NoPortFailed}
 
 on-true : {P : Type 0} (b : Bool) → b ≡ true → OnTrue b P → P
 on-true true e p = p
@@ -52,3 +56,24 @@ complete w (Ok (head, ps)) end a b (inr r) nr nw = λ some e fits.
 -- where no count rose, no port failed
 pub no-fault : (P : Type 0) (b : Bool) → OnTrue b P → (P → ⊥) → b ≡ true → ⊥
 no-fault P b o n e = n (on-true b e o)
+
+none-of : {A B C : Type 0} → (A → ⊥) → (B → ⊥) → (C → ⊥) → A ⊎ B ⊎ C → ⊥
+none-of a b c (inl x) = a x
+none-of a b c (inr (inl x)) = b x
+none-of a b c (inr (inr x)) = c x
+
+-- where no port that `encode` uses failed, no count of one rose
+pub quiet : (x : Said) (t : Task × List ℕ) (v : EncodeWords) (before now : Faults) → x ≡ Ok t → t.0 ≡ task.Encode v → NoPortFailed (uses_in x) before now
+    → (Rose before.pictures now.pictures → ⊥) × (Rose before.out now.out ⊎ Rose before.cert now.cert ⊎ Rose before.text now.text → ⊥)
+quiet x t v before now e f none =
+    let n = subst (λ u. NoPortFailed u before now) (ap uses_in e ∙ ap (λ k. uses_of (command_of k)) f) none in
+    (λ r. n.pictures (refl, r), none-of (λ r. n.out (refl, r)) (λ r. n.cert (refl, r)) (λ r. n.text (refl, r)))
+
+abbrev words-in : EncodeWords → Task → EncodeWords
+words-in other task.Plan = other
+words-in other (task.Encode w) = w
+words-in other task.List = other
+
+-- the words are a run of `encode` with one list of values alone
+pub same-words : (x : Said) (t : Task × List ℕ) (v w : EncodeWords) → x ≡ Ok t → t.0 ≡ task.Encode v → IsEncode w x → v ≡ w
+same-words x t v w e f is = ap (words-in v) (sym f ∙ subst (IsEncode w) e is)

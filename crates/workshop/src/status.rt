@@ -86,7 +86,10 @@ impl fmt::Display for Status {
             Status::ReadFault => write!(f, "read fault"),
             Status::WriteFault => write!(f, "write fault"),
             Status::BadPictures { kind, place } => write!(f, "pictures: {kind:?} at {place}"),
-            Status::TooSmall { frame, least } => write!(f, "frame {frame}: no choice fits, least is {least}"),
+            Status::TooSmall { frame, least } => write!(
+                f,
+                "frame {frame}: no choice fits, least is {least}"
+            ),
             Status::LayersFull { frame } => write!(f, "frame {frame}: too many pairs"),
             Status::BadMovie { kind, place } => write!(f, "movie: {kind:?} at {place}"),
             Status::BadProof { kind, place } => write!(f, "proof: {kind:?} at {place}"),
