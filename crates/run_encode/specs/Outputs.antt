@@ -1,5 +1,5 @@
 -- What a run does to the three sinks that it writes. (The words of one sink stand in `pw_outside`.)
-use Rattle.std.specs.Prelude.{◌≡◌, ℕ, ◌⊎◌, List, [], ◌++◌, Option, Bool}
+use Rattle.std.specs.Prelude.{◌≡◌, ℕ, ◌≤◌, ◌⊎◌, List, [], ◌++◌, Option, Bool}
 use Rattle.std.specs.Bool.{OnTrue, OnFalse}
 use Rattle.pw_outside.specs.Ports.{Rose}
 use Rattle.pw_outside.specs.Writing.{SinkState, Puts, PutsFront}
@@ -42,8 +42,15 @@ pub record PutsFronts (before after : Outputs) (lists : Lists) : Type 0 where
   pub proof : PutsFront before.proof after.proof lists.proof
   pub text : PutsFront before.text after.text lists.text
 
+-- Whatever was written stands behind what each sink held.
+abbrev pub Extends : Outputs → Outputs → Type 0
+Extends before after = (lists : Lists) × PutsAll before after lists
+
 -- Counts of faults of the three sinks. None falls; one rose where a call failed, and else all are as they were.
 pub record CountsFaults {X : Type 0} (faults : X → ℕ) (out cert text out' cert' text' : X) (failed : Bool) : Type 0 where
+  pub out_later : faults out ≤ faults out'
+  pub cert_later : faults cert ≤ faults cert'
+  pub text_later : faults text ≤ faults text'
   pub rose : OnTrue failed (Rose (faults out) (faults out') ⊎ Rose (faults cert) (faults cert') ⊎ Rose (faults text) (faults text'))
   pub out_kept : OnFalse failed (faults out' ≡ faults out)
   pub cert_kept : OnFalse failed (faults cert' ≡ faults cert)

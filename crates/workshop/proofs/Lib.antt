@@ -1,1 +1,3 @@
 pub mod PlanTexts
+pub mod Tasks
+pub mod Encoded

@@ -12,6 +12,7 @@ code_of s.NoMemory = 2
 code_of s.ReadFault = 3
 code_of s.WriteFault = 4
 code_of (s.BadPictures _ _) = 5
+code_of (s.TooSmall _ _) = 6
 code_of (s.LayersFull _) = 7
 code_of (s.BadMovie _ _) = 8
 code_of (s.BadFrame _ _ _) = 9
@@ -30,7 +31,13 @@ abbrev pub is_write_fault : Status → Bool
 is_write_fault s.WriteFault = true
 is_write_fault _ = false
 
--- the answers behind which something may have been written
+-- the answers behind which all that was written is settled
+abbrev pub is_settled : Status → Bool
+is_settled s.Done = true
+is_settled (s.TooSmall _ _) = true
+is_settled _ = false
+
+-- the answers of `plan` behind which something may have been written
 abbrev pub has_written : Status → Bool
 has_written s.Done = true
 has_written s.WriteFault = true

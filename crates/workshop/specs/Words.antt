@@ -1,41 +1,63 @@
 -- The grammar of the command line: a table of commands, and the walk over the words. Our own definition.
-use Rattle.std.specs.Prelude.{◌≡◌, ℕ, ◌+◌, ◌==◌, nat_eq, nat_lt, Bool, true, false, List, [], ◌∷◌, ◌++◌, length, find, slice_get, Option, None, Some, Result, Ok, Err, codes, String, string_bytes, map, if◌then◌else◌}
+use Rattle.std.specs.Prelude.{◌≡◌, ℕ, ◌+◌, ◌*◌, ◌<◌, ◌≤◌, ◌^◌, ◌%◌, ◌==◌, nat_eq, nat_lt, Bool, true, false, not, ◌&&◌, ◌||◌, is_some, is_none, List, [], ◌∷◌, ◌++◌, length, drop, find, slice_get, position, bytes_eq, Option, None, Some, unwrap_or, option_map, Result, Ok, Err, codes, String, string_bytes, map, IfSome, IfOk, if◌then◌else◌}
 use Rattle.std.specs.List.{starts_with, list_any}
-use Rattle.std.specs.Str.{bytes_eq}
+use Rattle.pw_planes.specs.declared.kinds.Interlace.{Interlace}
+use Rattle.pw_planes.specs.declared.kinds.Interlace.TheVariants.{Progressive}
+use Rattle.pic_y4m.specs.declared.head.Head.{Head}
+use Rattle.pic_y4m.specs.HeadLine.{is_interlaced}
+use Rattle.pr_quant.specs.declared.weights.Matrix.TheVariants.{Flat}
+use Rattle.run_encode.specs.declared.job.EncodeWords.{EncodeWords}
+use Rattle.run_encode.specs.Groups.{AreWords}
 use Rattle.workshop.specs.declared.words.Command.{Command}
 use Rattle.workshop.specs.declared.words.Command.TheVariants as command
+use Rattle.workshop.specs.declared.words.Task.{Task}
+use Rattle.workshop.specs.declared.words.Task.TheVariants as task
 use Rattle.workshop.specs.declared.words.Names.{Names}
 use Rattle.workshop.specs.declared.words.BadWords.{BadWords}
 use Rattle.workshop.specs.declared.words.Settings.{Settings}
+use Rattle.workshop.specs.declared.options.OptionName.{OptionName}
+use Rattle.workshop.specs.declared.options.OptionName.TheVariants as option
+use Rattle.workshop.specs.declared.options.Values.{Values}
+use Rattle.workshop.specs.Options.{name_of_option, cut, is_given, with_value, no_values}
 use Rattle.workshop.specs.declared.status.UsageKind.{UsageKind}
-use Rattle.workshop.specs.declared.status.UsageKind.TheVariants.{NoCommand, UnknownCommand, UnknownOption, ExtraOperand, MissingOperand}
+use Rattle.workshop.specs.declared.status.UsageKind.TheVariants.{NoCommand, UnknownCommand, UnknownOption, RepeatedOption, BadValue, ExtraOperand, MissingOperand, MissingOption, Conflict}
 
 -- ---- the table of commands
 
 abbrev pub commands : List Command
-commands = command.Plan ∷ command.List ∷ []
+commands = command.Plan ∷ command.Encode ∷ command.List ∷ []
 
 -- the word of each command
 abbrev pub name_of : Command → List ℕ
 name_of command.Plan = codes "plan"
+name_of command.Encode = codes "encode"
 name_of command.List = codes "list"
 
 -- how many operands each command may have, rising
 abbrev pub operands_of : Command → List ℕ
 operands_of command.Plan = 1 ∷ []
+operands_of command.Encode = 3 ∷ []
 operands_of command.List = 1 ∷ []
 
--- the names of each command's options
-abbrev pub options_of : Command → List (List ℕ)
+-- the options of each command
+abbrev pub options_of : Command → List OptionName
 options_of command.Plan = []
+options_of command.Encode = option.Budget ∷ option.Lo ∷ option.Hi ∷ option.Log ∷ option.Matrix ∷ option.Raw ∷ option.Interlace ∷ option.Group ∷ option.Proof ∷ []
 options_of command.List = []
+
+-- an option is wanting that the command needs
+abbrev pub lacks_option : Command → Values → Bool
+lacks_option command.Plan v = false
+lacks_option command.Encode v = is_none v.budget
+lacks_option command.List v = false
 
 abbrev pub no_names : Names
 no_names = record { pictures = None; proof = None; movie = None; out = None; cert = None }
 
--- The ports that the operands name, by the numbers of their words: `plan TABLE`, `list MOVIE`.
+-- The ports that the operands name, by the numbers of their words: `plan TABLE`, `encode PICTURES MOVIE PROOF`, `list MOVIE`.
 abbrev pub ports_of : Command → List ℕ → Names
 ports_of command.Plan operands = record no_names { proof = slice_get operands 0 }
+ports_of command.Encode operands = record no_names { pictures = slice_get operands 0; out = slice_get operands 1; cert = slice_get operands 2 }
 ports_of command.List operands = record no_names { movie = slice_get operands 0 }
 
 -- which ports a command uses: it reads `pictures`, `proof` and `movie`, and writes `out`, `cert` and `text`
@@ -52,7 +74,53 @@ no_ports = record { pictures = false; proof = false; movie = false; out = false;
 
 abbrev pub uses_of : Command → Ports
 uses_of command.Plan = record no_ports { proof = true; text = true }
+uses_of command.Encode = record no_ports { pictures = true; out = true; cert = true; text = true }
 uses_of command.List = record no_ports { movie = true; text = true }
+
+-- ---- the values of options, and what stands for one that is absent
+
+abbrev pub with_mode : Interlace → Head → Head
+with_mode mode h = record h { interlace = mode }
+
+-- the form of raw planar pictures, with how their frames are made of pictures
+abbrev pub raw_in : Values → Option Head
+raw_in v = option_map (with_mode (unwrap_or v.interlace Progressive)) v.raw
+
+abbrev pub encode_words : Values → EncodeWords
+encode_words v = record {
+  budget = unwrap_or v.budget 0;
+  lo = unwrap_or v.lo 1;
+  hi = unwrap_or v.hi 31;
+  log2 = unwrap_or v.log2 3;
+  matrix = unwrap_or v.matrix Flat;
+  raw = raw_in v;
+  group = unwrap_or v.group 1;
+  proof = unwrap_or v.proof 2;
+}
+
+-- interlaced frames of an odd number of rows
+abbrev pub is_odd_form : Head → Bool
+is_odd_form h = is_interlaced h.interlace && (h.height % 2 == 1)
+
+abbrev pub has_odd_form : Option Head → Bool
+has_odd_form None = false
+has_odd_form (Some h) = is_odd_form h
+
+-- The values don't go together: the least index is above the greatest; pictures of Y4M, which tell by themselves how they are
+-- interlaced; interlaced frames of an odd number of rows; a group with a budget of 2^31 bytes or more.
+abbrev pub clash : Command → Values → Bool
+clash command.Plan v = false
+clash command.Encode v = nat_lt (encode_words v).hi (encode_words v).lo
+    || (is_some v.interlace && is_none v.raw)
+    || has_odd_form (encode_words v).raw
+    || not (nat_lt ((encode_words v).group * (encode_words v).budget) (2 ^ 31))
+clash command.List v = false
+
+-- what a command is to do
+abbrev pub task_of : Command → Values → Task
+task_of command.Plan v = task.Plan
+task_of command.Encode v = task.Encode (encode_words v)
+task_of command.List v = task.List
 
 -- ---- the walk over the words
 
@@ -63,9 +131,9 @@ command_named word = find (λ c. bytes_eq word (name_of c)) commands
 abbrev pub is_option : List ℕ → Bool
 is_option word = starts_with nat_eq word (codes "--")
 
--- the word is `--NAME=VALUE` by the name of an option of the command
-abbrev pub is_option_of : Command → List ℕ → Bool
-is_option_of c word = list_any (λ name. starts_with nat_eq word (codes "--" ++ name ++ codes "=")) (options_of c)
+-- the option of the command that has this name
+abbrev pub option_named : Command → List ℕ → Option OptionName
+option_named c name = find (λ o. bytes_eq name (name_of_option o)) (options_of c)
 
 abbrev pub last_of : List ℕ → ℕ
 last_of [] = 0
@@ -80,25 +148,55 @@ most_operands c = last_of (operands_of c)
 abbrev pub takes : Command → ℕ → Bool
 takes c count = list_any (λ n. n == count) (operands_of c)
 
--- The numbers of the words that are operands, where `at` is the number of the first word that is left and the
--- words before it have these operands; or the first fault with its word.
-abbrev pub walk : Command → List (List ℕ) → ℕ → List ℕ → Result (List ℕ) (UsageKind × ℕ)
-walk c [] at operands = if takes c (length operands) then Ok operands else Err (MissingOperand, at)
-walk c (word ∷ words) at operands =
-    if is_option word then (if is_option_of c word then walk c words (at + 1) operands else Err (UnknownOption, at))
-    else (if nat_lt (length operands) (most_operands c) then walk c words (at + 1) (operands ++ at ∷ []) else Err (ExtraOperand, at))
+-- a kind of fault, and the number of the word that has it
+abbrev pub UsageFault : Type 0
+UsageFault = UsageKind × ℕ
 
--- what the words say: the command and its operands by their word numbers; or the first fault with its word
+abbrev pub unless_bad : ℕ → Option Values → Result Values UsageFault
+unless_bad at None = Err (BadValue, at)
+unless_bad at (Some v) = Ok v
+
+-- the values with that of this option, which may stand once
+abbrev pub with_option_value : OptionName → List ℕ → ℕ → Values → Result Values UsageFault
+with_option_value o value at v = if is_given o v then Err (RepeatedOption, at) else unless_bad at (with_value o value v)
+
+abbrev pub with_named : Option OptionName → List ℕ → ℕ → Values → Result Values UsageFault
+with_named None value at v = Err (UnknownOption, at)
+with_named (Some o) value at v = with_option_value o value at v
+
+abbrev pub with_parts : Command → Option (List ℕ × List ℕ) → ℕ → Values → Result Values UsageFault
+with_parts c None at v = Err (UnknownOption, at)
+with_parts c (Some parts) at v = with_named (option_named c parts.0) parts.1 at v
+
+-- The values with that of the option `--NAME=VALUE`, the word of this number.
+unfoldable pub with_option : Command → List ℕ → ℕ → Values → Result Values UsageFault
+with_option c word at v = with_parts c (cut 61 (drop 2 word)) at v
+
+-- What the words say, where the last of them has been read.
+unfoldable pub ended : Command → ℕ → List ℕ → Values → Result (Task × List ℕ) UsageFault
+ended c at operands v = if not (takes c (length operands)) then Err (MissingOperand, at)
+    else (if lacks_option c v then Err (MissingOption, at)
+    else (if clash c v then Err (Conflict, at) else Ok (task_of c v, operands)))
+
+abbrev pub and_then : {A B : Type 0} → Result A UsageFault → (A → Result B UsageFault) → Result B UsageFault
+and_then (Ok x) next = next x
+and_then (Err fault) next = Err fault
+
+-- What the words say, where `at` is the number of the first word that is left, and the words before it have these operands and
+-- values; or the first fault with its word.
+abbrev pub walk : Command → List (List ℕ) → ℕ → List ℕ → Values → Result (Task × List ℕ) UsageFault
+walk c [] at operands v = ended c at operands v
+walk c (word ∷ words) at operands v =
+    if is_option word then and_then (with_option c word at v) (λ more. walk c words (at + 1) operands more)
+    else (if nat_lt (length operands) (most_operands c) then walk c words (at + 1) (operands ++ at ∷ []) v else Err (ExtraOperand, at))
+
+-- what the words say: what is to be done, and the operands by their word numbers; or the first fault with its word
 abbrev pub Said : Type 0
-Said = Result (Command × List ℕ) (UsageKind × ℕ)
-
-abbrev pub with_command : Command → Result (List ℕ) (UsageKind × ℕ) → Said
-with_command c (Ok operands) = Ok (c, operands)
-with_command c (Err fault) = Err fault
+Said = Result (Task × List ℕ) UsageFault
 
 abbrev pub settings_for : Option Command → List (List ℕ) → Said
 settings_for None words = Err (UnknownCommand, 0)
-settings_for (Some c) words = with_command c (walk c words 1 [])
+settings_for (Some c) words = walk c words 1 [] no_values
 
 abbrev pub settings : List (List ℕ) → Said
 settings [] = Err (NoCommand, 0)
@@ -109,18 +207,26 @@ abbrev pub said : {Z : Type 0} → List (String Z) → Said
 said words = settings (map string_bytes words)
 
 -- the fault of the words, where they have one
-abbrev pub usage_fault : Said → Option (UsageKind × ℕ)
+abbrev pub usage_fault : Said → Option UsageFault
 usage_fault (Ok s) = None
 usage_fault (Err fault) = Some fault
 
--- The words are a run of this command.
-abbrev pub IsRun : Command → Said → Type 0
-IsRun c (Ok s) = s.0 ≡ c
-IsRun c (Err fault) = ⊥
+-- This is what is to be done.
+abbrev pub IsRun : Task → Said → Type 0
+IsRun t (Ok s) = s.0 ≡ t
+IsRun t (Err fault) = ⊥
+
+abbrev pub IsEncode : EncodeWords → Said → Type 0
+IsEncode w s = IsRun (task.Encode w) s
+
+abbrev pub command_of : Task → Command
+command_of task.Plan = command.Plan
+command_of (task.Encode w) = command.Encode
+command_of task.List = command.List
 
 -- the ports that the run uses: none where the words have a fault
 abbrev pub uses_in : Said → Ports
-uses_in (Ok s) = uses_of s.0
+uses_in (Ok s) = uses_of (command_of s.0)
 uses_in (Err fault) = no_ports
 
 abbrev pub reads_pictures : Said → Bool
@@ -143,16 +249,21 @@ writes_text s = (uses_in s).text
 
 -- the words that name each port's file; none where the words have a fault
 abbrev pub names_in : Said → Names
-names_in (Ok s) = ports_of s.0 s.1
+names_in (Ok s) = ports_of (command_of s.0) s.1
 names_in (Err fault) = no_names
 
 -- ---- what the parts of the walk answer
 
 -- The answer is what the walk gives.
-abbrev pub IsWalk : {X : Type 0} → (X → List ℕ) → Result X BadWords → Result (List ℕ) (UsageKind × ℕ) → Type 0
+abbrev pub IsWalk : {X Y : Type 0} → (X → Y) → Result X BadWords → Result Y UsageFault → Type 0
 IsWalk view (Ok x) walked = walked ≡ Ok (view x)
 IsWalk view (Err e) walked = walked ≡ Err (e.kind, e.word)
 
-abbrev pub IsSettings : Result Settings BadWords → Said → Type 0
-IsSettings (Ok s) walked = walked ≡ Ok (s.command, s.operands.items)
-IsSettings (Err e) walked = walked ≡ Err (e.kind, e.word)
+abbrev pub settled : Settings → Task × List ℕ
+settled s = (s.task, s.operands.items)
+
+-- The values are those that the command line allows.
+abbrev pub IsTask : Task → Type 0
+IsTask task.Plan = Unit {0}
+IsTask (task.Encode w) = AreWords w
+IsTask task.List = Unit {0}

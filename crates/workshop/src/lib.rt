@@ -1,10 +1,13 @@
 //! The program `workshop`.
 #![tactic(auto)]
 
+mod encode;
 mod listing;
+mod options;
 mod plan;
 mod ports;
 mod process;
+mod raw_form;
 mod status;
 #[cfg(test)]
 mod tests;
@@ -15,4 +18,4 @@ pub use ports::{InputPort, OutputPort, StorePort, Target};
 pub use process::program;
 pub use status::{Status, UsageKind};
 pub use top::workshop;
-pub use words::{Command, Names, names_of};
+pub use words::{Command, Names, Task, names_of};

@@ -7,7 +7,7 @@ ghost use Rattle.pw_outside.specs.Reading.{Told};
 ghost use Rattle.pw_outside.specs.Writing.{sink_state};
 ghost use Rattle.qt_movie.specs.Movie.{movie_in};
 ghost use Rattle.run_look.specs.Listing.{PrintsList, PrintsListFront, Extends};
-ghost use Rattle.workshop.specs.Status.{is_done, is_read_fault, is_write_fault, usage_of};
+ghost use Rattle.workshop.specs.Status.{is_done, is_read_fault, is_settled, is_write_fault, usage_of};
 ghost use Rattle.workshop.specs.Listing.{status_of, AnswersList};
 
 use crate::status::Status;
@@ -49,7 +49,7 @@ pub(crate) fn list<M: ByteStore, K: ByteSink>(alloc: Global, movie: &mut M, text
     ensures part { Told (M.bytes movie.old) (λ file.
         PrintsListFront (movie_in file) (sink_state (K.held text.old) (K.taken text.old)) (sink_state (K.held text.new) (K.taken text.new))) }
     ensures extends { Extends (sink_state (K.held text.old) (K.taken text.old)) (sink_state (K.held text.new) (K.taken text.new)) }
-    ensures settled { OnTrue (is_done result) (K.settled text.new ≡ K.taken text.new) }
+    ensures settled { OnTrue (is_settled result) (K.settled text.new ≡ K.taken text.new) }
     ensures bytes { M.bytes movie.new ≡ M.bytes movie.old }
     ensures read { CountsFault (M.faults movie.old) (M.faults movie.new) (is_read_fault result) }
     ensures write { CountsFault (K.faults text.old) (K.faults text.new) (is_write_fault result) }

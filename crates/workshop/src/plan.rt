@@ -6,7 +6,7 @@ ghost use Rattle.std.specs.Io.KnownBytes.{IsAtEnd};
 ghost use Rattle.pw_outside.specs.Ports.{CountsFault};
 ghost use Rattle.pw_outside.specs.Reading.{Told};
 ghost use Rattle.rate_table.specs.Reading.{tabled};
-ghost use Rattle.workshop.specs.Status.{is_done, is_read_fault, is_write_fault, has_written, usage_of};
+ghost use Rattle.workshop.specs.Status.{is_done, is_read_fault, is_settled, is_write_fault, has_written, usage_of};
 ghost use Rattle.workshop.specs.Plan.{spaced, outcome_text, AnswersPlan, PrintsPlan, PrintsPart};
 ghost use Rattle.pw_outside.specs.Writing.{sink_state, Puts, PutsFront};
 ghost use Rattle.run_look.specs.Listing.{Extends};
@@ -64,7 +64,7 @@ fn print<K: ByteSink>(sink: &mut K, lines: &[u8]) -> Status
     ensures kinds { (result ≡ Status.Done) ⊎ (result ≡ Status.WriteFault) }
     ensures text { OnTrue (is_done result) (Puts (sink_state (K.held sink.old) (K.taken sink.old)) (sink_state (K.held sink.new) (K.taken sink.new)) lines.now) }
     ensures part { PutsFront (sink_state (K.held sink.old) (K.taken sink.old)) (sink_state (K.held sink.new) (K.taken sink.new)) lines.now }
-    ensures settled { OnTrue (is_done result) (K.settled sink.new ≡ K.taken sink.new) }
+    ensures settled { OnTrue (is_settled result) (K.settled sink.new ≡ K.taken sink.new) }
     ensures cause { CountsFault (K.faults sink.old) (K.faults sink.new) (is_write_fault result) }
 {
     match put(sink, lines) {
@@ -88,7 +88,7 @@ pub(crate) fn plan<S: ByteSource, K: ByteSink>(alloc: Global, proof: &mut S, tex
     ensures unwritten { OnFalse (has_written result) (text.new ≡ text.old) }
     ensures extends { Extends (sink_state (K.held text.old) (K.taken text.old)) (sink_state (K.held text.new) (K.taken text.new)) }
     ensures end { OnTrue (is_done result) (IsAtEnd (S.left proof.new)) }
-    ensures settled { OnTrue (is_done result) (K.settled text.new ≡ K.taken text.new) }
+    ensures settled { OnTrue (is_settled result) (K.settled text.new ≡ K.taken text.new) }
     ensures read { CountsFault (S.faults proof.old) (S.faults proof.new) (is_read_fault result) }
     ensures write { CountsFault (K.faults text.old) (K.faults text.new) (is_write_fault result) }
 {

@@ -42,10 +42,18 @@ fn file_of(word: Option<usize>, words: &[String]) -> io::Result<Target> {
     }
 }
 
+/// What gives the pictures: the file that the word of this number names, or standard input where the word is a lone dash.
+fn pictures_of(word: Option<usize>, words: &[String]) -> io::Result<Target> {
+    match word.and_then(|number| words.get(number)) {
+        Some(name) if name.as_str() == "-" => Ok(Target::Standard),
+        _ => file_of(word, words),
+    }
+}
+
 fn run(rt: &HostRuntime) -> io::Result<Status> {
     let words = words_of(rt)?;
     let names = names_of(&words);
-    let mut pictures = InputPort::new(rt.clone()?, file_of(names.pictures, &words)?);
+    let mut pictures = InputPort::new(rt.clone()?, pictures_of(names.pictures, &words)?);
     let mut proof = InputPort::new(rt.clone()?, file_of(names.proof, &words)?);
     let mut movie = StorePort::new(rt.clone()?, file_of(names.movie, &words)?);
     let mut out = OutputPort::new(rt.clone()?, file_of(names.out, &words)?);

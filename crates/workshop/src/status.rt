@@ -15,10 +15,18 @@ pub enum UsageKind {
     UnknownCommand,
     /// A word begins with `--` and names no option of the command.
     UnknownOption,
+    /// An option that was given before.
+    RepeatedOption,
+    /// A value that the option doesn't have.
+    BadValue,
     /// An operand more than the command takes.
     ExtraOperand,
     /// Fewer operands than the command takes. The word number is the number of words.
     MissingOperand,
+    /// An option is wanting that the command needs. The word number is the number of words.
+    MissingOption,
+    /// Values that don't go together. The word number is the number of words.
+    Conflict,
 }
 
 /// How a run ended.
@@ -36,7 +44,9 @@ pub enum Status {
     WriteFault,
     /// The pictures have this first fault, at this byte.
     BadPictures { kind: PictureKind, place: u64 },
-    /// The layers of this frame's table number more than 2^25 pairs; the table of `plan` is frame 0.
+    /// No choice fits for the group that begins at this frame, and the least number of bytes that any has.
+    TooSmall { frame: u32, least: u64 },
+    /// The layers of the table of the group that begins at this frame number more than 2^25 pairs; the table of `plan` is frame 0.
     LayersFull { frame: u32 },
     /// The movie has this first fault, at this byte.
     BadMovie { kind: MovieKind, place: u64 },
@@ -67,6 +77,7 @@ impl Status {
             Status::ReadFault => 3,
             Status::WriteFault => 4,
             Status::BadPictures { .. } => 5,
+            Status::TooSmall { .. } => 6,
             Status::LayersFull { .. } => 7,
             Status::BadMovie { .. } => 8,
             Status::BadFrame { .. } => 9,
@@ -86,6 +97,10 @@ impl fmt::Display for Status {
             Status::ReadFault => write!(f, "read fault"),
             Status::WriteFault => write!(f, "write fault"),
             Status::BadPictures { kind, place } => write!(f, "pictures: {kind:?} at {place}"),
+            Status::TooSmall { frame, least } => write!(
+                f,
+                "frame {frame}: no choice fits, least is {least}"
+            ),
             Status::LayersFull { frame } => write!(f, "frame {frame}: too many pairs"),
             Status::BadMovie { kind, place } => write!(f, "movie: {kind:?} at {place}"),
             Status::BadFrame {

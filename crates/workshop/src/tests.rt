@@ -1,6 +1,7 @@
 //! The line and the number of each status. Whole runs are cases of `run_cases`.
 
 use crate::{Status, UsageKind};
+use pic_y4m::PictureKind;
 use qt_tables::MovieKind;
 use rate_table::ProofKind;
 use std::test::Fail;
@@ -11,7 +12,7 @@ fn each_status_has_its_line_and_its_number(rt: HostRuntime) -> Result<(), Fail> 
         kind: UsageKind::ExtraOperand,
         word: 2,
     };
-    let cases: [(Status, &str, u8); 8] = [
+    let cases: [(Status, &str, u8); 10] = [
         (Status::Done, "", 0),
         (usage, "usage: ExtraOperand at word 2", 1),
         (Status::NoMemory, "no memory", 2),
@@ -24,6 +25,22 @@ fn each_status_has_its_line_and_its_number(rt: HostRuntime) -> Result<(), Fail> 
             },
             "proof: TableShort at 55",
             10,
+        ),
+        (
+            Status::BadPictures {
+                kind: PictureKind::Truncated,
+                place: 1064,
+            },
+            "pictures: Truncated at 1064",
+            5,
+        ),
+        (
+            Status::TooSmall {
+                frame: 0,
+                least: 178,
+            },
+            "frame 0: no choice fits, least is 178",
+            6,
         ),
         (
             Status::LayersFull { frame: 0 },

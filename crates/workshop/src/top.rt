@@ -5,20 +5,25 @@ ghost use Rattle.std.specs.Bool.{OnTrue, OnFalse};
 ghost use Rattle.std.specs.Io.KnownBytes.{IsAtEnd};
 ghost use Rattle.pw_outside.specs.Reading.{Told};
 ghost use Rattle.rate_table.specs.Reading.{tabled};
-ghost use Rattle.workshop.specs.Status.{is_done, is_read_fault, is_write_fault, has_written, usage_of};
-ghost use Rattle.workshop.specs.declared.words.Command.TheVariants as command;
-ghost use Rattle.workshop.specs.Words.{said, usage_fault, IsRun, uses_in, reads_pictures, reads_proof, reads_movie, writes_out, writes_cert, writes_text};
+ghost use Rattle.workshop.specs.Status.{is_done, is_read_fault, is_settled, is_write_fault, has_written, usage_of};
+ghost use Rattle.workshop.specs.declared.words.Task.TheVariants as task;
+ghost use Rattle.workshop.specs.Words.{said, usage_fault, IsRun, IsEncode, uses_in, reads_pictures, reads_proof, reads_movie, writes_out, writes_cert, writes_text};
 ghost use Rattle.workshop.specs.Faults.{faults, CountsReads, CountsWrites, NoPortFailed, Settles};
 ghost use Rattle.pw_outside.specs.Writing.{sink_state};
 ghost use Rattle.qt_movie.specs.Movie.{movie_in};
 ghost use Rattle.run_look.specs.Listing.{PrintsList, PrintsListFront, Extends};
 ghost use Rattle.workshop.specs.Plan.{AnswersPlan, PrintsPlan, PrintsPart, CompletesPlan};
+ghost use Rattle.pic_raw.specs.Any.{pictures_of};
+ghost use Rattle.run_encode.specs.declared.job.EncodeWords.{EncodeWords};
+ghost use Rattle.run_encode.specs.Outputs.{outputs};
+ghost use Rattle.workshop.specs.Encoding.{AnswersEncode, HoldsHeadline, CompletesEncode};
 ghost use Rattle.workshop.specs.Listing.{AnswersList, CompletesList};
 
+use crate::encode::encode;
 use crate::listing::list;
 use crate::plan::plan;
 use crate::status::Status;
-use crate::words::{Command, settings_of};
+use crate::words::{Task, settings_of};
 use pw_outside::{ByteSink, ByteSource, ByteStore};
 use std::alloc::Global;
 
@@ -28,6 +33,8 @@ use std::alloc::Global;
 /// - `plan TABLE` reads a table file through `proof` to its end, and writes the lines of the table's best
 ///   choice to `text`: the fitting choice of least error, then of least size, then the first in the order of
 ///   index lists; or the line that says that none fits, with the least number of bytes.
+/// - `encode PICTURES MOVIE PROOF` reads pictures through `pictures`, and writes a movie of their frames to `out`, a proof
+///   that each group's choice is best to `cert`, and a line for each frame to `text`.
 /// - `list MOVIE` reads a QuickTime movie through `movie`, and writes a line for its first track of ProRes and
 ///   one for each of the track's samples to `text`.
 #[tactic(auto, using(run_look::proofs::Texts::none_extends))]
@@ -57,8 +64,8 @@ pub fn workshop<S: ByteSource, M: ByteStore, K: ByteSink>(
     ensures cert_extends { Extends (sink_state (K.held cert.old) (K.taken cert.old)) (sink_state (K.held cert.new) (K.taken cert.new)) }
     ensures text_extends { Extends (sink_state (K.held text.old) (K.taken text.old)) (sink_state (K.held text.new) (K.taken text.new)) }
 
-    // After Done each sink that the command writes has settled all that it took.
-    ensures settled { OnTrue (is_done result) (Settles (writes_out (said words.now)) (K.settled out.new) (K.taken out.new)
+    // After Done, and after TooSmall, each sink that the command writes has settled all that it took.
+    ensures settled { OnTrue (is_settled result) (Settles (writes_out (said words.now)) (K.settled out.new) (K.taken out.new)
         × Settles (writes_cert (said words.now)) (K.settled cert.new) (K.taken cert.new)
         × Settles (writes_text (said words.now)) (K.settled text.new) (K.taken text.new)) }
     // ReadFault comes only where the count of a port that the command reads rose, WriteFault only where that of one that it
@@ -68,32 +75,49 @@ pub fn workshop<S: ByteSource, M: ByteStore, K: ByteSink>(
 
     // `plan`: where the table's bytes are told, they decide the answer. BadProof comes with their first fault exactly
     // where they are no table file with its end; LayersFull, frame 0, as the table's layers say.
-    ensures plan { Told (S.left proof.old) (λ bytes. IsRun command.Plan (said words.now) → AnswersPlan (tabled bytes) result) }
+    ensures plan { Told (S.left proof.old) (λ bytes. IsRun task.Plan (said words.now) → AnswersPlan (tabled bytes) result) }
     // After Done the text of the table's best choice was appended, whole, and the table was read to its end. After a
     // fault of writing the first bytes of that text were appended, and after every other refusal none.
-    ensures plan_text { Told (S.left proof.old) (λ bytes. IsRun command.Plan (said words.now) → OnTrue (is_done result)
+    ensures plan_text { Told (S.left proof.old) (λ bytes. IsRun task.Plan (said words.now) → OnTrue (is_done result)
         (PrintsPlan (tabled bytes) (sink_state (K.held text.old) (K.taken text.old)) (sink_state (K.held text.new) (K.taken text.new)))) }
-    ensures plan_part { Told (S.left proof.old) (λ bytes. IsRun command.Plan (said words.now) → OnTrue (is_write_fault result)
+    ensures plan_part { Told (S.left proof.old) (λ bytes. IsRun task.Plan (said words.now) → OnTrue (is_write_fault result)
         (PrintsPart (tabled bytes) (sink_state (K.held text.old) (K.taken text.old)) (sink_state (K.held text.new) (K.taken text.new)))) }
-    ensures plan_unwritten { IsRun command.Plan (said words.now) → OnFalse (has_written result) (text.new ≡ text.old) }
-    ensures plan_end { IsRun command.Plan (said words.now) → OnTrue (is_done result) (IsAtEnd (S.left proof.new)) }
+    ensures plan_unwritten { IsRun task.Plan (said words.now) → OnFalse (has_written result) (text.new ≡ text.old) }
+    ensures plan_end { IsRun task.Plan (said words.now) → OnTrue (is_done result) (IsAtEnd (S.left proof.new)) }
     // Where no port failed, a table whose layers aren't too full is planned, unless memory runs out.
-    ensures plan_complete { Told (S.left proof.old) (λ bytes. IsRun command.Plan (said words.now)
+    ensures plan_complete { Told (S.left proof.old) (λ bytes. IsRun task.Plan (said words.now)
         → NoPortFailed (uses_in (said words.now)) (faults S.faults M.faults K.faults pictures.old proof.old movie.old out.old cert.old text.old) (faults S.faults M.faults K.faults pictures.new proof.new movie.new out.new cert.new text.new)
         → CompletesPlan result (tabled bytes)) }
 
+    // `encode`: where the pictures' bytes are told, they decide the answer and all that is written. After every refusal but
+    // a fault of writing the sinks hold whole groups or nothing; after a fault of writing each has a front of what encoding
+    // gives.
+    ensures encode { Told (S.left pictures.old) (λ bytes. (w : EncodeWords) → IsEncode w (said words.now)
+        → AnswersEncode w (pictures_of w.raw bytes) result (outputs K.held K.taken out.old cert.old text.old) (outputs K.held K.taken out.new cert.new text.new)) }
+    // What was appended has the headline: each group has at most its budget's bytes; each sample stands for its picture's
+    // coefficients quantised at the chosen indices; no choice that fits has less error; the printed records are good; where
+    // no choice fits, the last record says so.
+    ensures encode_headline { Told (S.left pictures.old) (λ bytes. (w : EncodeWords) → IsEncode w (said words.now)
+        → HoldsHeadline w (pictures_of w.raw bytes) result (outputs K.held K.taken out.old cert.old text.old) (outputs K.held K.taken out.new cert.new text.new)) }
+    ensures encode_end { (w : EncodeWords) → IsEncode w (said words.now) → OnTrue (is_done result) (IsAtEnd (S.left pictures.new)) }
+    // Where no port failed, pictures without a fault, whose groups each have a fitting choice and layers that aren't too
+    // many, are encoded, unless memory runs out.
+    ensures encode_complete { Told (S.left pictures.old) (λ bytes. (w : EncodeWords) → IsEncode w (said words.now)
+        → NoPortFailed (uses_in (said words.now)) (faults S.faults M.faults K.faults pictures.old proof.old movie.old out.old cert.old text.old) (faults S.faults M.faults K.faults pictures.new proof.new movie.new out.new cert.new text.new)
+        → CompletesEncode w (pictures_of w.raw bytes) result) }
+
     // `list`: where the movie's bytes are told, they decide the answer. BadMovie comes with their first fault exactly
     // where they are no movie with a track of ProRes.
-    ensures list { Told (M.bytes movie.old) (λ file. IsRun command.List (said words.now) → AnswersList (movie_in file) result) }
+    ensures list { Told (M.bytes movie.old) (λ file. IsRun task.List (said words.now) → AnswersList (movie_in file) result) }
     // After Done the movie's text was appended, whole; after every refusal the first bytes of it, or none where the file
     // is no such movie.
-    ensures list_text { Told (M.bytes movie.old) (λ file. IsRun command.List (said words.now) → OnTrue (is_done result)
+    ensures list_text { Told (M.bytes movie.old) (λ file. IsRun task.List (said words.now) → OnTrue (is_done result)
         (PrintsList (movie_in file) (sink_state (K.held text.old) (K.taken text.old)) (sink_state (K.held text.new) (K.taken text.new)))) }
-    ensures list_part { Told (M.bytes movie.old) (λ file. IsRun command.List (said words.now) →
+    ensures list_part { Told (M.bytes movie.old) (λ file. IsRun task.List (said words.now) →
         PrintsListFront (movie_in file) (sink_state (K.held text.old) (K.taken text.old)) (sink_state (K.held text.new) (K.taken text.new))) }
     ensures list_bytes { M.bytes movie.new ≡ M.bytes movie.old }
     // Where no port failed, a movie is listed, unless memory runs out.
-    ensures list_complete { Told (M.bytes movie.old) (λ file. IsRun command.List (said words.now)
+    ensures list_complete { Told (M.bytes movie.old) (λ file. IsRun task.List (said words.now)
         → NoPortFailed (uses_in (said words.now)) (faults S.faults M.faults K.faults pictures.old proof.old movie.old out.old cert.old text.old) (faults S.faults M.faults K.faults pictures.new proof.new movie.new out.new cert.new text.new)
         → CompletesList result (movie_in file)) }
 {
@@ -106,8 +130,9 @@ pub fn workshop<S: ByteSource, M: ByteStore, K: ByteSink>(
             };
         }
     };
-    match settings.command {
-        Command::Plan => plan(alloc, proof, text),
-        Command::List => list(alloc, movie, text),
+    match settings.task {
+        Task::Plan => plan(alloc, proof, text),
+        Task::Encode(values) => encode(alloc, &values, pictures, out, cert, text),
+        Task::List => list(alloc, movie, text),
     }
 }

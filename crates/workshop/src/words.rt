@@ -1,10 +1,17 @@
 //! The words of the command line.
 
-ghost use Rattle.std.specs.Prelude.{◌≡◌, ◌<◌, ◌≤◌, ◌↔◌, [], IsTrue, IfOk, map, drop, length, string_bytes};
-ghost use Rattle.workshop.specs.Words.{IsWalk, IsSettings, command_named, is_option_of, most_operands, takes, walk, said, ports_of, names_in, no_names};
+ghost use Rattle.std.specs.Prelude.{◌≡◌, ◌<◌, ◌≤◌, [], IfOk, drop, length, map, string_bytes};
+ghost use Rattle.workshop.specs.Options.{AreValues, no_values};
+ghost use Rattle.workshop.specs.Words.{IsWalk, IsTask, command_named, option_named, options_of, most_operands, takes, lacks_option, clash, encode_words, raw_in, has_odd_form, task_of, with_option_value, with_option, ended, walk, said, settled, command_of, ports_of, names_in, no_names};
 
+use crate::options::{MAX_BUDGET, OptionName, Values};
+use crate::raw_form::cut;
 use crate::status::UsageKind;
 use arrayvec::ArrayVec;
+use pic_y4m::Head;
+use pr_quant::Matrix;
+use pw_planes::Interlace;
+use run_encode::EncodeWords;
 
 /// No command has more operands.
 const MOST_OPERANDS: usize = 5;
@@ -14,6 +21,8 @@ const MOST_OPERANDS: usize = 5;
 pub enum Command {
     /// `plan TABLE` prints the best choice of a table file.
     Plan,
+    /// `encode PICTURES MOVIE PROOF` makes a movie of pictures, each frame of which is the best within the budget.
+    Encode,
     /// `list MOVIE` prints the track of a movie and its samples.
     List,
 }
@@ -35,10 +44,18 @@ pub struct BadWords {
     pub word: usize,
 }
 
-/// A command with the numbers of the words that are its operands.
+/// What is to be done.
+#[derive(Clone, Copy, Debug, PartialEq, Eq)]
+pub enum Task {
+    Plan,
+    Encode(EncodeWords),
+    List,
+}
+
+/// What is to be done, with the numbers of the words that are operands.
 #[derive(Drop)]
 pub(crate) struct Settings {
-    pub(crate) command: Command,
+    pub(crate) task: Task,
     operands: ArrayVec<usize, MOST_OPERANDS>,
 }
 
@@ -50,6 +67,7 @@ impl Command {
     {
         match word {
             "plan" => Some(Command::Plan),
+            "encode" => Some(Command::Encode),
             "list" => Some(Command::List),
             _ => None,
         }
@@ -62,6 +80,7 @@ impl Command {
     {
         match self {
             Command::Plan | Command::List => 1,
+            Command::Encode => 3,
         }
     }
 
@@ -71,15 +90,78 @@ impl Command {
     {
         match self {
             Command::Plan | Command::List => operands == 1,
+            Command::Encode => operands == 3,
         }
     }
 
-    /// Whether the word is one of its options, with a value.
-    fn has_option(self, _word: &[u8]) -> bool
-        ensures { result ≡ is_option_of self _word.now }
+    /// Its options.
+    fn options(self) -> &'static [OptionName]
+        ensures { result.now ≡ options_of self }
+    {
+        match self {
+            Command::Plan | Command::List => &[],
+            Command::Encode => &[
+                OptionName::Budget,
+                OptionName::Lo,
+                OptionName::Hi,
+                OptionName::Log,
+                OptionName::Matrix,
+                OptionName::Raw,
+                OptionName::Interlace,
+                OptionName::Group,
+                OptionName::Proof,
+            ],
+        }
+    }
+
+    /// Its option of this name.
+    fn option_named(self, name: &[u8]) -> Option<OptionName>
+        ensures { result ≡ option_named self name.now }
+    {
+        let options = self.options();
+        for option in options {
+            if name == option.name() {
+                return Some(*option);
+            }
+        }
+        None
+    }
+
+    /// Whether an option is wanting that it needs.
+    fn lacks_option(self, values: &Values) -> bool
+        ensures { result ≡ lacks_option self values.now }
     {
         match self {
             Command::Plan | Command::List => false,
+            Command::Encode => values.budget.is_none(),
+        }
+    }
+
+    /// Whether the values don't go together.
+    fn clash(self, values: &Values) -> bool
+        requires { AreValues values.now }
+        ensures { result ≡ clash self values.now }
+    {
+        match self {
+            Command::Plan | Command::List => false,
+            Command::Encode => {
+                let words = encode_words(values);
+                words.hi < words.lo
+                    || (values.interlace.is_some() && values.raw.is_none())
+                    || has_odd_form(words.raw)
+                    || u64::from(words.group) * u64::from(words.budget) > u64::from(MAX_BUDGET)
+            }
+        }
+    }
+
+    /// What it is to do.
+    fn task(self, values: &Values) -> Task
+        ensures { result ≡ task_of self values.now }
+    {
+        match self {
+            Command::Plan => Task::Plan,
+            Command::Encode => Task::Encode(encode_words(values)),
+            Command::List => Task::List,
         }
     }
 
@@ -92,10 +174,29 @@ impl Command {
                 proof: operands.first().copied(),
                 ..Names::none()
             },
+            Command::Encode => Names {
+                pictures: operands.first().copied(),
+                out: operands.get(1).copied(),
+                cert: operands.get(2).copied(),
+                ..Names::none()
+            },
             Command::List => Names {
                 movie: operands.first().copied(),
                 ..Names::none()
             },
+        }
+    }
+}
+
+impl Task {
+    /// The command that does it.
+    fn command(self) -> Command
+        ensures { result ≡ command_of self }
+    {
+        match self {
+            Task::Plan => Command::Plan,
+            Task::Encode(_) => Command::Encode,
+            Task::List => Command::List,
         }
     }
 }
@@ -114,24 +215,131 @@ impl Names {
     }
 }
 
-/// The numbers of the words that are operands, or the first fault of the words behind the command.
-fn operands_in(
+/// The form of raw planar pictures, with how their frames are made of pictures.
+fn raw_in(values: &Values) -> Option<Head>
+    ensures { result ≡ raw_in values.now }
+{
+    match values.raw {
+        Some(form) => Some(Head {
+            interlace: values.interlace.unwrap_or(Interlace::Progressive),
+            ..form
+        }),
+        None => None,
+    }
+}
+
+/// The values of the options of `encode`, and of those that are absent.
+fn encode_words(values: &Values) -> EncodeWords
+    ensures { result ≡ encode_words values.now }
+{
+    EncodeWords {
+        budget: values.budget.unwrap_or(0),
+        lo: values.lo.unwrap_or(1),
+        hi: values.hi.unwrap_or(31),
+        log2: values.log2.unwrap_or(3),
+        matrix: values.matrix.unwrap_or(Matrix::Flat),
+        raw: raw_in(values),
+        group: values.group.unwrap_or(1),
+        proof: values.proof.unwrap_or(2),
+    }
+}
+
+/// Whether frames are interlaced and have an odd number of rows.
+fn has_odd_form(form: Option<Head>) -> bool
+    ensures { result ≡ has_odd_form form }
+{
+    match form {
+        Some(form) => form.interlace != Interlace::Progressive && form.height % 2 == 1,
+        None => false,
+    }
+}
+
+/// The values with that of this option, which the word of this number gives, and which may stand once.
+fn with_option_value(
+    option: OptionName,
+    value: &[u8],
+    at: usize,
+    values: Values,
+) -> Result<Values, BadWords>
+    requires { AreValues values }
+    ensures value { IsWalk (λ v. v) result (with_option_value option value.now at values) }
+    ensures limits { IfOk result AreValues }
+{
+    if values.has(option) {
+        return Err(BadWords {
+            kind: UsageKind::RepeatedOption,
+            word: at,
+        });
+    }
+    match values.with(option, value) {
+        Some(values) => Ok(values),
+        None => Err(BadWords {
+            kind: UsageKind::BadValue,
+            word: at,
+        }),
+    }
+}
+
+/// The values with that of the option `--NAME=VALUE`, the word of this number.
+#[tactic(auto, unfolding(crate::specs::Words::with_option))]
+fn with_option(command: Command, word: &[u8], at: usize, values: Values) -> Result<Values, BadWords>
+    requires word { 2 ≤ length word.now }
+    requires values { AreValues values }
+    ensures value { IsWalk (λ v. v) result (with_option command word.now at values) }
+    ensures limits { IfOk result AreValues }
+{
+    let unknown = BadWords {
+        kind: UsageKind::UnknownOption,
+        word: at,
+    };
+    let Some((name, value)) = cut(&word[2..], b'=') else {
+        return Err(unknown);
+    };
+    let Some(option) = command.option_named(name) else {
+        return Err(unknown);
+    };
+    with_option_value(option, value, at, values)
+}
+
+/// What the words say, where so many words have been read and no more are left.
+#[tactic(auto, unfolding(crate::specs::Words::ended), using(crate::proofs::Tasks::task_allowed))]
+fn ended(
     command: Command,
-    words: &[String],
-) -> Result<ArrayVec<usize, MOST_OPERANDS>, BadWords>
+    at: usize,
+    operands: ArrayVec<usize, MOST_OPERANDS>,
+    values: &Values,
+) -> Result<Settings, BadWords>
+    requires { AreValues values.now }
+    ensures value { IsWalk settled result (ended command at operands.items values.now) }
+    ensures limits { IfOk result (λ s. IsTask s.task) }
+{
+    let kind = if !command.takes(operands.len()) {
+        UsageKind::MissingOperand
+    } else if command.lacks_option(values) {
+        UsageKind::MissingOption
+    } else if command.clash(values) {
+        UsageKind::Conflict
+    } else {
+        return Ok(Settings {
+            task: command.task(values),
+            operands,
+        });
+    };
+    Err(BadWords { kind, word: at })
+}
+
+/// What the words behind the command say, or their first fault.
+fn walk(command: Command, words: &[String]) -> Result<Settings, BadWords>
     requires { 0 < length words.now }
-    ensures { IsWalk (λ v. v.items) result (walk command (map string_bytes (drop 1 words.now)) 1 []) }
+    ensures value { IsWalk settled result (walk command (map string_bytes (drop 1 words.now)) 1 [] no_values) }
+    ensures limits { IfOk result (λ s. IsTask s.task) }
 {
     let mut operands = ArrayVec::new();
+    let mut values = Values::none();
     for at in 1..words.len() {
         let word = words[at].as_bytes();
         if word.starts_with(b"--") {
-            if !command.has_option(word) {
-                return Err(BadWords {
-                    kind: UsageKind::UnknownOption,
-                    word: at,
-                });
-            }
+            values = with_option(command, word, at, values)?;
         } else if operands.len() < command.most_operands() {
             operands.push(at);
         } else {
@@ -141,19 +349,13 @@ fn operands_in(
             });
         }
     }
-    if command.takes(operands.len()) {
-        Ok(operands)
-    } else {
-        Err(BadWords {
-            kind: UsageKind::MissingOperand,
-            word: words.len(),
-        })
-    }
+    ended(command, words.len(), operands, &values)
 }
 
-/// The command and its operands, or the first fault of the words.
+/// What is to be done, or the first fault of the words.
 pub(crate) fn settings_of(words: &[String]) -> Result<Settings, BadWords>
-    ensures { IsSettings result (said words.now) }
+    ensures value { IsWalk settled result (said words.now) }
+    ensures limits { IfOk result (λ s. IsTask s.task) }
 {
     let Some(first) = words.first() else {
         return Err(BadWords {
@@ -167,8 +369,7 @@ pub(crate) fn settings_of(words: &[String]) -> Result<Settings, BadWords>
             word: 0,
         });
     };
-    let operands = operands_in(command, words)?;
-    Ok(Settings { command, operands })
+    walk(command, words)
 }
 
 /// For each port the number of the word that names its file: that of its operand where the words are in the
@@ -177,7 +378,7 @@ pub fn names_of(words: &[String]) -> Names
     ensures { result ≡ names_in (said words.now) }
 {
     match settings_of(words) {
-        Ok(settings) => settings.command.names(&settings.operands),
+        Ok(settings) => settings.task.command().names(&settings.operands),
         Err(_) => Names::none(),
     }
 }

@@ -1,0 +1,68 @@
+-- The values of a command are those that its run may be told.
+use Rattle.std.proofs.Common.{◌≡◌, ℕ, ◌^◌, ◌<◌, ◌≤◌, ◌*◌, ◌%◌, ◌==◌, true, false, not, ◌&&◌, ◌||◌, ltb, Bool, Option, Some, None, refl, sym, ap, arith, IfSome, IsTrue}
+use Rattle.std.specs.Prelude.{unwrap_or, option_map, is_some, is_none}
+use Rattle.std.proofs.lemmas.Bool.{ltb-true, ltb-false, eqb-false, or_parts, true≢false, false≢true}
+use Rattle.pw_planes.specs.declared.kinds.Interlace.{Interlace}
+use Rattle.pw_planes.specs.declared.kinds.Interlace.TheVariants.{Progressive}
+use Rattle.pic_y4m.specs.declared.head.Head.{Head}
+use Rattle.pic_y4m.specs.HeadLine.{IsHead, is_interlaced}
+use Rattle.workshop.specs.declared.options.Values.{Values}
+use Rattle.workshop.specs.declared.words.Command.{Command}
+use Rattle.workshop.specs.declared.words.Command.TheVariants as command
+use Rattle.run_encode.specs.Groups.{AreWords}
+use Rattle.workshop.specs.Options.{AreValues, IsRawForm}
+use Rattle.workshop.specs.Words.{IsTask, task_of, clash, lacks_option, encode_words, with_mode, raw_in, has_odd_form}
+
+-- what holds of a value and of what stands for one that is absent
+given : (P : ℕ → Type 0) (o : Option ℕ) (n : ℕ) → P n → IfSome o P → P (unwrap_or o n)
+given P None n absent h = absent
+given P (Some m) n absent h = h
+
+needed : (o : Option ℕ) → is_none o ≡ false → IfSome o (λ n. (1 ≤ n) × (n < 2 ^ 31)) → 1 ≤ unwrap_or o 0
+needed None e h = absurd (true≢false e)
+needed (Some m) e h = h.0
+
+untrue : (b : Bool) → not b ≡ false → b ≡ true
+untrue true e = refl
+untrue false e = absurd (true≢false e)
+
+halved : (b : Bool) (n : ℕ) → (b && (n % 2 == 1)) ≡ false → IsTrue b → n % 2 ≡ 0
+halved true n e t = let no = eqb-false (n % 2) 1 e in omega (arith, no)
+halved false n e t = absurd (false≢true t)
+
+even : (h : Head) (mode : Interlace) → has_odd_form (Some (with_mode mode h)) ≡ false → IsTrue (is_interlaced mode) → h.height % 2 ≡ 0
+even h mode e t = halved (is_interlaced mode) h.height e t
+
+moded : (o : Option Head) (mode : Interlace) → has_odd_form (option_map (with_mode mode) o) ≡ false → IfSome o IsRawForm → IfSome (option_map (with_mode mode) o) IsHead
+moded None mode e h = tt
+moded (Some f) mode e h = record {
+  some_columns = h.0.some_columns;
+  columns = h.0.columns;
+  some_rows = h.0.some_rows;
+  rows = h.0.rows;
+  fields = even f mode e;
+  some_num = h.0.some_num;
+  num = h.0.num;
+  some_den = h.0.some_den;
+  den = h.0.den;
+}
+
+pub task_allowed : (c : Command) (v : Values) → AreValues v → lacks_option c v ≡ false → clash c v ≡ false → IsTask (task_of c v)
+task_allowed command.Plan v a l e = tt
+task_allowed command.List v a l e = tt
+task_allowed command.Encode v a l e =
+    let three = or_parts _ _ e in
+    let two = or_parts _ _ three.0 in
+    let one = or_parts _ _ two.0 in
+    record {
+      some_budget = needed v.budget l a.budget;
+      least = (given (λ n. (1 ≤ n) × (n ≤ 224)) v.lo 1 (omega arith, omega arith) a.lo).0;
+      order = ltb-false _ _ one.0;
+      most = (given (λ n. (1 ≤ n) × (n ≤ 224)) v.hi 31 (omega arith, omega arith) a.hi).1;
+      log2 = given (λ n. n ≤ 3) v.log2 3 (omega arith) a.log2;
+      raw = moded v.raw (unwrap_or v.interlace Progressive) two.1 a.raw;
+      some_group = (given (λ n. (1 ≤ n) × (n ≤ 8)) v.group 1 (omega arith, omega arith) a.group).0;
+      small_group = (given (λ n. (1 ≤ n) × (n ≤ 8)) v.group 1 (omega arith, omega arith) a.group).1;
+      budget = ltb-true _ _ (untrue _ three.1);
+      format = given (λ n. (1 ≤ n) × (n ≤ 2)) v.proof 2 (omega arith, omega arith) a.proof;
+    }

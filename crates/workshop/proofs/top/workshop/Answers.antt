@@ -1,0 +1,14 @@
+use Rattle.std.proofs.Common.{◌≡◌, subst}
+use Rattle.pw_outside.specs.Reading.{bytes_of}
+use Rattle.pic_raw.specs.Any.{pictures_of}
+use Rattle.workshop.specs.Encoding.{CompletesEncode}
+use Rattle.workshop.specs.Words.{said, settled}
+use Rattle.workshop.proofs.Encoded.{quiet, same-words}
+use Rattle.workshop.proofs.top.workshop.Goals as goal
+
+pub returns-in-Encode-clause-encode_complete : goal.returns-in-Encode-clause-encode_complete
+returns-in-Encode-clause-encode_complete g c = λ told w is none.
+    let none = quiet (said c.args.words.now) (settled c.in-Ok.settings) c.in-Encode.values _ _ c.in-Ok.ensures.value c.in-Encode.is none in
+    let same = same-words (said c.args.words.now) (settled c.in-Ok.settings) c.in-Encode.values w c.in-Ok.ensures.value c.in-Encode.is is in
+    subst (λ v. CompletesEncode v (pictures_of v.raw (bytes_of (g.S.ByteSource.left c.args.pictures.now))) c.encode.result) same
+    (c.encode.ensures.complete told none.0 none.1)

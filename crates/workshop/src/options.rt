@@ -1,0 +1,151 @@
+//! The options of the command line, and their values.
+
+ghost use Rattle.std.specs.Prelude.{◌≡◌, ◌≤◌, ◌<◌, IfSome};
+ghost use Rattle.workshop.specs.Options.{name_of_option, matrix_named, interlace_named, no_values, is_given, with_value, AreValues};
+
+use crate::raw_form::{number_within, raw_form};
+use pic_y4m::Head;
+use pr_quant::Matrix;
+use pw_planes::Interlace;
+
+/// The greatest budget of a group of frames, in bytes.
+pub(crate) const MAX_BUDGET: u32 = 2_147_483_647;
+
+/// The greatest quantisation index.
+const MAX_INDEX: u64 = 224;
+
+/// An option of a command.
+#[derive(Clone, Copy, Debug, PartialEq, Eq)]
+pub(crate) enum OptionName {
+    Budget,
+    Lo,
+    Hi,
+    Log,
+    Matrix,
+    Raw,
+    Interlace,
+    Group,
+    Proof,
+}
+
+impl OptionName {
+    /// The option's name, without the dashes in front of it.
+    pub(crate) fn name(self) -> &'static [u8]
+        ensures { result.now ≡ name_of_option self }
+    {
+        match self {
+            OptionName::Budget => b"budget",
+            OptionName::Lo => b"lo",
+            OptionName::Hi => b"hi",
+            OptionName::Log => b"log",
+            OptionName::Matrix => b"matrix",
+            OptionName::Raw => b"raw",
+            OptionName::Interlace => b"interlace",
+            OptionName::Group => b"group",
+            OptionName::Proof => b"proof",
+        }
+    }
+}
+
+/// The values that the options of a command line give; `None` for an option that isn't there.
+#[derive(Clone, Copy, Debug, PartialEq, Eq)]
+pub(crate) struct Values {
+    /// The bytes that each frame of a group adds to the group's budget, from 1.
+    pub(crate) budget: Option<u32>,
+    /// The least quantisation index, 1 to 224.
+    pub(crate) lo: Option<u8>,
+    /// The greatest quantisation index, 1 to 224.
+    pub(crate) hi: Option<u8>,
+    /// The binary logarithm of the width of a slice in macroblocks, 0 to 3.
+    pub(crate) log2: Option<u8>,
+    pub(crate) matrix: Option<Matrix>,
+    /// The form of raw planar pictures, as if they were progressive.
+    pub(crate) raw: Option<Head>,
+    pub(crate) interlace: Option<Interlace>,
+    /// How many frames share a budget, 1 to 8.
+    pub(crate) group: Option<u8>,
+    /// The format of the proof, 1 or 2.
+    pub(crate) proof: Option<u8>,
+}
+
+/// The matrix of this name.
+fn matrix_named(bytes: &[u8]) -> Option<Matrix>
+    ensures { result ≡ matrix_named bytes.now }
+{
+    match bytes {
+        b"flat" => Some(Matrix::Flat),
+        b"steep" => Some(Matrix::Steep),
+        _ => None,
+    }
+}
+
+/// How frames are made of pictures, by its letter.
+fn interlace_named(bytes: &[u8]) -> Option<Interlace>
+    ensures { result ≡ interlace_named bytes.now }
+{
+    match bytes {
+        b"p" => Some(Interlace::Progressive),
+        b"t" => Some(Interlace::TopFirst),
+        b"b" => Some(Interlace::BottomFirst),
+        _ => None,
+    }
+}
+
+impl Values {
+    pub(crate) fn none() -> Values
+        ensures value { result ≡ no_values }
+        ensures limits { AreValues result }
+    {
+        Values {
+            budget: None,
+            lo: None,
+            hi: None,
+            log2: None,
+            matrix: None,
+            raw: None,
+            interlace: None,
+            group: None,
+            proof: None,
+        }
+    }
+
+    /// Whether this option was given.
+    pub(crate) fn has(&self, option: OptionName) -> bool
+        ensures { result ≡ is_given option self.now }
+    {
+        match option {
+            OptionName::Budget => self.budget.is_some(),
+            OptionName::Lo => self.lo.is_some(),
+            OptionName::Hi => self.hi.is_some(),
+            OptionName::Log => self.log2.is_some(),
+            OptionName::Matrix => self.matrix.is_some(),
+            OptionName::Raw => self.raw.is_some(),
+            OptionName::Interlace => self.interlace.is_some(),
+            OptionName::Group => self.group.is_some(),
+            OptionName::Proof => self.proof.is_some(),
+        }
+    }
+
+    /// The values with that of one option more, if the bytes are a value that it may have.
+    pub(crate) fn with(self, option: OptionName, bytes: &[u8]) -> Option<Values>
+        requires { AreValues self }
+        ensures value { result ≡ with_value option bytes.now self }
+        ensures limits { IfSome result AreValues }
+    {
+        let mut values = self;
+        match option {
+            OptionName::Budget => {
+                values.budget = Some(number_within(bytes, 1, u64::from(MAX_BUDGET))? as u32);
+            }
+            OptionName::Lo => values.lo = Some(number_within(bytes, 1, MAX_INDEX)? as u8),
+            OptionName::Hi => values.hi = Some(number_within(bytes, 1, MAX_INDEX)? as u8),
+            OptionName::Log => values.log2 = Some(number_within(bytes, 0, 3)? as u8),
+            OptionName::Matrix => values.matrix = Some(matrix_named(bytes)?),
+            OptionName::Raw => values.raw = Some(raw_form(bytes)?),
+            OptionName::Interlace => values.interlace = Some(interlace_named(bytes)?),
+            OptionName::Group => values.group = Some(number_within(bytes, 1, 8)? as u8),
+            OptionName::Proof => values.proof = Some(number_within(bytes, 1, 2)? as u8),
+        }
+        Some(values)
+    }
+}
