@@ -574,6 +574,52 @@ fn writes_fields_with_alpha_straight(rt: HostRuntime) {
     assert_straight(&rt, rt.alloc(), bytes, (1, 2), &form, (7, 8), &[8, 7]);
 }
 
+/// A picture of 16 columns and 32 rows in 4:2:2: luma is 400 in even rows and 600 in odd rows, and chroma is 512.
+fn striped() -> [u8; 2048] {
+    let mut bytes = [0; 2048];
+    for i in 0..512 {
+        let (low, high) = if i / 16 % 2 == 0 {
+            (0x90, 1)
+        } else {
+            (0x58, 2)
+        };
+        bytes[2 * i] = low;
+        bytes[2 * i + 1] = high;
+        bytes[1024 + 2 * i + 1] = 2;
+    }
+    bytes
+}
+
+/// The frame of the stripes at index 1: the field of odd rows, and then that of even rows.
+fn assert_fields(rt: &impl Abort, written: &[u8]) {
+    let odd = b"\x40\0\0\0\x17\0\x01\x30\0\x0d\x30\x01\0\x03\0\x02\x05\xa0\x8c\x82\0\x82\0";
+    let even = b"\x40\0\0\0\x17\0\x01\x30\0\x0d\x30\x01\0\x03\0\x02\x07\x1f\x8c\x82\0\x82\0";
+    assert!(rt; written.len() == 202);
+    assert_eq!(rt; written[20], 0x88);
+    assert_eq!(rt; &written[156..179], odd.as_slice());
+    assert_eq!(rt; &written[179..], even.as_slice());
+}
+
+#[test]
+fn writes_the_field_of_odd_rows_first(rt: HostRuntime) {
+    let bytes = striped();
+    let form = Form {
+        chroma: Chroma::C422,
+        interlace: Interlace::BottomFirst,
+        depth: Depth::D10,
+        alpha: AlphaKind::Absent,
+        log2: 3,
+        matrix: Matrix::Flat,
+    };
+    let (length, sink) = frame(&rt, rt.alloc(), &bytes, (16, 32), &form, &[1, 1]);
+    assert_eq!(rt; length, 202);
+    assert_fields(&rt, sink.bytes());
+    assert_straight(&rt, rt.alloc(), &bytes, (16, 32), &form, (1, 1), &[1, 1]);
+    let (length, _) = frame(&rt, rt.alloc(), &bytes, (16, 32), &form, &[8, 8]);
+    assert_eq!(rt; length, 200);
+    assert_straight(&rt, rt.alloc(), &bytes, (16, 32), &form, (1, 31), &[8, 8]);
+}
+
 /// The coefficients of the block are in range.
 fn assert_block(rt: &impl Abort, block: &Block)
     ensures { AreWithin greatest_coefficient block.now }

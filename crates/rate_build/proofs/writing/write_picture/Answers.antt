@@ -1,6 +1,5 @@
 use Rattle.std.proofs.Common.{refl, length, ◌+◌, ◌*◌, arith}
 use Rattle.pr_frame.proofs.PutSteps.{on-ok, on-err, err-any, three-puts, three-first, three-second, three-third}
-use Rattle.rate_build.specs.Coding.{weights_in}
 use Rattle.rate_build.proofs.Straight.{chosen_reach, picture_size, picture_whole}
 use Rattle.rate_build.proofs.writing.write_picture.Goals as goal
 
