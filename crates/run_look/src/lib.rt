@@ -3,6 +3,7 @@
 
 mod checking;
 mod end;
+mod laws;
 mod lines;
 mod listing;
 mod reproof;
@@ -11,5 +12,6 @@ mod tests;
 
 pub use checking::check_proof_run;
 pub use end::LookEnd;
+pub use laws::checking_ends_once;
 pub use listing::list_run;
 pub use reproof::reproof_run;
