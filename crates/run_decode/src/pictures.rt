@@ -21,7 +21,9 @@ use std::alloc::Global;
 /// Writes pictures of one form.
 #[derive(Drop)]
 pub struct Writer {
+    /// The form of the first picture, which all others have to have.
     pub head: Head,
+    /// What writes Y4M, where pictures are written so.
     pub y4m: Option<Y4mWriter>,
 }
 
