@@ -84,7 +84,9 @@ fn status_of(rt: &HostRuntime, end: LookEnd) -> io::Result<String> {
         LookEnd::NoMemory => Ok("2 no memory".to_string(alloc)?),
         LookEnd::ReadFault => Ok("3 read fault".to_string(alloc)?),
         LookEnd::WriteFault => Ok("4 write fault".to_string(alloc)?),
-        LookEnd::BadProof { kind, place } => Ok(format!(in alloc; "10 proof: {kind:?} at {place}")?),
+        LookEnd::BadProof { kind, place } => Ok(format!(in alloc;
+            "10 proof: {kind:?} at {place}"
+        )?),
         LookEnd::Refused { frame, clause } => {
             Ok(format!(in alloc; "11 frame {frame}: refused by clause {clause}")?)
         }
