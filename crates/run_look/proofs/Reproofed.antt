@@ -153,11 +153,14 @@ no_text bytes end before not e none = by_end end not e
     undone (ends.BadFrame sample kind place) text not = refl
     undone (ends.BadProof kind place) text not = refl
     undone (ends.Refused frame clause) text not = refl
+
     by_result : (r : Result ((ℕ × Settings) × Rest) (Fault ProofKind)) → is_done (reproofed_by r).end ≡ false → (reproofed_by r).text ≡ []
     by_result (Err f) not = refl
     by_result (Ok (head, rest)) not = undone (rewritten_at (suc most_records) head.0 head.1 no_records rest).end _ not
+
     whole : (end : LookEnd) → is_done end ≡ false → end ≡ (reproofed_by (head_at (record { place = 0; bytes = bytes }))).end → Puts before before (reproofed_by (head_at (record { place = 0; bytes = bytes }))).text
     whole end not e = subst (Puts before before) (sym (by_result (head_at (record { place = 0; bytes = bytes })) (ap is_done (sym e) ∙ not))) none
+
     by_end : (end : LookEnd) → is_done end ≡ false → AnswersUnlessOutside end (reproofed_by (head_at (record { place = 0; bytes = bytes }))).end → PutsUntil end (reproofed_by (head_at (record { place = 0; bytes = bytes }))).text before before
     by_end ends.Done not e = absurd cc
     by_end ends.NoMemory not e = record { out = 0; front = none }

@@ -47,9 +47,9 @@ unfoldable pub RecordsAre : {X : Type 0} → (Settings → Record → ℕ → X 
 RecordsAre Beside at_end zero format s p frames rest x end records = ⊥
 RecordsAre Beside at_end (suc most) format s p frames rest x end records =
     NextIs end ((end ≡ at_end frames x) × (records ≡ p.count))
-        (λ r behind. RecordIs s frames end r (Beside s r frames x)
-            (λ more. RecordsAre Beside at_end most format s (after s p (Some r)) (frames + frames_in s r) behind more end records))
-        (next_at format p rest)
+    (λ r behind. RecordIs s frames end r (Beside s r frames x)
+    (λ more. RecordsAre Beside at_end most format s (after s p (Some r)) (frames + frames_in s r) behind more end records))
+    (next_at format p rest)
 
 -- ---- a proof by itself
 

@@ -17,9 +17,15 @@ pub enum LookEnd {
     /// A port that the run writes failed.
     WriteFault,
     /// The pictures have this first fault, at this byte.
-    BadPictures { kind: PictureKind, place: u64 },
+    BadPictures {
+        kind: PictureKind,
+        place: u64,
+    },
     /// The movie has this first fault, at this byte.
-    BadMovie { kind: MovieKind, place: u64 },
+    BadMovie {
+        kind: MovieKind,
+        place: u64,
+    },
     /// The sample of this number, from 0, has this first fault, at this byte of the sample.
     BadFrame {
         sample: u32,
@@ -27,9 +33,15 @@ pub enum LookEnd {
         place: u64,
     },
     /// The proof has this first fault, at this byte.
-    BadProof { kind: ProofKind, place: u64 },
+    BadProof {
+        kind: ProofKind,
+        place: u64,
+    },
     /// This clause is the first that fails, at the frame of this number, from 0.
-    Refused { frame: u32, clause: u8 },
+    Refused {
+        frame: u32,
+        clause: u8,
+    },
 }
 
 /// A run that reads a proof ends with the proof's fault.
