@@ -19,7 +19,7 @@ use Rattle.workshop.specs.declared.status.Status.TheVariants as s
 use Rattle.workshop.specs.Encoding.{status_of, CompletesEncode}
 use Rattle.workshop.specs.declared.words.Task.{Task}
 use Rattle.workshop.specs.declared.words.Task.TheVariants as task
-use Rattle.workshop.specs.Words.{Said, IsEncode, uses_in, uses_of, command_of}
+use Rattle.workshop.specs.Words.{Said, IsEncode, uses_in, uses_of}
 use Rattle.workshop.specs.Faults.{Faults, NoPortFailed}
 
 on-true : {P : Type 0} (b : Bool) → b ≡ true → OnTrue b P → P
@@ -66,7 +66,7 @@ none-of a b c (inr (inr x)) = c x
 pub quiet : (x : Said) (t : Task × List ℕ) (v : EncodeWords) (before now : Faults) → x ≡ Ok t → t.0 ≡ task.Encode v → NoPortFailed (uses_in x) before now
     → (Rose before.pictures now.pictures → ⊥) × (Rose before.out now.out ⊎ Rose before.cert now.cert ⊎ Rose before.text now.text → ⊥)
 quiet x t v before now e f none =
-    let n = subst (λ u. NoPortFailed u before now) (ap uses_in e ∙ ap (λ k. uses_of (command_of k)) f) none in
+    let n = subst (λ u. NoPortFailed u before now) (ap uses_in e ∙ ap uses_of f) none in
     (λ r. n.pictures (refl, r), none-of (λ r. n.out (refl, r)) (λ r. n.cert (refl, r)) (λ r. n.text (refl, r)))
 
 abbrev words-in : EncodeWords → Task → EncodeWords

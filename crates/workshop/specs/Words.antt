@@ -60,7 +60,7 @@ ports_of command.Plan operands = record no_names { proof = slice_get operands 0 
 ports_of command.Encode operands = record no_names { pictures = slice_get operands 0; out = slice_get operands 1; cert = slice_get operands 2 }
 ports_of command.List operands = record no_names { movie = slice_get operands 0 }
 
--- which ports a command uses: it reads `pictures`, `proof` and `movie`, and writes `out`, `cert` and `text`
+-- which ports a run uses: it reads `pictures`, `proof` and `movie`, and writes `out`, `cert` and `text`
 pub record Ports : Type 0 where
   pub pictures : Bool
   pub proof : Bool
@@ -72,10 +72,10 @@ pub record Ports : Type 0 where
 abbrev pub no_ports : Ports
 no_ports = record { pictures = false; proof = false; movie = false; out = false; cert = false; text = false }
 
-abbrev pub uses_of : Command → Ports
-uses_of command.Plan = record no_ports { proof = true; text = true }
-uses_of command.Encode = record no_ports { pictures = true; out = true; cert = true; text = true }
-uses_of command.List = record no_ports { movie = true; text = true }
+abbrev pub uses_of : Task → Ports
+uses_of task.Plan = record no_ports { proof = true; text = true }
+uses_of (task.Encode w) = record no_ports { pictures = true; out = true; cert = true; text = true }
+uses_of task.List = record no_ports { movie = true; text = true }
 
 -- ---- the values of options, and what stands for one that is absent
 
@@ -226,7 +226,7 @@ command_of task.List = command.List
 
 -- the ports that the run uses: none where the words have a fault
 abbrev pub uses_in : Said → Ports
-uses_in (Ok s) = uses_of (command_of s.0)
+uses_in (Ok s) = uses_of s.0
 uses_in (Err fault) = no_ports
 
 abbrev pub reads_pictures : Said → Bool
