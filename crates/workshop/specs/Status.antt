@@ -11,9 +11,12 @@ code_of (s.Usage _ _) = 1
 code_of s.NoMemory = 2
 code_of s.ReadFault = 3
 code_of s.WriteFault = 4
+code_of (s.BadPictures _ _) = 5
 code_of (s.LayersFull _) = 7
 code_of (s.BadMovie _ _) = 8
+code_of (s.BadFrame _ _ _) = 9
 code_of (s.BadProof _ _) = 10
+code_of (s.Refused _ _) = 11
 
 abbrev pub is_done : Status → Bool
 is_done s.Done = true

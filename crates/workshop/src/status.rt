@@ -1,5 +1,7 @@
 //! What a run answers.
 
+use pic_y4m::PictureKind;
+use pr_head::FrameKind;
 use qt_tables::MovieKind;
 use rate_table::ProofKind;
 use std::fmt;
@@ -32,12 +34,22 @@ pub enum Status {
     ReadFault,
     /// A port that the command writes failed.
     WriteFault,
+    /// The pictures have this first fault, at this byte.
+    BadPictures { kind: PictureKind, place: u64 },
     /// The layers of this frame's table number more than 2^25 pairs; the table of `plan` is frame 0.
     LayersFull { frame: u32 },
     /// The movie has this first fault, at this byte.
     BadMovie { kind: MovieKind, place: u64 },
+    /// The sample of this number, from 0, has this first fault, at this byte of the sample.
+    BadFrame {
+        sample: u32,
+        kind: FrameKind,
+        place: u64,
+    },
     /// The table or the proof has this first fault, at this byte.
     BadProof { kind: ProofKind, place: u64 },
+    /// This clause is the first that the proof fails, at the frame of this number, from 0.
+    Refused { frame: u32, clause: u8 },
 }
 
 impl Status {
@@ -54,9 +66,12 @@ impl Status {
             Status::NoMemory => 2,
             Status::ReadFault => 3,
             Status::WriteFault => 4,
+            Status::BadPictures { .. } => 5,
             Status::LayersFull { .. } => 7,
             Status::BadMovie { .. } => 8,
+            Status::BadFrame { .. } => 9,
             Status::BadProof { .. } => 10,
+            Status::Refused { .. } => 11,
         }
     }
 }
@@ -70,9 +85,16 @@ impl fmt::Display for Status {
             Status::NoMemory => write!(f, "no memory"),
             Status::ReadFault => write!(f, "read fault"),
             Status::WriteFault => write!(f, "write fault"),
+            Status::BadPictures { kind, place } => write!(f, "pictures: {kind:?} at {place}"),
             Status::LayersFull { frame } => write!(f, "frame {frame}: too many pairs"),
             Status::BadMovie { kind, place } => write!(f, "movie: {kind:?} at {place}"),
+            Status::BadFrame {
+                sample,
+                kind,
+                place,
+            } => write!(f, "sample {sample}: {kind:?} at {place}"),
             Status::BadProof { kind, place } => write!(f, "proof: {kind:?} at {place}"),
+            Status::Refused { frame, clause } => write!(f, "frame {frame}: refused by clause {clause}"),
         }
     }
 }
