@@ -1,1 +1,3 @@
 pub mod PlanTexts
+pub mod Checked
+pub mod Complete

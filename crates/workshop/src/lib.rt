@@ -1,6 +1,7 @@
 //! The program `workshop`.
 #![tactic(auto)]
 
+mod checking;
 mod listing;
 mod plan;
 mod ports;

@@ -27,7 +27,10 @@ pub enum Status {
     /// The whole run was done, and its input was read to its end.
     Done,
     /// The words aren't in the grammar: the kind and the number of the first word with a fault.
-    Usage { kind: UsageKind, word: usize },
+    Usage {
+        kind: UsageKind,
+        word: usize,
+    },
     /// Memory ran out.
     NoMemory,
     /// A port that the command reads failed.
@@ -35,11 +38,19 @@ pub enum Status {
     /// A port that the command writes failed.
     WriteFault,
     /// The pictures have this first fault, at this byte.
-    BadPictures { kind: PictureKind, place: u64 },
+    BadPictures {
+        kind: PictureKind,
+        place: u64,
+    },
     /// The layers of this frame's table number more than 2^25 pairs; the table of `plan` is frame 0.
-    LayersFull { frame: u32 },
+    LayersFull {
+        frame: u32,
+    },
     /// The movie has this first fault, at this byte.
-    BadMovie { kind: MovieKind, place: u64 },
+    BadMovie {
+        kind: MovieKind,
+        place: u64,
+    },
     /// The sample of this number, from 0, has this first fault, at this byte of the sample.
     BadFrame {
         sample: u32,
@@ -47,9 +58,15 @@ pub enum Status {
         place: u64,
     },
     /// The table or the proof has this first fault, at this byte.
-    BadProof { kind: ProofKind, place: u64 },
+    BadProof {
+        kind: ProofKind,
+        place: u64,
+    },
     /// This clause is the first that the proof fails, at the frame of this number, from 0.
-    Refused { frame: u32, clause: u8 },
+    Refused {
+        frame: u32,
+        clause: u8,
+    },
 }
 
 impl Status {
@@ -94,7 +111,10 @@ impl fmt::Display for Status {
                 place,
             } => write!(f, "sample {sample}: {kind:?} at {place}"),
             Status::BadProof { kind, place } => write!(f, "proof: {kind:?} at {place}"),
-            Status::Refused { frame, clause } => write!(f, "frame {frame}: refused by clause {clause}"),
+            Status::Refused { frame, clause } => write!(
+                f,
+                "frame {frame}: refused by clause {clause}"
+            ),
         }
     }
 }

@@ -14,7 +14,9 @@ ghost use Rattle.qt_movie.specs.Movie.{movie_in};
 ghost use Rattle.run_look.specs.Listing.{PrintsList, PrintsListFront, Extends};
 ghost use Rattle.workshop.specs.Plan.{AnswersPlan, PrintsPlan, PrintsPart, CompletesPlan};
 ghost use Rattle.workshop.specs.Listing.{AnswersList, CompletesList};
+ghost use Rattle.workshop.specs.Checking.{AnswersCheck, PrintsChecked, CompletesCheck};
 
+use crate::checking::check;
 use crate::listing::list;
 use crate::plan::plan;
 use crate::status::Status;
@@ -30,6 +32,8 @@ use std::alloc::Global;
 ///   index lists; or the line that says that none fits, with the least number of bytes.
 /// - `list MOVIE` reads a QuickTime movie through `movie`, and writes a line for its first track of ProRes and
 ///   one for each of the track's samples to `text`.
+/// - `check PROOF` reads a proof through `proof` to its end, checks each record by itself, and writes a line with
+///   the number of records to `text`.
 #[tactic(auto, using(run_look::proofs::Texts::none_extends))]
 pub fn workshop<S: ByteSource, M: ByteStore, K: ByteSink>(
     alloc: Global,
@@ -96,6 +100,18 @@ pub fn workshop<S: ByteSource, M: ByteStore, K: ByteSink>(
     ensures list_complete { Told (M.bytes movie.old) (λ file. IsRun command.List (said words.now)
         → NoPortFailed (uses_in (said words.now)) (faults S.faults M.faults K.faults pictures.old proof.old movie.old out.old cert.old text.old) (faults S.faults M.faults K.faults pictures.new proof.new movie.new out.new cert.new text.new)
         → CompletesList result (movie_in file)) }
+
+    // `check`: where the proof's bytes are told, they decide the answer. BadProof comes with their first fault and Refused with the
+    // first clause that fails at the first frame of its record, whichever comes first.
+    ensures check { Told (S.left proof.old) (λ bytes. IsRun command.Check (said words.now) → AnswersCheck bytes result) }
+    // After Done the line with the number of records was appended, whole; after a fault of writing a front of it, and after every
+    // other answer nothing.
+    ensures check_text { Told (S.left proof.old) (λ bytes. IsRun command.Check (said words.now) →
+        PrintsChecked bytes result (sink_state (K.held text.old) (K.taken text.old)) (sink_state (K.held text.new) (K.taken text.new))) }
+    // Where no port failed, a proof without a fault whose records are all good is Done, unless memory runs out.
+    ensures check_complete { Told (S.left proof.old) (λ bytes. IsRun command.Check (said words.now)
+        → NoPortFailed (uses_in (said words.now)) (faults S.faults M.faults K.faults pictures.old proof.old movie.old out.old cert.old text.old) (faults S.faults M.faults K.faults pictures.new proof.new movie.new out.new cert.new text.new)
+        → CompletesCheck result bytes) }
 {
     let settings = match settings_of(words) {
         Ok(settings) => settings,
@@ -109,5 +125,6 @@ pub fn workshop<S: ByteSource, M: ByteStore, K: ByteSink>(
     match settings.command {
         Command::Plan => plan(alloc, proof, text),
         Command::List => list(alloc, movie, text),
+        Command::Check => check(alloc, proof, text),
     }
 }

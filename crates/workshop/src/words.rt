@@ -16,6 +16,8 @@ pub enum Command {
     Plan,
     /// `list MOVIE` prints the track of a movie and its samples.
     List,
+    /// `check PROOF` checks the records of a proof.
+    Check,
 }
 
 /// For each port the number of the word that names its file.
@@ -51,6 +53,7 @@ impl Command {
         match word {
             "plan" => Some(Command::Plan),
             "list" => Some(Command::List),
+            "check" => Some(Command::Check),
             _ => None,
         }
     }
@@ -62,6 +65,7 @@ impl Command {
     {
         match self {
             Command::Plan | Command::List => 1,
+            Command::Check => 1,
         }
     }
 
@@ -71,6 +75,7 @@ impl Command {
     {
         match self {
             Command::Plan | Command::List => operands == 1,
+            Command::Check => operands == 1,
         }
     }
 
@@ -80,6 +85,7 @@ impl Command {
     {
         match self {
             Command::Plan | Command::List => false,
+            Command::Check => false,
         }
     }
 
@@ -94,6 +100,10 @@ impl Command {
             },
             Command::List => Names {
                 movie: operands.first().copied(),
+                ..Names::none()
+            },
+            Command::Check => Names {
+                proof: operands.first().copied(),
                 ..Names::none()
             },
         }

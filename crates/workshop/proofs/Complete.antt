@@ -1,0 +1,39 @@
+-- Where no port failed, a run that is done unless one fails is done, or memory ran out.
+use Rattle.std.proofs.Common.{◌≡◌, ℕ, Bool, true, false, Ok, Err, refl, ap, subst, inl, inr}
+use Rattle.std.specs.Prelude.{◌⊎◌}
+use Rattle.std.specs.Bool.{OnTrue}
+use Rattle.pw_outside.specs.Ports.{CountsFault, Rose}
+use Rattle.workshop.specs.declared.words.Command.{Command}
+use Rattle.workshop.specs.declared.words.Command.TheVariants as command
+use Rattle.workshop.specs.declared.status.Status.{Status}
+use Rattle.workshop.specs.declared.status.Status.TheVariants as s
+use Rattle.workshop.specs.Status.{AnswersUnlessOutside, is_read_fault, is_write_fault}
+use Rattle.workshop.specs.Words.{Said, IsRun, uses_in, uses_of}
+use Rattle.workshop.specs.Faults.{Faults, NoPortFailed}
+use Rattle.workshop.proofs.PlanTexts.{on_true}
+
+pub done_or_no_memory : (status : Status) → OnTrue (is_read_fault status) ⊥ → OnTrue (is_write_fault status) ⊥ → AnswersUnlessOutside status s.Done → (status ≡ s.Done) ⊎ (status ≡ s.NoMemory)
+done_or_no_memory s.NoMemory read write h = inr refl
+done_or_no_memory s.ReadFault read write h = absurd read
+done_or_no_memory s.WriteFault read write h = absurd write
+done_or_no_memory s.Done read write h = inl h
+done_or_no_memory (s.Usage kind word) read write h = inl h
+done_or_no_memory (s.BadPictures kind place) read write h = inl h
+done_or_no_memory (s.LayersFull frame) read write h = inl h
+done_or_no_memory (s.BadMovie kind place) read write h = inl h
+done_or_no_memory (s.BadFrame sample kind place) read write h = inl h
+done_or_no_memory (s.BadProof kind place) read write h = inl h
+done_or_no_memory (s.Refused frame clause) read write h = inl h
+
+pub run_uses : (c : Command) (said : Said) → IsRun c said → uses_in said ≡ uses_of c
+run_uses c (Ok x) e = ap uses_of e
+run_uses c (Err f) e = absurd e
+
+pub check_completes : (said : Said) (status : Status) (before now : Faults) → IsRun command.Check said → NoPortFailed (uses_in said) before now
+    → CountsFault before.proof now.proof (is_read_fault status) → CountsFault before.text now.text (is_write_fault status)
+    → AnswersUnlessOutside status s.Done → (status ≡ s.Done) ⊎ (status ≡ s.NoMemory)
+check_completes said status before now run none read write h =
+    let unused : NoPortFailed (uses_of command.Check) before now = subst (λ u. NoPortFailed u before now) (run_uses command.Check said run) none in
+    done_or_no_memory status
+    (on_true (is_read_fault status) (λ r. unused.proof (refl, r)) read.rose)
+    (on_true (is_write_fault status) (λ r. unused.text (refl, r)) write.rose) h
