@@ -31,7 +31,7 @@ AloneFrom most format s p frames rest end n = RecordsAre Alone done_at_end most 
 abbrev pub marks_left : Progress → ℕ
 marks_left p = suc most_records - p.count
 
-suc_left : (p : Progress) → p.count ≤ most_records → marks_left p ≡ suc (most_records - p.count)
+pub suc_left : (p : Progress) → p.count ≤ most_records → marks_left p ≡ suc (most_records - p.count)
 suc_left p le = omega (arith, le)
 
 -- a good record was read

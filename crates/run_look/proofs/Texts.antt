@@ -1,8 +1,8 @@
 -- A text that extends what was held.
-use Rattle.std.proofs.Common.{ℕ, ◌≤◌, List, [], take}
+use Rattle.std.proofs.Common.{ℕ, ◌≤◌, List, [], ◌++◌, take}
 use Rattle.pw_outside.specs.Ports.{last}
-use Rattle.pw_outside.specs.Writing.{SinkState, PutsFront}
-use Rattle.pw_outside.proofs.Puts.{puts_none}
+use Rattle.pw_outside.specs.Writing.{SinkState, Puts, PutsFront}
+use Rattle.pw_outside.proofs.Puts.{puts_none, puts_then}
 use Rattle.run_look.specs.declared.end.LookEnd.{LookEnd}
 use Rattle.run_look.specs.declared.end.LookEnd.TheVariants as ends
 use Rattle.run_look.specs.Ends.{PrintsLine}
@@ -27,3 +27,10 @@ printed_extends (ends.BadMovie kind place) line before after p = ([], p)
 printed_extends (ends.BadFrame sample kind place) line before after p = ([], p)
 printed_extends (ends.BadProof kind place) line before after p = ([], p)
 printed_extends (ends.Refused frame clause) line before after p = ([], p)
+
+-- one thing was appended, and then another
+pub extends_then : (a b c : SinkState) (bytes : List ℕ) → Puts a b bytes → Extends b c → Extends a c
+extends_then a b c bytes p q = (bytes ++ q.0, puts_then p q.1)
+
+pub extends_both : (a b c : SinkState) → Extends a b → Extends b c → Extends a c
+extends_both a b c p q = (p.0 ++ q.0, puts_then p.1 q.1)

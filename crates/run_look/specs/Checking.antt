@@ -105,3 +105,13 @@ IsGoodIf s (Some r) = IsGood s r
 abbrev pub NextGood : ℕ → Settings → Progress → ℕ → Rest → Result (Option Record) LookEnd → Rest → Type 0
 NextGood format s p frames rest (Ok next) behind = (next_at format p rest ≡ Ok (next, behind)) × IsGoodIf s next
 NextGood format s p frames rest (Err end) behind = AnswersEnd end (EndsThere s frames (next_at format p rest))
+
+-- ---- laws
+
+-- Checking a proof ends in one way, and where it is done, the records are counted in one way.
+abbrev pub EndsOnce : Type 0
+EndsOnce = (bytes : List ℕ) (e f : LookEnd) (m n : ℕ) → ChecksAlone bytes e m → ChecksAlone bytes f n → (e ≡ f) × (e ≡ ends.Done → m ≡ n)
+
+-- A proof without a fault whose records are good is done, unless memory runs out.
+abbrev pub CompletesCheck : LookEnd → Type 0
+CompletesCheck answer = (answer ≡ ends.Done) ⊎ (answer ≡ ends.NoMemory)

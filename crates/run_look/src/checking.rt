@@ -3,7 +3,7 @@
 ghost use Rattle.std.specs.Prelude.{◌≡◌, ◌+◌, ◌*◌, ◌≤◌, ◌++◌, ℕ, IsSome, OnOk, OnErr, IfOk, IfErr, IfSome, Ok, false, codes};
 ghost use Rattle.std.specs.Bool.{OnTrue};
 ghost use Rattle.std.specs.Fmt.{decimal};
-ghost use Rattle.pw_outside.specs.Ports.{CountsFault};
+ghost use Rattle.pw_outside.specs.Ports.{CountsFault, Rose};
 ghost use Rattle.pw_outside.specs.Reading.{Told, rest_of};
 ghost use Rattle.pw_outside.specs.Writing.{sink_state};
 ghost use Rattle.rate_cert.specs.Settings.{IsSettings};
@@ -12,7 +12,7 @@ ghost use Rattle.rate_cert.specs.Files.{no_records, most_records, after, MayStan
 ghost use Rattle.run_look.specs.declared.end.LookEnd.TheVariants as ends;
 ghost use Rattle.run_look.specs.Ends.{is_done, is_read_fault, is_write_fault, is_stopped_by_source, AnswersEnd, AnswersUnlessOutside, IsReadersEnd, PrintsLine};
 ghost use Rattle.run_look.specs.Listing.{Extends};
-ghost use Rattle.run_look.specs.Checking.{frames_in, RecordsAlone, ChecksAlone, PrintsCheck, Counts, NextGood};
+ghost use Rattle.run_look.specs.Checking.{frames_in, RecordsAlone, ChecksAlone, PrintsCheck, Counts, NextGood, CompletesCheck};
 
 use crate::end::LookEnd;
 use pw_outside::{ByteSink, ByteSource, NoMemory, put_all};
@@ -137,7 +137,7 @@ pub(crate) fn print_records<K: ByteSink>(
 }
 
 /// Checks a proof by itself: its records, in order, by the clauses that speak of no pictures and no movie.
-#[tactic(auto, using(crate::proofs::Texts::none_extends, crate::proofs::Texts::printed_extends))]
+#[tactic(auto, using(crate::proofs::Texts::none_extends, crate::proofs::Texts::printed_extends, crate::proofs::Once::completes))]
 pub fn check_proof_run<S: ByteSource, K: ByteSink>(
     alloc: Global,
     proof: &mut S,
@@ -150,6 +150,9 @@ pub fn check_proof_run<S: ByteSource, K: ByteSink>(
     // other answer nothing.
     ensures text { Told (S.left proof.old) (λ bytes.
         PrintsCheck result (ChecksAlone bytes ends.Done) (sink_state (K.held text.old) (K.taken text.old)) (sink_state (K.held text.new) (K.taken text.new))) }
+    // Where no port failed, a proof without a fault whose records are good is done, unless memory runs out.
+    ensures complete { Told (S.left proof.old) (λ bytes. (records : ℕ) → ChecksAlone bytes ends.Done records
+        → (Rose (S.faults proof.old) (S.faults proof.new) → ⊥) → (Rose (K.faults text.old) (K.faults text.new) → ⊥) → CompletesCheck result) }
     // Whether the proof's bytes are told or not, the text extends what was held.
     ensures extends { Extends (sink_state (K.held text.old) (K.taken text.old)) (sink_state (K.held text.new) (K.taken text.new)) }
     ensures settled { OnTrue (is_done result) (K.settled text.new ≡ K.taken text.new) }
