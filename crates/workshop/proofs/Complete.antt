@@ -1,15 +1,16 @@
 -- Where no port failed, a run that is done unless one fails is done, or memory ran out.
-use Rattle.std.proofs.Common.{◌≡◌, ℕ, Bool, true, false, Ok, Err, refl, ap, subst, inl, inr}
+use Rattle.std.proofs.Common.{◌≡◌, ◌≤◌, ℕ, arith, sym, Bool, true, false, Ok, Err, refl, ap, subst, inl, inr, ⊎_elim}
 use Rattle.std.specs.Prelude.{◌⊎◌}
-use Rattle.std.specs.Bool.{OnTrue}
+use Rattle.std.specs.Bool.{OnTrue, OnFalse}
 use Rattle.pw_outside.specs.Ports.{CountsFault, Rose}
 use Rattle.workshop.specs.declared.words.Command.{Command}
 use Rattle.workshop.specs.declared.words.Command.TheVariants as command
 use Rattle.workshop.specs.declared.status.Status.{Status}
 use Rattle.workshop.specs.declared.status.Status.TheVariants as s
+use Rattle.run_look.specs.Reproofing.{CountsFaults}
 use Rattle.workshop.specs.Status.{AnswersUnlessOutside, is_read_fault, is_write_fault}
 use Rattle.workshop.specs.Words.{Said, IsRun, uses_in, uses_of}
-use Rattle.workshop.specs.Faults.{Faults, NoPortFailed}
+use Rattle.workshop.specs.Faults.{Faults, NoPortFailed, CountsWrites}
 use Rattle.workshop.proofs.PlanTexts.{on_true}
 
 pub done_or_no_memory : (status : Status) → OnTrue (is_read_fault status) ⊥ → OnTrue (is_write_fault status) ⊥ → AnswersUnlessOutside status s.Done → (status ≡ s.Done) ⊎ (status ≡ s.NoMemory)
@@ -25,6 +26,10 @@ done_or_no_memory (s.BadFrame sample kind place) read write h = inl h
 done_or_no_memory (s.BadProof kind place) read write h = inl h
 done_or_no_memory (s.Refused frame clause) read write h = inl h
 
+on_false : {P Q : Type 0} (b : Bool) → (P → Q) → OnFalse b P → OnFalse b Q
+on_false true f p = tt
+on_false false f p = f p
+
 pub run_uses : (c : Command) (said : Said) → IsRun c said → uses_in said ≡ uses_of c
 run_uses c (Ok x) e = ap uses_of e
 run_uses c (Err f) e = absurd e
@@ -37,3 +42,24 @@ check_completes said status before now run none read write h =
     done_or_no_memory status
     (on_true (is_read_fault status) (λ r. unused.proof (refl, r)) read.rose)
     (on_true (is_write_fault status) (λ r. unused.text (refl, r)) write.rose) h
+
+pub reproof_completes : (said : Said) (status : Status) (before now : Faults) → IsRun command.Reproof said → NoPortFailed (uses_in said) before now
+    → CountsFault before.proof now.proof (is_read_fault status) → CountsFaults before.cert now.cert before.text now.text (is_write_fault status)
+    → AnswersUnlessOutside status s.Done → (status ≡ s.Done) ⊎ (status ≡ s.NoMemory)
+reproof_completes said status before now run none read write h =
+    let unused : NoPortFailed (uses_of command.Reproof) before now = subst (λ u. NoPortFailed u before now) (run_uses command.Reproof said run) none in
+    done_or_no_memory status
+    (on_true (is_read_fault status) (λ r. unused.proof (refl, r)) read.rose)
+    (on_true (is_write_fault status) (λ r. ⊎_elim (λ a. unused.cert (refl, a)) (λ b. unused.text (refl, b)) r) write.rose) h
+
+-- the counts of two sinks among those of all that can be written
+pub reproof_writes : (said : Said) (before now : Faults) (failed : Bool) → IsRun command.Reproof said → now.out ≡ before.out
+    → CountsFaults before.cert now.cert before.text now.text failed → CountsWrites (uses_in said) before now failed
+reproof_writes said before now failed run out h =
+    subst (λ u. CountsWrites u before now failed) (sym (run_uses command.Reproof said run)) (record {
+      out = subst (λ n. before.out ≤ n) (sym out) (omega arith);
+      cert = h.later;
+      text = h.later';
+      rose = on_true failed (λ r. ⊎_elim (λ a. inr (inl (refl, a))) (λ b. inr (inr (refl, b))) r) h.rose;
+      kept = on_false failed (λ k. (out, k.0, k.1)) h.kept;
+    })

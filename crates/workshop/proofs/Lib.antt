@@ -1,3 +1,4 @@
 pub mod PlanTexts
 pub mod Checked
 pub mod Complete
+pub mod Reproofed

@@ -13,34 +13,38 @@ use Rattle.workshop.specs.declared.status.UsageKind.TheVariants.{NoCommand, Unkn
 -- ---- the table of commands
 
 abbrev pub commands : List Command
-commands = command.Plan ∷ command.List ∷ command.Check ∷ []
+commands = command.Plan ∷ command.List ∷ command.Check ∷ command.Reproof ∷ []
 
 -- the word of each command
 abbrev pub name_of : Command → List ℕ
 name_of command.Plan = codes "plan"
 name_of command.List = codes "list"
 name_of command.Check = codes "check"
+name_of command.Reproof = codes "reproof"
 
 -- how many operands each command may have, rising
 abbrev pub operands_of : Command → List ℕ
 operands_of command.Plan = 1 ∷ []
 operands_of command.List = 1 ∷ []
 operands_of command.Check = 1 ∷ []
+operands_of command.Reproof = 2 ∷ []
 
 -- the names of each command's options
 abbrev pub options_of : Command → List (List ℕ)
 options_of command.Plan = []
 options_of command.List = []
 options_of command.Check = []
+options_of command.Reproof = []
 
 abbrev pub no_names : Names
 no_names = record { pictures = None; proof = None; movie = None; out = None; cert = None }
 
--- The ports that the operands name, by the numbers of their words: `plan TABLE`, `list MOVIE`, `check PROOF`.
+-- The ports that the operands name, by the numbers of their words: `plan TABLE`, `list MOVIE`, `check PROOF`, `reproof PROOF OUTPUT`.
 abbrev pub ports_of : Command → List ℕ → Names
 ports_of command.Plan operands = record no_names { proof = slice_get operands 0 }
 ports_of command.List operands = record no_names { movie = slice_get operands 0 }
 ports_of command.Check operands = record no_names { proof = slice_get operands 0 }
+ports_of command.Reproof operands = record no_names { proof = slice_get operands 0; cert = slice_get operands 1 }
 
 -- which ports a command uses: it reads `pictures`, `proof` and `movie`, and writes `out`, `cert` and `text`
 pub record Ports : Type 0 where
@@ -58,6 +62,7 @@ abbrev pub uses_of : Command → Ports
 uses_of command.Plan = record no_ports { proof = true; text = true }
 uses_of command.List = record no_ports { movie = true; text = true }
 uses_of command.Check = record no_ports { proof = true; text = true }
+uses_of command.Reproof = record no_ports { proof = true; cert = true; text = true }
 
 -- ---- the walk over the words
 

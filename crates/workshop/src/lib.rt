@@ -6,6 +6,7 @@ mod listing;
 mod plan;
 mod ports;
 mod process;
+mod reproofing;
 mod status;
 #[cfg(test)]
 mod tests;

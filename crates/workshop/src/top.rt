@@ -15,10 +15,13 @@ ghost use Rattle.run_look.specs.Listing.{PrintsList, PrintsListFront, Extends};
 ghost use Rattle.workshop.specs.Plan.{AnswersPlan, PrintsPlan, PrintsPart, CompletesPlan};
 ghost use Rattle.workshop.specs.Listing.{AnswersList, CompletesList};
 ghost use Rattle.workshop.specs.Checking.{AnswersCheck, PrintsChecked, CompletesCheck};
+ghost use Rattle.run_look.specs.Reproofing.{reproofed, SaysTheSame};
+ghost use Rattle.workshop.specs.Reproofing.{AnswersReproof, WritesUntil, CompletesReproof};
 
 use crate::checking::check;
 use crate::listing::list;
 use crate::plan::plan;
+use crate::reproofing::reproof;
 use crate::status::Status;
 use crate::words::{Command, settings_of};
 use pw_outside::{ByteSink, ByteSource, ByteStore};
@@ -34,6 +37,8 @@ use std::alloc::Global;
 ///   one for each of the track's samples to `text`.
 /// - `check PROOF` reads a proof through `proof` to its end, checks each record by itself, and writes a line with
 ///   the number of records to `text`.
+/// - `reproof PROOF OUTPUT` reads a proof of either format through `proof` to its end, writes it in format 2 to
+///   `cert`, and a line with the number of records to `text`.
 #[tactic(auto, using(run_look::proofs::Texts::none_extends))]
 pub fn workshop<S: ByteSource, M: ByteStore, K: ByteSink>(
     alloc: Global,
@@ -112,6 +117,22 @@ pub fn workshop<S: ByteSource, M: ByteStore, K: ByteSink>(
     ensures check_complete { Told (S.left proof.old) (λ bytes. IsRun command.Check (said words.now)
         → NoPortFailed (uses_in (said words.now)) (faults S.faults M.faults K.faults pictures.old proof.old movie.old out.old cert.old text.old) (faults S.faults M.faults K.faults pictures.new proof.new movie.new out.new cert.new text.new)
         → CompletesCheck result bytes) }
+
+    // `reproof`: where the proof's bytes are told, they decide the answer. BadProof comes with their first fault and Refused with
+    // clause 6 at the first frame of the first record that fails it, whichever comes first.
+    ensures reproof { Told (S.left proof.old) (λ bytes. IsRun command.Reproof (said words.now) → AnswersReproof bytes result) }
+    // They decide all that is written, too: after Done the proof in format 2 and the line with the number of records; after a fault
+    // of the input the records in front of it, and no line. Where a port failed or memory ran out fronts of these were written.
+    ensures reproof_cert { Told (S.left proof.old) (λ bytes. IsRun command.Reproof (said words.now) → WritesUntil result (reproofed bytes).cert
+        (sink_state (K.held cert.old) (K.taken cert.old)) (sink_state (K.held cert.new) (K.taken cert.new))) }
+    ensures reproof_text { Told (S.left proof.old) (λ bytes. IsRun command.Reproof (said words.now) → WritesUntil result (reproofed bytes).text
+        (sink_state (K.held text.old) (K.taken text.old)) (sink_state (K.held text.new) (K.taken text.new))) }
+    // After Done the proof that was written has the settings and the records of the one that was read.
+    ensures reproof_same { Told (S.left proof.old) (λ bytes. IsRun command.Reproof (said words.now) → OnTrue (is_done result) (SaysTheSame bytes (reproofed bytes).cert)) }
+    // Where no port failed, a proof without a fault, whose layers all rise in size and fall in error, is Done, unless memory runs out.
+    ensures reproof_complete { Told (S.left proof.old) (λ bytes. IsRun command.Reproof (said words.now)
+        → NoPortFailed (uses_in (said words.now)) (faults S.faults M.faults K.faults pictures.old proof.old movie.old out.old cert.old text.old) (faults S.faults M.faults K.faults pictures.new proof.new movie.new out.new cert.new text.new)
+        → CompletesReproof result bytes) }
 {
     let settings = match settings_of(words) {
         Ok(settings) => settings,
@@ -126,5 +147,6 @@ pub fn workshop<S: ByteSource, M: ByteStore, K: ByteSink>(
         Command::Plan => plan(alloc, proof, text),
         Command::List => list(alloc, movie, text),
         Command::Check => check(alloc, proof, text),
+        Command::Reproof => reproof(alloc, proof, cert, text),
     }
 }

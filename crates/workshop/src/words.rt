@@ -18,6 +18,8 @@ pub enum Command {
     List,
     /// `check PROOF` checks the records of a proof.
     Check,
+    /// `reproof PROOF OUTPUT` writes a proof again in format 2.
+    Reproof,
 }
 
 /// For each port the number of the word that names its file.
@@ -54,6 +56,7 @@ impl Command {
             "plan" => Some(Command::Plan),
             "list" => Some(Command::List),
             "check" => Some(Command::Check),
+            "reproof" => Some(Command::Reproof),
             _ => None,
         }
     }
@@ -66,6 +69,7 @@ impl Command {
         match self {
             Command::Plan | Command::List => 1,
             Command::Check => 1,
+            Command::Reproof => 2,
         }
     }
 
@@ -76,6 +80,7 @@ impl Command {
         match self {
             Command::Plan | Command::List => operands == 1,
             Command::Check => operands == 1,
+            Command::Reproof => operands == 2,
         }
     }
 
@@ -86,6 +91,7 @@ impl Command {
         match self {
             Command::Plan | Command::List => false,
             Command::Check => false,
+            Command::Reproof => false,
         }
     }
 
@@ -104,6 +110,11 @@ impl Command {
             },
             Command::Check => Names {
                 proof: operands.first().copied(),
+                ..Names::none()
+            },
+            Command::Reproof => Names {
+                proof: operands.first().copied(),
+                cert: operands.get(1).copied(),
                 ..Names::none()
             },
         }
