@@ -1,3 +1,6 @@
 pub mod PlanTexts
 pub mod Tasks
 pub mod Encoded
+pub mod Checked
+pub mod Complete
+pub mod Reproofed

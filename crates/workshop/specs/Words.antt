@@ -25,40 +25,51 @@ use Rattle.workshop.specs.declared.status.UsageKind.TheVariants.{NoCommand, Unkn
 -- ---- the table of commands
 
 abbrev pub commands : List Command
-commands = command.Plan ∷ command.Encode ∷ command.List ∷ []
+commands = command.Plan ∷ command.Encode ∷ command.List ∷ command.Check ∷ command.Reproof ∷ []
 
 -- the word of each command
 abbrev pub name_of : Command → List ℕ
 name_of command.Plan = codes "plan"
 name_of command.Encode = codes "encode"
 name_of command.List = codes "list"
+name_of command.Check = codes "check"
+name_of command.Reproof = codes "reproof"
 
 -- how many operands each command may have, rising
 abbrev pub operands_of : Command → List ℕ
 operands_of command.Plan = 1 ∷ []
 operands_of command.Encode = 3 ∷ []
 operands_of command.List = 1 ∷ []
+operands_of command.Check = 1 ∷ []
+operands_of command.Reproof = 2 ∷ []
 
 -- the options of each command
 abbrev pub options_of : Command → List OptionName
 options_of command.Plan = []
 options_of command.Encode = option.Budget ∷ option.Lo ∷ option.Hi ∷ option.Log ∷ option.Matrix ∷ option.Raw ∷ option.Interlace ∷ option.Group ∷ option.Proof ∷ []
 options_of command.List = []
+options_of command.Check = []
+options_of command.Reproof = []
 
 -- an option is wanting that the command needs
 abbrev pub lacks_option : Command → Values → Bool
 lacks_option command.Plan v = false
 lacks_option command.Encode v = is_none v.budget
 lacks_option command.List v = false
+lacks_option command.Check v = false
+lacks_option command.Reproof v = false
 
 abbrev pub no_names : Names
 no_names = record { pictures = None; proof = None; movie = None; out = None; cert = None }
 
--- The ports that the operands name, by the numbers of their words: `plan TABLE`, `encode PICTURES MOVIE PROOF`, `list MOVIE`.
+-- The ports that the operands name, by the numbers of their words: `plan TABLE`, `encode PICTURES MOVIE PROOF`, `list MOVIE`,
+-- `check PROOF`, `reproof PROOF OUTPUT`.
 abbrev pub ports_of : Command → List ℕ → Names
 ports_of command.Plan operands = record no_names { proof = slice_get operands 0 }
 ports_of command.Encode operands = record no_names { pictures = slice_get operands 0; out = slice_get operands 1; cert = slice_get operands 2 }
 ports_of command.List operands = record no_names { movie = slice_get operands 0 }
+ports_of command.Check operands = record no_names { proof = slice_get operands 0 }
+ports_of command.Reproof operands = record no_names { proof = slice_get operands 0; cert = slice_get operands 1 }
 
 -- which ports a run uses: it reads `pictures`, `proof` and `movie`, and writes `out`, `cert` and `text`
 pub record Ports : Type 0 where
@@ -76,6 +87,8 @@ abbrev pub uses_of : Task → Ports
 uses_of task.Plan = record no_ports { proof = true; text = true }
 uses_of (task.Encode w) = record no_ports { pictures = true; out = true; cert = true; text = true }
 uses_of task.List = record no_ports { movie = true; text = true }
+uses_of task.Check = record no_ports { proof = true; text = true }
+uses_of task.Reproof = record no_ports { proof = true; cert = true; text = true }
 
 -- ---- the values of options, and what stands for one that is absent
 
@@ -115,12 +128,16 @@ clash command.Encode v = nat_lt (encode_words v).hi (encode_words v).lo
     || has_odd_form (encode_words v).raw
     || not (nat_lt ((encode_words v).group * (encode_words v).budget) (2 ^ 31))
 clash command.List v = false
+clash command.Check v = false
+clash command.Reproof v = false
 
 -- what a command is to do
 abbrev pub task_of : Command → Values → Task
 task_of command.Plan v = task.Plan
 task_of command.Encode v = task.Encode (encode_words v)
 task_of command.List v = task.List
+task_of command.Check v = task.Check
+task_of command.Reproof v = task.Reproof
 
 -- ---- the walk over the words
 
@@ -223,6 +240,8 @@ abbrev pub command_of : Task → Command
 command_of task.Plan = command.Plan
 command_of (task.Encode w) = command.Encode
 command_of task.List = command.List
+command_of task.Check = command.Check
+command_of task.Reproof = command.Reproof
 
 -- the ports that the run uses: none where the words have a fault
 abbrev pub uses_in : Said → Ports
@@ -267,3 +286,5 @@ abbrev pub IsTask : Task → Type 0
 IsTask task.Plan = Unit {0}
 IsTask (task.Encode w) = AreWords w
 IsTask task.List = Unit {0}
+IsTask task.Check = Unit {0}
+IsTask task.Reproof = Unit {0}

@@ -1,6 +1,7 @@
 //! The program `workshop`.
 #![tactic(auto)]
 
+mod checking;
 mod encode;
 mod listing;
 mod options;
@@ -8,6 +9,7 @@ mod plan;
 mod ports;
 mod process;
 mod raw_form;
+mod reproofing;
 mod status;
 #[cfg(test)]
 mod tests;

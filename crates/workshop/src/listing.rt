@@ -16,7 +16,7 @@ use run_look::{LookEnd, list_run};
 use std::alloc::Global;
 
 /// The answer with the fields of a run's end.
-fn status_of(end: LookEnd) -> Status
+pub(crate) fn status_of(end: LookEnd) -> Status
     ensures { result ≡ status_of end }
 {
     match end {

@@ -18,10 +18,15 @@ ghost use Rattle.run_encode.specs.declared.job.EncodeWords.{EncodeWords};
 ghost use Rattle.run_encode.specs.Outputs.{outputs};
 ghost use Rattle.workshop.specs.Encoding.{AnswersEncode, HoldsHeadline, CompletesEncode};
 ghost use Rattle.workshop.specs.Listing.{AnswersList, CompletesList};
+ghost use Rattle.workshop.specs.Checking.{AnswersCheck, PrintsChecked, CompletesCheck};
+ghost use Rattle.run_look.specs.Reproofing.{reproofed, SaysTheSame};
+ghost use Rattle.workshop.specs.Reproofing.{AnswersReproof, WritesUntil, CompletesReproof};
 
+use crate::checking::check;
 use crate::encode::encode;
 use crate::listing::list;
 use crate::plan::plan;
+use crate::reproofing::reproof;
 use crate::status::Status;
 use crate::words::{Task, settings_of};
 use pw_outside::{ByteSink, ByteSource, ByteStore};
@@ -37,6 +42,10 @@ use std::alloc::Global;
 ///   that each group's choice is best to `cert`, and a line for each frame to `text`.
 /// - `list MOVIE` reads a QuickTime movie through `movie`, and writes a line for its first track of ProRes and
 ///   one for each of the track's samples to `text`.
+/// - `check PROOF` reads a proof through `proof` to its end, checks each record by itself, and writes a line with
+///   the number of records to `text`.
+/// - `reproof PROOF OUTPUT` reads a proof of either format through `proof` to its end, writes it in format 2 to
+///   `cert`, and a line with the number of records to `text`.
 #[tactic(auto, using(run_look::proofs::Texts::none_extends))]
 pub fn workshop<S: ByteSource, M: ByteStore, K: ByteSink>(
     alloc: Global,
@@ -120,6 +129,34 @@ pub fn workshop<S: ByteSource, M: ByteStore, K: ByteSink>(
     ensures list_complete { Told (M.bytes movie.old) (λ file. IsRun task.List (said words.now)
         → NoPortFailed (uses_in (said words.now)) (faults S.faults M.faults K.faults pictures.old proof.old movie.old out.old cert.old text.old) (faults S.faults M.faults K.faults pictures.new proof.new movie.new out.new cert.new text.new)
         → CompletesList result (movie_in file)) }
+
+    // `check`: where the proof's bytes are told, they decide the answer. BadProof comes with their first fault and Refused with the
+    // first clause that fails at the first frame of its record, whichever comes first.
+    ensures check { Told (S.left proof.old) (λ bytes. IsRun task.Check (said words.now) → AnswersCheck bytes result) }
+    // After Done the line with the number of records was appended, whole; after a fault of writing a front of it, and after every
+    // other answer nothing.
+    ensures check_text { Told (S.left proof.old) (λ bytes. IsRun task.Check (said words.now) →
+        PrintsChecked bytes result (sink_state (K.held text.old) (K.taken text.old)) (sink_state (K.held text.new) (K.taken text.new))) }
+    // Where no port failed, a proof without a fault whose records are all good is Done, unless memory runs out.
+    ensures check_complete { Told (S.left proof.old) (λ bytes. IsRun task.Check (said words.now)
+        → NoPortFailed (uses_in (said words.now)) (faults S.faults M.faults K.faults pictures.old proof.old movie.old out.old cert.old text.old) (faults S.faults M.faults K.faults pictures.new proof.new movie.new out.new cert.new text.new)
+        → CompletesCheck result bytes) }
+
+    // `reproof`: where the proof's bytes are told, they decide the answer. BadProof comes with their first fault and Refused with
+    // clause 6 at the first frame of the first record that fails it, whichever comes first.
+    ensures reproof { Told (S.left proof.old) (λ bytes. IsRun task.Reproof (said words.now) → AnswersReproof bytes result) }
+    // They decide all that is written, too: after Done the proof in format 2 and the line with the number of records; after a fault
+    // of the input the records in front of it, and no line. Where a port failed or memory ran out fronts of these were written.
+    ensures reproof_cert { Told (S.left proof.old) (λ bytes. IsRun task.Reproof (said words.now) → WritesUntil result (reproofed bytes).cert
+        (sink_state (K.held cert.old) (K.taken cert.old)) (sink_state (K.held cert.new) (K.taken cert.new))) }
+    ensures reproof_text { Told (S.left proof.old) (λ bytes. IsRun task.Reproof (said words.now) → WritesUntil result (reproofed bytes).text
+        (sink_state (K.held text.old) (K.taken text.old)) (sink_state (K.held text.new) (K.taken text.new))) }
+    // After Done the proof that was written has the settings and the records of the one that was read.
+    ensures reproof_same { Told (S.left proof.old) (λ bytes. IsRun task.Reproof (said words.now) → OnTrue (is_done result) (SaysTheSame bytes (reproofed bytes).cert)) }
+    // Where no port failed, a proof without a fault, whose layers all rise in size and fall in error, is Done, unless memory runs out.
+    ensures reproof_complete { Told (S.left proof.old) (λ bytes. IsRun task.Reproof (said words.now)
+        → NoPortFailed (uses_in (said words.now)) (faults S.faults M.faults K.faults pictures.old proof.old movie.old out.old cert.old text.old) (faults S.faults M.faults K.faults pictures.new proof.new movie.new out.new cert.new text.new)
+        → CompletesReproof result bytes) }
 {
     let settings = match settings_of(words) {
         Ok(settings) => settings,
@@ -134,5 +171,7 @@ pub fn workshop<S: ByteSource, M: ByteStore, K: ByteSink>(
         Task::Plan => plan(alloc, proof, text),
         Task::Encode(values) => encode(alloc, &values, pictures, out, cert, text),
         Task::List => list(alloc, movie, text),
+        Task::Check => check(alloc, proof, text),
+        Task::Reproof => reproof(alloc, proof, cert, text),
     }
 }

@@ -25,6 +25,10 @@ pub enum Command {
     Encode,
     /// `list MOVIE` prints the track of a movie and its samples.
     List,
+    /// `check PROOF` checks the records of a proof.
+    Check,
+    /// `reproof PROOF OUTPUT` writes a proof again in format 2.
+    Reproof,
 }
 
 /// For each port the number of the word that names its file.
@@ -50,6 +54,8 @@ pub enum Task {
     Plan,
     Encode(EncodeWords),
     List,
+    Check,
+    Reproof,
 }
 
 /// What is to be done, with the numbers of the words that are operands.
@@ -69,6 +75,8 @@ impl Command {
             "plan" => Some(Command::Plan),
             "encode" => Some(Command::Encode),
             "list" => Some(Command::List),
+            "check" => Some(Command::Check),
+            "reproof" => Some(Command::Reproof),
             _ => None,
         }
     }
@@ -79,8 +87,9 @@ impl Command {
         ensures few { result ≤ 5 }
     {
         match self {
-            Command::Plan | Command::List => 1,
+            Command::Plan | Command::List | Command::Check => 1,
             Command::Encode => 3,
+            Command::Reproof => 2,
         }
     }
 
@@ -89,8 +98,9 @@ impl Command {
         ensures { result ≡ takes self operands }
     {
         match self {
-            Command::Plan | Command::List => operands == 1,
+            Command::Plan | Command::List | Command::Check => operands == 1,
             Command::Encode => operands == 3,
+            Command::Reproof => operands == 2,
         }
     }
 
@@ -99,7 +109,7 @@ impl Command {
         ensures { result.now ≡ options_of self }
     {
         match self {
-            Command::Plan | Command::List => &[],
+            Command::Plan | Command::List | Command::Check | Command::Reproof => &[],
             Command::Encode => &[
                 OptionName::Budget,
                 OptionName::Lo,
@@ -132,7 +142,7 @@ impl Command {
         ensures { result ≡ lacks_option self values.now }
     {
         match self {
-            Command::Plan | Command::List => false,
+            Command::Plan | Command::List | Command::Check | Command::Reproof => false,
             Command::Encode => values.budget.is_none(),
         }
     }
@@ -143,7 +153,7 @@ impl Command {
         ensures { result ≡ clash self values.now }
     {
         match self {
-            Command::Plan | Command::List => false,
+            Command::Plan | Command::List | Command::Check | Command::Reproof => false,
             Command::Encode => {
                 let words = encode_words(values);
                 words.hi < words.lo
@@ -162,6 +172,8 @@ impl Command {
             Command::Plan => Task::Plan,
             Command::Encode => Task::Encode(encode_words(values)),
             Command::List => Task::List,
+            Command::Check => Task::Check,
+            Command::Reproof => Task::Reproof,
         }
     }
 
@@ -184,6 +196,15 @@ impl Command {
                 movie: operands.first().copied(),
                 ..Names::none()
             },
+            Command::Check => Names {
+                proof: operands.first().copied(),
+                ..Names::none()
+            },
+            Command::Reproof => Names {
+                proof: operands.first().copied(),
+                cert: operands.get(1).copied(),
+                ..Names::none()
+            },
         }
     }
 }
@@ -197,6 +218,8 @@ impl Task {
             Task::Plan => Command::Plan,
             Task::Encode(_) => Command::Encode,
             Task::List => Command::List,
+            Task::Check => Command::Check,
+            Task::Reproof => Command::Reproof,
         }
     }
 }

@@ -5,6 +5,9 @@ use Rattle.workshop.specs.Encoding.{CompletesEncode}
 use Rattle.workshop.specs.Words.{said, settled}
 use Rattle.workshop.proofs.Encoded.{quiet, same-words}
 use Rattle.workshop.proofs.top.workshop.Goals as goal
+use Rattle.workshop.specs.Listing.{status_of}
+use Rattle.workshop.specs.Status.{AnswersUnlessOutside}
+use Rattle.workshop.proofs.Complete.{check_completes, reproof_completes, reproof_writes}
 
 pub returns-in-Encode-clause-encode_complete : goal.returns-in-Encode-clause-encode_complete
 returns-in-Encode-clause-encode_complete g c = λ told w is none.
@@ -12,3 +15,12 @@ returns-in-Encode-clause-encode_complete g c = λ told w is none.
     let same = same-words (said c.args.words.now) (settled c.in-Ok.settings) c.in-Encode.values w c.in-Ok.ensures.value c.in-Encode.is is in
     subst (λ v. CompletesEncode v (pictures_of v.raw (bytes_of (g.S.ByteSource.left c.args.pictures.now))) c.encode.result) same
     (c.encode.ensures.complete told none.0 none.1)
+
+pub returns-in-Check-clause-check_complete : goal.returns-in-Check-clause-check_complete
+returns-in-Check-clause-check_complete g c = λ told run none records done.
+    check_completes (said c.args.words.now) c.check.result _ _ run none c.check.ensures.read c.check.ensures.write (c.check.ensures.yes told records done)
+
+pub returns-in-Reproof-clause-reproof_complete : goal.returns-in-Reproof-clause-reproof_complete
+returns-in-Reproof-clause-reproof_complete g c = λ told run none done.
+    reproof_completes (said c.args.words.now) c.reproof.result _ _ run none c.reproof.ensures.read c.reproof.ensures.write
+    (subst (λ end. AnswersUnlessOutside c.reproof.result (status_of end)) done (c.reproof.ensures.answer told))
