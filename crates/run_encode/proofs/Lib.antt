@@ -8,6 +8,7 @@ mod Ending
 mod Turning
 mod Running
 mod Beginning
+mod Extending
 mod Printing
 mod Gathering
 mod FramesLeft

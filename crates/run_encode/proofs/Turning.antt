@@ -121,7 +121,15 @@ never P false e = tt
 
 pub counts-kept : {X : Type 0} (faults : X → ℕ) (out cert text : X) (b : Bool) → b ≡ false → CountsFaults faults out cert text out cert text b
 counts-kept faults out cert text true e = cc
-counts-kept faults out cert text false e = record { rose = tt; out_kept = refl; cert_kept = refl; text_kept = refl }
+counts-kept faults out cert text false e = record {
+  out_later = omega arith;
+  cert_later = omega arith;
+  text_later = omega arith;
+  rose = tt;
+  out_kept = refl;
+  cert_kept = refl;
+  text_kept = refl;
+}
 
 pub nonempty : (n : ℕ) (b : Bool) → b ≡ (n == 0) → b ≡ false → 1 ≤ n
 nonempty zero b e f = cc

@@ -3,6 +3,7 @@ use Rattle.std.proofs.lemmas.List.{length-map}
 use Rattle.run_encode.specs.Groups.{coefficients_in}
 use Rattle.run_encode.specs.Steps.{counts_of}
 use Rattle.run_encode.proofs.Beginning.{nothing-put}
+use Rattle.run_encode.proofs.Extending.{none-extends, all-extends, stops-extends}
 use Rattle.run_encode.proofs.Turning.{wrote, stopped, unread, counts-kept, nonempty, frames-number}
 use Rattle.run_encode.proofs.turn.take_turn.Goals as goal
 
@@ -62,3 +63,18 @@ returns-clause-turn g c = λ told.
     let one = nonempty _ _ c.is_empty.ensures c.if-is_empty.false in
     let some : 1 ≤ length r.pictures = omega (arith, n, one, c.in-Ok.frames.ok.0) in
     stopped _ _ _ _ _ _ r told some _ _ _ (counts_of c.args.movie.now c.args.proof.now) (counts_of c.encode_frames.new.movie c.encode_frames.new.proof) _ _ c.in-Err-encode_frames.end (c.frames-number.ensures.value ∙ c.requires.number) c.deref.ensures.value c.in-Err-encode_frames.ensures.ends
+
+pub returns-in-Err-clause-extends : goal.returns-in-Err-clause-extends
+returns-in-Err-clause-extends g c = none-extends _ (g.met.K.ByteSink.counts c.args.out.now).1 (g.met.K.ByteSink.counts c.args.cert.now).1 (g.met.K.ByteSink.counts c.args.text.now).1
+
+pub returns-then-is_empty-clause-extends : goal.returns-then-is_empty-clause-extends
+returns-then-is_empty-clause-extends g c = none-extends _ (g.met.K.ByteSink.counts c.args.out.now).1 (g.met.K.ByteSink.counts c.args.cert.now).1 (g.met.K.ByteSink.counts c.args.text.now).1
+
+pub returns-then-len-from-clause-extends : goal.returns-then-len-from-clause-extends
+returns-then-len-from-clause-extends g c = all-extends _ _ _ c.in-Ok-encode_frames.ensures.ends.puts
+
+pub returns-in-Ok-encode_frames-clause-extends : goal.returns-in-Ok-encode_frames-clause-extends
+returns-in-Ok-encode_frames-clause-extends g c = all-extends _ _ _ c.in-Ok-encode_frames.ensures.ends.puts
+
+pub returns-clause-extends : goal.returns-clause-extends
+returns-clause-extends g c = stops-extends _ _ _ (counts_of c.args.movie.now c.args.proof.now) (counts_of c.encode_frames.new.movie c.encode_frames.new.proof) c.in-Err-encode_frames.end _ _ c.in-Err-encode_frames.ensures.ends
