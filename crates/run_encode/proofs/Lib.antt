@@ -11,3 +11,4 @@ mod Proving
 mod Whole
 mod Going
 mod Headlines
+mod Alone
