@@ -26,3 +26,4 @@ mod Whole
 mod Going
 mod Headlines
 mod Strong
+mod Alone

@@ -25,3 +25,8 @@ CutHasHeadline = (j : Job) (ps : Pictures) (frame : ℕ) (coded : List Group) �
 abbrev pub EncodingGoesOn : Type 0
 EncodingGoesOn = (j : Job) (ps : Pictures) (coded : List Group) → IsJob j → ArePictures j.head ps → AreFirst j ps coded
     → (end : EncodeEnd) × (lists : Lists) × Encodes j ps end lists × ((more : Lists) × (joined (cut_lists j coded) more ≡ lists))
+
+-- Encoding gives one answer alone, and one list for each sink.
+abbrev pub EncodingIsOne : Type 0
+EncodingIsOne = (j : Job) (ps : Pictures) (end end' : EncodeEnd) (lists lists' : Lists) → IsJob j → ArePictures j.head ps
+    → Encodes j ps end lists → Encodes j ps end' lists' → (end ≡ end') × (lists ≡ lists')

@@ -1,6 +1,6 @@
 //! Laws of encoding, over the definitions alone.
 
-ghost use Rattle.run_encode.specs.Laws.{EncodedHasHeadline, CutHasHeadline, EncodingGoesOn};
+ghost use Rattle.run_encode.specs.Laws.{EncodedHasHeadline, CutHasHeadline, EncodingGoesOn, EncodingIsOne};
 
 use pr_frame::{written_has_length, written_stands};
 use qt_movie::{written_frames_are_read, written_movie_is_read};
@@ -8,8 +8,8 @@ use rate_build::{
     coded_can_be_written, coefficients_are_of_layout, frame_has_table_size, group_table_is_table,
 };
 use rate_cert::proof_is_read_again;
-use rate_layers::{kept_exist, kept_is_good, multiplier_exists, multiplier_is_one};
-use rate_table::{best_exists, good_is_least, none_fits_below_least};
+use rate_layers::{kept_are_one, kept_exist, kept_is_good, multiplier_exists, multiplier_is_one};
+use rate_table::{best_exists, best_is_one, good_is_least, none_fits_below_least};
 
 /// What encoding gives has the headline, where the layers of no group are too many.
 pub fn encoded_has_headline()
@@ -55,4 +55,15 @@ pub fn encoding_goes_on()
     best_exists();
     multiplier_exists();
     kept_exist();
+}
+
+/// Encoding gives one answer alone, and one list of bytes for each sink.
+pub fn encoding_is_one()
+    ensures { EncodingIsOne }
+{
+    coefficients_are_of_layout();
+    group_table_is_table();
+    best_is_one();
+    multiplier_is_one();
+    kept_are_one();
 }

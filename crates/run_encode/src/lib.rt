@@ -20,5 +20,5 @@ mod turn;
 
 pub use end::EncodeEnd;
 pub use job::{EncodeWords, Job};
-pub use laws::{cut_has_headline, encoded_has_headline, encoding_goes_on};
+pub use laws::{cut_has_headline, encoded_has_headline, encoding_goes_on, encoding_is_one};
 pub use run::encode_run;
