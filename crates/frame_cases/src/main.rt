@@ -1,15 +1,16 @@
 //! Reads frames in memory, one a line of standard input in hexadecimal, and prints for each its size, its form, its
-//! indices and a hash of all that it stands for, or its first fault: the cases of an independent reference are compared
-//! with it.
+//! indices, a hash of all that it stands for and hashes of the picture that it shows at each depth, or its first fault: the
+//! cases of an independent reference are compared with it.
 #![tactic(auto)]
 
 ghost use Rattle.std.specs.Prelude.{◌<◌, IfSome};
+ghost use Rattle.pr_frame.specs.Coded.{IsCodedFrame};
 
 use pr_coeff::Block;
-use pr_frame::{CodedFrame, CodedSlice, read_frame};
+use pr_frame::{CodedFrame, CodedSlice, Shown, read_frame, read_shown, show};
 use pr_head::{FrameFault, FrameHeader};
 use pw_outside::{MemSource, NoMemory};
-use pw_planes::{AlphaKind, Chroma, Interlace};
+use pw_planes::{AlphaKind, Chroma, Depth, Interlace, Picture};
 use pw_text::{put_decimal, put_words};
 use std::io;
 
@@ -241,36 +242,118 @@ fn hash_of(bytes: &[u8]) -> u64 {
     hash
 }
 
+/// Appends a hash in hexadecimal.
+fn put_hash(text: &mut Vec<u8>, hash: u64) -> Result<(), NoMemory> {
+    for byte in hash.to_be_bytes() {
+        put_byte(text, byte)?;
+    }
+    Ok(())
+}
+
+/// The hash, gone on with samples of two bytes each, the low one first.
+fn hash_with(hash: u64, samples: &[u16]) -> u64 {
+    let mut hash = hash;
+    for sample in samples {
+        for byte in sample.to_le_bytes() {
+            hash = (hash ^ u64::from(byte)).wrapping_mul(0x100_0000_01b3);
+        }
+    }
+    hash
+}
+
+/// The hash of a picture's planes.
+fn picture_hash(picture: &Picture) -> u64 {
+    let mut hash = hash_with(0xcbf2_9ce4_8422_2325, picture.y.samples());
+    hash = hash_with(hash, picture.cb.samples());
+    hash = hash_with(hash, picture.cr.samples());
+    match &picture.alpha {
+        Some(alpha) => hash_with(hash, alpha.samples()),
+        None => hash,
+    }
+}
+
 /// Appends what is printed of a frame.
 fn put_answer(text: &mut Vec<u8>, whole: &[u8], frame: &CodedFrame) -> Result<(), NoMemory> {
     put_words(text, "ok ")?;
     put_form(text, &frame.header)?;
     put_indices(text, frame)?;
     put_words(text, " dump ")?;
-    for byte in hash_of(whole).to_be_bytes() {
-        put_byte(text, byte)?;
-    }
-    Ok(())
+    put_hash(text, hash_of(whole))
 }
 
-/// The line of a sample.
-fn line_of(rt: &HostRuntime, sample: Vec<u8>) -> io::Result<Result<Vec<u8>, FrameFault>> {
+/// Appends the hashes of the pictures that a frame shows at 8 and at 10 bits.
+fn put_pictures(rt: &HostRuntime, text: &mut Vec<u8>, frame: &CodedFrame) -> Result<(), NoMemory>
+    requires { IsCodedFrame frame.now }
+{
+    put_words(text, " shown ")?;
+    put_hash(text, picture_hash(&show(rt.alloc(), frame, Depth::D8)?))?;
+    put_words(text, " ")?;
+    put_hash(text, picture_hash(&show(rt.alloc(), frame, Depth::D10)?))
+}
+
+/// Appends the hash of the picture that was read at once, at 12 bits.
+fn put_shown(text: &mut Vec<u8>, shown: &Shown) -> Result<(), NoMemory> {
+    put_words(text, " ")?;
+    put_hash(text, picture_hash(&shown.picture))
+}
+
+/// Whether what was told of a sample that was shown at once is what its frame has.
+fn is_told(frame: &CodedFrame, shown: &Shown) -> bool {
+    let mut least = 255;
+    let mut greatest = 0;
+    for picture in frame.pictures.as_slice() {
+        for slice in picture.slices.as_slice() {
+            least = slice.index.min(least);
+            greatest = slice.index.max(greatest);
+        }
+    }
+    least == shown.least_index
+        && greatest == shown.greatest_index
+        && frame.header.width == shown.header.width
+        && frame.header.height == shown.header.height
+}
+
+/// What is printed of a frame that was read, and of its sample that was shown at once.
+fn text_of(rt: &HostRuntime, frame: &CodedFrame, shown: &Shown) -> Result<Vec<u8>, NoMemory>
+    requires { IsCodedFrame frame.now }
+{
+    let mut whole = Vec::new(rt.alloc());
+    let mut line = Vec::new(rt.alloc());
+    put_frame(&mut whole, frame)?;
+    put_answer(&mut line, &whole, frame)?;
+    put_pictures(rt, &mut line, frame)?;
+    put_shown(&mut line, shown)?;
+    if !is_told(frame, shown) {
+        put_words(&mut line, " told otherwise")?;
+    }
+    Ok(line)
+}
+
+/// The line of a sample, of which a copy is shown at once.
+fn line_of(
+    rt: &HostRuntime,
+    sample: Vec<u8>,
+    copy: Vec<u8>,
+) -> io::Result<Result<Vec<u8>, FrameFault>> {
     let alloc = rt.alloc();
     let size = match u32::try_from(sample.len()) {
-        Ok(size) => size,
-        Err(_) => return Ok(Err(FrameFault::NoMemory)),
+        Ok(size) if copy.len() == sample.len() => size,
+        _ => return Ok(Err(FrameFault::NoMemory)),
     };
     let mut source = MemSource::new(sample, 7, Vec::new(alloc));
     let frame = match read_frame(alloc, &mut source, size) {
         Ok(frame) => frame,
         Err(fault) => return Ok(Err(fault)),
     };
-    let mut whole = Vec::new(alloc);
-    let mut line = Vec::new(alloc);
-    if put_frame(&mut whole, &frame).is_err() || put_answer(&mut line, &whole, &frame).is_err() {
-        return Ok(Err(FrameFault::NoMemory));
+    let mut source = MemSource::new(copy, 5, Vec::new(alloc));
+    let shown = match read_shown(alloc, &mut source, size, Depth::D12) {
+        Ok(shown) => shown,
+        Err(fault) => return Ok(Err(fault)),
+    };
+    match text_of(rt, &frame, &shown) {
+        Ok(line) => Ok(Ok(line)),
+        Err(_) => Ok(Err(FrameFault::NoMemory)),
     }
-    Ok(Ok(line))
 }
 
 fn print(rt: &HostRuntime, answer: Result<Vec<u8>, FrameFault>) -> io::Result<()> {
@@ -285,12 +368,12 @@ fn print(rt: &HostRuntime, answer: Result<Vec<u8>, FrameFault>) -> io::Result<()
 fn main(rt: HostRuntime) -> io::Result<()> {
     for line in rt.lines(rt.alloc()) {
         let line = line?;
-        match bytes_of(&rt, line.as_str())? {
-            Some(sample) => {
-                let answer = line_of(&rt, sample)?;
+        match (bytes_of(&rt, line.as_str())?, bytes_of(&rt, line.as_str())?) {
+            (Some(sample), Some(copy)) => {
+                let answer = line_of(&rt, sample, copy)?;
                 print(&rt, answer)?;
             }
-            None => println!(&rt; "no hexadecimal")?,
+            _ => println!(&rt; "no hexadecimal")?,
         }
     }
     Ok(())

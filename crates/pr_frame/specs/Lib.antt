@@ -4,4 +4,6 @@ pub mod Coded
 pub mod Ready
 pub mod Stands
 pub mod Reading
+pub mod Shown
+pub mod Placing
 pub mod Laws

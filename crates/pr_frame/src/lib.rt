@@ -4,7 +4,11 @@
 mod coded;
 mod laws;
 mod parts;
+mod pictures;
+mod placing;
+mod products;
 mod read;
+mod showing;
 mod size;
 mod slices;
 #[cfg(test)]
@@ -18,6 +22,8 @@ pub use laws::{
     frame_has_no_fault, frame_or_fault, one_frame, slices_are_short, written_has_length,
     written_is_read_again, written_stands,
 };
+pub use pictures::show;
 pub use read::read_frame;
+pub use showing::{Shown, read_shown};
 pub use size::frame_length;
 pub use write::{write_frame, write_slice};

@@ -1,9 +1,12 @@
 //! Frames read from memory.
 
-use crate::{CodedFrame, read_frame};
+ghost use Rattle.std.specs.Prelude.{IfOk};
+ghost use Rattle.pr_frame.specs.Coded.{IsCodedFrame};
+
+use crate::{CodedFrame, Shown, read_frame, read_shown, show};
 use pr_head::{FrameFault, FrameKind};
 use pw_outside::MemSource;
-use pw_planes::{AlphaKind, Chroma, Interlace};
+use pw_planes::{AlphaKind, Chroma, Depth, Interlace};
 use std::alloc::Global;
 use std::process::Abort;
 
@@ -14,6 +17,10 @@ const START: [u8; 28] =
 // its picture: header, table and one slice
 const PICTURE: [u8; 22] =
     *b"\x40\x00\x00\x00\x16\x00\x01\x30\x00\x0c\x30\x01\x00\x02\x00\x02\x82\x30\x82\x00\x82\x00";
+
+// the picture of a field of 16 by 16, whose luma is the same everywhere
+const FIELD: [u8; 23] =
+    *b"\x40\x00\x00\x00\x17\x00\x01\x30\x00\x0d\x30\x01\x00\x03\x00\x02\x05\xa0\x8c\x82\x00\x82\x00";
 
 // the frame of 178 bytes, with some bytes written over, cut to a length, and bytes behind it
 fn frame(
@@ -42,12 +49,9 @@ fn frame(
     bytes
 }
 
-fn read(
-    rt: &impl Abort,
-    alloc: Global,
-    bytes: Vec<u8>,
-    fail: u64,
-) -> Result<CodedFrame, FrameFault> {
+fn read(rt: &impl Abort, alloc: Global, bytes: Vec<u8>, fail: u64) -> Result<CodedFrame, FrameFault>
+    ensures { IfOk result IsCodedFrame }
+{
     let size = bytes.len();
     assert!(rt; size <= 1000);
     let fails = Vec::from_array(alloc, [fail]).expect(rt, "memory");
@@ -215,5 +219,84 @@ fn failed_calls_are_answered(rt: HostRuntime) {
             _ => false,
         };
         assert!(rt; failed, "{fail}");
+    }
+}
+
+// a frame of 16 by 32 whose bottom field comes first
+fn fields(rt: &impl Abort, alloc: Global) -> Vec<u8> {
+    let mut bytes = Vec::from_elem(alloc, 4, 202).expect(rt, "memory");
+    for (at, byte) in START.iter().enumerate() {
+        bytes[at] = *byte;
+    }
+    bytes[3] = 0xca;
+    bytes[19] = 32;
+    bytes[20] = 0x88;
+    for (at, byte) in FIELD.iter().enumerate() {
+        bytes[156 + at] = *byte;
+        bytes[179 + at] = *byte;
+    }
+    // the luma of the second field
+    bytes[195] = 0x07;
+    bytes[196] = 0x1f;
+    bytes[197] = 0x8c;
+    bytes
+}
+
+fn shown(rt: &impl Abort, alloc: Global, bytes: Vec<u8>, depth: Depth) -> Shown {
+    let size = bytes.len();
+    assert!(rt; size <= 1000);
+    let mut source = MemSource::new(bytes, 7, Vec::new(alloc));
+    match read_shown(alloc, &mut source, size as u32, depth) {
+        Ok(shown) => shown,
+        Err(_) => panic!(rt; "a fault"),
+    }
+}
+
+#[test]
+fn fields_are_woven(rt: HostRuntime) {
+    let bytes = fields(&rt, rt.alloc());
+    let shown = shown(&rt, rt.alloc(), bytes, Depth::D10);
+    assert_eq!(rt; (shown.least_index, shown.greatest_index), (1, 1));
+    assert_eq!(rt;
+        (shown.picture.y.width(), shown.picture.y.height()),
+        (16, 32)
+    );
+    for row in 0..32 {
+        let wanted = if row % 2 == 0 { 400 } else { 600 };
+        for column in 0..16 {
+            assert_eq!(rt; shown.picture.y.sample(column, row), wanted, "{row}");
+        }
+    }
+    assert!(rt;
+        shown
+            .picture
+            .cb
+            .samples()
+            .iter()
+            .all(|sample| *sample == 512)
+    );
+    assert!(rt;
+        shown
+            .picture
+            .cr
+            .samples()
+            .iter()
+            .all(|sample| *sample == 512)
+    );
+    assert!(rt; shown.picture.alpha.is_none());
+}
+
+#[test]
+fn a_grey_frame_is_shown(rt: HostRuntime) {
+    for (depth, wanted) in [(Depth::D8, 128), (Depth::D10, 512), (Depth::D12, 2048)] {
+        let bytes = frame(&rt, rt.alloc(), &[], 178, 0);
+        let coded = match read(&rt, rt.alloc(), bytes, 1000) {
+            Ok(coded) => coded,
+            Err(_) => panic!(rt; "a fault"),
+        };
+        let picture = show(rt.alloc(), &coded, depth).expect(&rt, "memory");
+        assert_eq!(rt; picture.y.samples().len(), 256);
+        assert!(rt; picture.y.samples().iter().all(|sample| *sample == wanted));
+        assert!(rt; picture.cb.samples().iter().all(|sample| *sample == wanted));
     }
 }

@@ -74,8 +74,8 @@ fn header_of(
 }
 
 /// Writes one slice of a frame of this interlace mode and this kind of alpha: its header, and the data of its components
-/// and of its alpha values. Each component has 1 to 32 blocks of values of magnitude at most 8,191. There are no alpha
-/// values where the frame has no alpha, and else 1 to 2,048 of 8 or 16 bits. It takes no memory.
+/// and of its alpha values. The index is one from 1 to 224. Each component has 1 to 32 blocks of values of magnitude at most
+/// 8,191. There are no alpha values where the frame has no alpha, and else 1 to 2,048 of 8 or 16 bits. It takes no memory.
 ///
 /// `Failed` where a call of the sink failed; it then has taken a front of the slice's bytes.
 pub fn write_slice<K: ByteSink>(

@@ -1,0 +1,45 @@
+//! Blocks, from quantised values to samples.
+
+ghost use Rattle.std.specs.Prelude.{◌≡◌, ◌^◌, ◌≤◌, nat_abs, map};
+ghost use Rattle.pr_dct.specs.Transform.{AreWithin};
+ghost use Rattle.pr_frame.specs.Shown.{products, samples_shown, shown_block};
+
+use pr_coeff::Block;
+use pr_dct::{inverse, sample_out};
+use pr_quant::{dequantise, scale};
+use pw_planes::Depth;
+
+/// The products of the quantised values of a block, each with its weight and the factor of the index.
+fn products_of(weights: &[u8; 64], index: u8, block: &Block) -> [i32; 64]
+    requires least { 1 ≤ index }
+    requires most { index ≤ 224 }
+    ensures value { result ≡ products weights.now index block.now }
+    ensures within { AreWithin (2 ^ 19) result }
+{
+    let factor = scale(index);
+    let mut products = [0; 64];
+    for place in 0..64 {
+        products[place] = dequantise(block[place], u32::from(weights[place]) * factor);
+    }
+    products
+}
+
+/// Values of a block as samples of a depth.
+fn samples_of(depth: Depth, values: &[i32; 64]) -> [u16; 64]
+    ensures { result ≡ samples_shown depth values.now }
+{
+    let mut samples = [0; 64];
+    for place in 0..64 {
+        samples[place] = sample_out(depth, values[place]);
+    }
+    samples
+}
+
+/// The samples that a block shows.
+pub(crate) fn shown_block(depth: Depth, weights: &[u8; 64], index: u8, block: &Block) -> [u16; 64]
+    requires least { 1 ≤ index }
+    requires most { index ≤ 224 }
+    ensures { result ≡ shown_block depth weights.now index block.now }
+{
+    samples_of(depth, &inverse(&products_of(weights, index, block)))
+}
