@@ -1,1 +1,4 @@
+pub mod Ends
 pub mod Listing
+pub mod Checking
+pub mod Reproofing

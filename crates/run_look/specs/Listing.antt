@@ -1,5 +1,5 @@
 -- What listing a movie prints and answers. Our own definitions.
-use Rattle.std.specs.Prelude.{◌≡◌, ℕ, ◌+◌, Bool, true, false, List, [], ◌∷◌, ◌++◌, length, Result, Ok, Err, codes}
+use Rattle.std.specs.Prelude.{ℕ, ◌+◌, Bool, true, false, List, [], ◌∷◌, ◌++◌, length, Result, Ok, Err, codes}
 use Rattle.std.specs.Fmt.{decimal}
 use Rattle.pw_outside.specs.Reading.{Fault}
 use Rattle.pw_outside.specs.Writing.{SinkState, Puts, PutsFront}
@@ -42,18 +42,6 @@ list_text m = track_line m ++ sample_lines 0 (samples m.tables)
 
 -- ---- the answer, by what reading the movie gives
 
-abbrev pub is_done : LookEnd → Bool
-is_done ends.Done = true
-is_done _ = false
-
-abbrev pub is_read_fault : LookEnd → Bool
-is_read_fault ends.ReadFault = true
-is_read_fault _ = false
-
-abbrev pub is_write_fault : LookEnd → Bool
-is_write_fault ends.WriteFault = true
-is_write_fault _ = false
-
 -- whether writing stopped since the sink failed
 abbrev pub is_stopped_by_sink : {X : Type 0} → Result X Stop → Bool
 is_stopped_by_sink (Err stops.Failed) = true
@@ -63,13 +51,6 @@ is_stopped_by_sink _ = false
 abbrev pub list_end : Result Movie (Fault MovieKind) → LookEnd
 list_end (Err f) = ends.BadMovie f.kind f.place
 list_end (Ok m) = ends.Done
-
--- The answer is this one, unless a port failed or memory ran out.
-abbrev pub AnswersUnlessOutside : LookEnd → LookEnd → Type 0
-AnswersUnlessOutside ends.NoMemory end = Unit {0}
-AnswersUnlessOutside ends.ReadFault end = Unit {0}
-AnswersUnlessOutside ends.WriteFault end = Unit {0}
-AnswersUnlessOutside answer end = answer ≡ end
 
 -- The movie's text was appended.
 abbrev pub PrintsList : Result Movie (Fault MovieKind) → SinkState → SinkState → Type 0

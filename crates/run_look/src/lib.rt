@@ -1,11 +1,17 @@
-//! The commands that look at files: listing a movie.
+//! The commands that look at files: listing a movie, checking a proof, and writing one again.
 #![tactic(auto)]
 
+mod checking;
 mod end;
+mod laws;
 mod lines;
 mod listing;
+mod reproof;
 #[cfg(test)]
 mod tests;
 
+pub use checking::check_proof_run;
 pub use end::LookEnd;
+pub use laws::checking_ends_once;
 pub use listing::list_run;
+pub use reproof::reproof_run;

@@ -15,7 +15,11 @@ status_of ends.Done = s.Done
 status_of ends.NoMemory = s.NoMemory
 status_of ends.ReadFault = s.ReadFault
 status_of ends.WriteFault = s.WriteFault
+status_of (ends.BadPictures kind place) = s.BadPictures kind place
 status_of (ends.BadMovie kind place) = s.BadMovie kind place
+status_of (ends.BadFrame sample kind place) = s.BadFrame sample kind place
+status_of (ends.BadProof kind place) = s.BadProof kind place
+status_of (ends.Refused frame clause) = s.Refused frame clause
 
 -- the answer to a file: the first fault of a file that is no movie with a track of ProRes
 abbrev pub AnswersList : Result Movie (Fault MovieKind) → Status → Type 0

@@ -15,7 +15,9 @@ code_of (s.BadPictures _ _) = 5
 code_of (s.TooSmall _ _) = 6
 code_of (s.LayersFull _) = 7
 code_of (s.BadMovie _ _) = 8
+code_of (s.BadFrame _ _ _) = 9
 code_of (s.BadProof _ _) = 10
+code_of (s.Refused _ _) = 11
 
 abbrev pub is_done : Status → Bool
 is_done s.Done = true

@@ -24,7 +24,19 @@ fn status_of(end: LookEnd) -> Status
         LookEnd::NoMemory => Status::NoMemory,
         LookEnd::ReadFault => Status::ReadFault,
         LookEnd::WriteFault => Status::WriteFault,
+        LookEnd::BadPictures { kind, place } => Status::BadPictures { kind, place },
         LookEnd::BadMovie { kind, place } => Status::BadMovie { kind, place },
+        LookEnd::BadFrame {
+            sample,
+            kind,
+            place,
+        } => Status::BadFrame {
+            sample,
+            kind,
+            place,
+        },
+        LookEnd::BadProof { kind, place } => Status::BadProof { kind, place },
+        LookEnd::Refused { frame, clause } => Status::Refused { frame, clause },
     }
 }
 

@@ -1,6 +1,7 @@
 //! What a run answers.
 
 use pic_y4m::PictureKind;
+use pr_head::FrameKind;
 use qt_tables::MovieKind;
 use rate_table::ProofKind;
 use std::fmt;
@@ -49,8 +50,16 @@ pub enum Status {
     LayersFull { frame: u32 },
     /// The movie has this first fault, at this byte.
     BadMovie { kind: MovieKind, place: u64 },
+    /// The sample of this number, from 0, has this first fault, at this byte of the sample.
+    BadFrame {
+        sample: u32,
+        kind: FrameKind,
+        place: u64,
+    },
     /// The table or the proof has this first fault, at this byte.
     BadProof { kind: ProofKind, place: u64 },
+    /// This clause is the first that the proof fails, at the frame of this number, from 0.
+    Refused { frame: u32, clause: u8 },
 }
 
 impl Status {
@@ -71,7 +80,9 @@ impl Status {
             Status::TooSmall { .. } => 6,
             Status::LayersFull { .. } => 7,
             Status::BadMovie { .. } => 8,
+            Status::BadFrame { .. } => 9,
             Status::BadProof { .. } => 10,
+            Status::Refused { .. } => 11,
         }
     }
 }
@@ -92,7 +103,13 @@ impl fmt::Display for Status {
             ),
             Status::LayersFull { frame } => write!(f, "frame {frame}: too many pairs"),
             Status::BadMovie { kind, place } => write!(f, "movie: {kind:?} at {place}"),
+            Status::BadFrame {
+                sample,
+                kind,
+                place,
+            } => write!(f, "sample {sample}: {kind:?} at {place}"),
             Status::BadProof { kind, place } => write!(f, "proof: {kind:?} at {place}"),
+            Status::Refused { frame, clause } => write!(f, "frame {frame}: refused by clause {clause}"),
         }
     }
 }

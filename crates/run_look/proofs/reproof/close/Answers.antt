@@ -1,0 +1,11 @@
+use Rattle.std.proofs.Common.{◌∙◌}
+use Rattle.std.proofs.KnownBytes.{Appends-kept}
+use Rattle.pw_outside.proofs.Puts.{puts_front}
+use Rattle.run_look.proofs.Numbers.{any_err}
+use Rattle.run_look.proofs.reproof.close.Goals as goal
+
+pub returns-clause-err : goal.returns-clause-err
+returns-clause-err g c = any_err c.flush.result (puts_front (record {
+  bytes_held = Appends-kept _ _ _ _ c.in_ok-end.ensures.ok.bytes_held c.flush.ensures.bytes;
+  count = c.flush.ensures.taken ∙ c.in_ok-end.ensures.ok.count;
+}))
