@@ -1,0 +1,55 @@
+//! Bytes in hexadecimal, and their hash.
+
+ghost use Rattle.std.specs.Prelude.{◌<◌, IfSome};
+
+use std::io;
+
+/// The value of a hexadecimal digit in lower case.
+fn digit_of(byte: u8) -> Option<u8>
+    ensures { IfSome result (λ n. n < 16) }
+{
+    match byte {
+        b'0'..=b'9' => Some(byte - b'0'),
+        b'a'..=b'f' => Some(byte - b'a' + 10),
+        _ => None,
+    }
+}
+
+/// The bytes that a word stands for.
+pub(crate) fn bytes_of(rt: &HostRuntime, word: &str) -> io::Result<Vec<u8>> {
+    let mut bytes = Vec::new(rt.alloc());
+    for pair in word.as_bytes().chunks_exact(2) {
+        match (digit_of(pair[0]), digit_of(pair[1])) {
+            (Some(high), Some(low)) => bytes.push(high * 16 + low)?,
+            _ => return Err(io::Error::from(io::ErrorKind::InvalidData)),
+        }
+    }
+    Ok(bytes)
+}
+
+/// A hash of bytes (FNV-1a, 64 bits).
+fn hash_of(bytes: &[u8]) -> u64 {
+    let mut hash: u64 = 0xcbf2_9ce4_8422_2325;
+    for byte in bytes {
+        hash ^= u64::from(*byte);
+        hash = hash.wrapping_mul(0x0100_0000_01b3);
+    }
+    hash
+}
+
+/// The word that stands for these bytes: a lone dash for none, and their number and a hash for more than 600.
+pub(crate) fn word_of(rt: &HostRuntime, bytes: &[u8]) -> io::Result<String> {
+    let alloc = rt.alloc();
+    if bytes.is_empty() {
+        return Ok("-".to_string(alloc)?);
+    }
+    if bytes.len() > 600 {
+        let hash = hash_of(bytes);
+        return Ok(format!(in alloc; "{}:{hash:016x}", bytes.len())?);
+    }
+    let mut word = String::new(alloc);
+    for byte in bytes {
+        word.push_str(&format!(in alloc; "{byte:02x}")?)?;
+    }
+    Ok(word)
+}

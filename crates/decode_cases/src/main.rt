@@ -1,0 +1,147 @@
+//! A program for the gate alone: it decodes movies in memory. Each line of standard input has a depth, a form and a movie in
+//! hexadecimal, and what is answered stands on one line: how the run ended, the text with `\n` for each line feed, and what was
+//! written of pictures. The movies and the answers that are compared with it are worked ones, or those of an independent
+//! reference. Each movie is decoded three times, with calls of ports that move 1, 3 and 4,096 bytes.
+#![tactic(auto)]
+
+ghost use Rattle.std.specs.Prelude.{◌≤◌};
+
+mod hex;
+
+use hex::{bytes_of, word_of};
+use monitors::{BlackMonitor, BytesMonitor, IndexMonitor, LevelMonitor, Monitor};
+use pw_outside::{MemSink, MemStore};
+use pw_planes::Depth;
+use run_decode::{DecodeEnd, Form, decode_run};
+use std::io;
+
+/// The four monitors, in the order of their reports.
+fn monitors_of(rt: &HostRuntime) -> io::Result<Vec<Box<dyn Monitor>>> {
+    let alloc = rt.alloc();
+    let mut monitors: Vec<Box<dyn Monitor>> = Vec::new(alloc);
+    monitors.push(Box::new(alloc, LevelMonitor::new())?)?;
+    monitors.push(Box::new(alloc, BlackMonitor::new(alloc))?)?;
+    monitors.push(Box::new(alloc, BytesMonitor::new())?)?;
+    monitors.push(Box::new(alloc, IndexMonitor::new())?)?;
+    Ok(monitors)
+}
+
+/// How a run ended, on one line.
+fn end_told(rt: &HostRuntime, end: DecodeEnd) -> io::Result<String> {
+    let alloc = rt.alloc();
+    match end {
+        DecodeEnd::Done => Ok("0".to_string(alloc)?),
+        DecodeEnd::BadMovie { kind, place } => {
+            Ok(format!(in alloc; "8 movie: {kind:?} at {place}")?)
+        }
+        DecodeEnd::BadFrame {
+            sample,
+            kind,
+            place,
+        } => Ok(format!(in alloc; "9 sample {sample}: {kind:?} at {place}")?),
+        _ => Ok(format!(in alloc; "{end:?}")?),
+    }
+}
+
+/// A text on one line; a lone dash where there is none.
+fn text_told(rt: &HostRuntime, text: &[u8]) -> io::Result<String> {
+    let alloc = rt.alloc();
+    let mut line = String::new(alloc);
+    for part in String::from_utf8_lossy(alloc, text)?.lines() {
+        line.push_str(part)?;
+        line.push_str("\\n")?;
+    }
+    if line.is_empty() {
+        line.push_str("-")?;
+    }
+    Ok(line)
+}
+
+/// A sink that takes so many bytes a call.
+fn sink_of(rt: &HostRuntime, step: usize) -> io::Result<MemSink>
+    requires { 1 ≤ step }
+{
+    let alloc = rt.alloc();
+    match MemSink::new(alloc, 0, step, Vec::new(alloc)) {
+        Ok(sink) => Ok(sink),
+        Err(_) => Err(io::Error::from(io::ErrorKind::OutOfMemory)),
+    }
+}
+
+/// What decoding a movie answers and writes, where a call of a port moves so many bytes.
+fn decoded(
+    rt: &HostRuntime,
+    depth: Depth,
+    form: Form,
+    file: &[u8],
+    step: usize,
+) -> io::Result<String>
+    requires { 1 ≤ step }
+{
+    let alloc = rt.alloc();
+    let mut movie = MemStore::new(file.to_vec(alloc)?, step, Vec::new(alloc));
+    let mut out = sink_of(rt, step)?;
+    let mut text = sink_of(rt, step)?;
+    let mut monitors = monitors_of(rt)?;
+    let end = decode_run(
+        alloc,
+        &mut movie,
+        depth,
+        form,
+        &mut out,
+        &mut text,
+        &mut monitors,
+    );
+    let end = end_told(rt, end)?;
+    let text = text_told(rt, text.bytes())?;
+    let pictures = word_of(rt, out.bytes())?;
+    Ok(format!(in alloc; "{end} | {text} | {pictures}")?)
+}
+
+/// The same, whatever number of bytes a call moves.
+fn decoded_in_steps(rt: &HostRuntime, depth: Depth, form: Form, file: &[u8]) -> io::Result<String> {
+    let answer = decoded(rt, depth, form, file, 4096)?;
+    for step in [1, 3] {
+        let other = decoded(rt, depth, form, file, step)?;
+        if other != answer {
+            return Ok(format!(in rt.alloc(); "{answer}, but in steps of {step} {other}")?);
+        }
+    }
+    Ok(answer)
+}
+
+fn depth_of(word: &str) -> Option<Depth> {
+    match word {
+        "8" => Some(Depth::D8),
+        "10" => Some(Depth::D10),
+        "12" => Some(Depth::D12),
+        _ => None,
+    }
+}
+
+fn form_of(word: &str) -> Option<Form> {
+    match word {
+        "y4m" => Some(Form::Y4m),
+        "raw" => Some(Form::Raw),
+        _ => None,
+    }
+}
+
+/// The answer to the case of a line.
+fn answer(rt: &HostRuntime, line: &str) -> io::Result<String> {
+    let (depth, rest) = line.split_once(' ').unwrap_or((line, ""));
+    let (form, movie) = rest.split_once(' ').unwrap_or((rest, ""));
+    match (depth_of(depth), form_of(form)) {
+        (Some(depth), Some(form)) => decoded_in_steps(rt, depth, form, &bytes_of(rt, movie)?),
+        _ => Ok("no case".to_string(rt.alloc())?),
+    }
+}
+
+fn main(rt: HostRuntime) -> io::Result<()> {
+    for line in rt.lines(rt.alloc()) {
+        let line = line?;
+        let answer = answer(&rt, line.as_str())?;
+        println!(&rt; "{answer}")?;
+    }
+    Ok(())
+}

@@ -1,0 +1,4 @@
+pub mod Decoding
+pub mod Running
+pub mod Steps
+pub mod Laws
