@@ -1,3 +1,4 @@
 pub mod PlanTexts
 pub mod Tasks
 pub mod Encoded
+pub mod Decoded

@@ -50,6 +50,7 @@ moded (Some f) mode e h = record {
 pub task_allowed : (c : Command) (v : Values) → AreValues v → lacks_option c v ≡ false → clash c v ≡ false → IsTask (task_of c v)
 task_allowed command.Plan v a l e = tt
 task_allowed command.List v a l e = tt
+task_allowed command.Decode v a l e = tt
 task_allowed command.Encode v a l e =
     let three = or_parts _ _ e in
     let two = or_parts _ _ three.0 in

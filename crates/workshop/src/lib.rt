@@ -1,6 +1,7 @@
 //! The program `workshop`.
 #![tactic(auto)]
 
+mod decode;
 mod encode;
 mod listing;
 mod options;
@@ -15,7 +16,7 @@ mod top;
 mod words;
 
 pub use ports::{InputPort, OutputPort, StorePort, Target};
-pub use process::program;
+pub use process::{exit_code, program, words_of};
 pub use status::{Status, UsageKind};
 pub use top::workshop;
-pub use words::{Command, Names, Task, names_of};
+pub use words::{Command, DecodeWords, Names, Task, names_of, tells_monitors};

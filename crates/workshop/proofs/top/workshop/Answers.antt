@@ -2,8 +2,11 @@ use Rattle.std.proofs.Common.{◌≡◌, subst}
 use Rattle.pw_outside.specs.Reading.{bytes_of}
 use Rattle.pic_raw.specs.Any.{pictures_of}
 use Rattle.workshop.specs.Encoding.{CompletesEncode}
+use Rattle.qt_movie.specs.Movie.{movie_in}
+use Rattle.workshop.specs.Decoding.{CompletesDecode}
 use Rattle.workshop.specs.Words.{said, settled}
 use Rattle.workshop.proofs.Encoded.{quiet, same-words}
+use Rattle.workshop.proofs.Decoded as decoded
 use Rattle.workshop.proofs.top.workshop.Goals as goal
 
 pub returns-in-Encode-clause-encode_complete : goal.returns-in-Encode-clause-encode_complete
@@ -12,3 +15,11 @@ returns-in-Encode-clause-encode_complete g c = λ told w is none.
     let same = same-words (said c.args.words.now) (settled c.in-Ok.settings) c.in-Encode.values w c.in-Ok.ensures.value c.in-Encode.is is in
     subst (λ v. CompletesEncode v (pictures_of v.raw (bytes_of (g.S.ByteSource.left c.args.pictures.now))) c.encode.result) same
     (c.encode.ensures.complete told none.0 none.1)
+
+pub returns-in-Decode-clause-decode_complete : goal.returns-in-Decode-clause-decode_complete
+returns-in-Decode-clause-decode_complete g c = λ told w is none.
+    let none = decoded.quiet (said c.args.words.now) (settled c.in-Ok.settings) c.in-Decode.values _ _ c.in-Ok.ensures.value c.in-Decode.is none in
+    let same = decoded.same-words (said c.args.words.now) (settled c.in-Ok.settings) c.in-Decode.values w c.in-Ok.ensures.value c.in-Decode.is is in
+    let file = bytes_of (g.M.ByteStore.bytes c.args.movie.now) in
+    subst (λ v. CompletesDecode v file (movie_in file) c.decode.result) same
+    (c.decode.ensures.complete told none.0 none.1 none.2)
