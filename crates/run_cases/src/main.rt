@@ -2,10 +2,10 @@
 //! the answers that are compared with it are worked ones, or those of an independent reference. A file stands in hexadecimal,
 //! or as a lone dash where it is empty.
 //!
-//! - `plan FILE`, `list FILE`: what the command answers over this file.
-//! - `fronts COMMAND FILE`: what it answers over the fronts of this file: each answer behind the length of the first front
+//! - `plan FILE`, `list FILE`, `decode WORD .. FILE`: what the command answers over this file.
+//! - `fronts COMMAND .. FILE`: what it answers over the fronts of this file: each answer behind the length of the first front
 //!   that has it, if the front before has another.
-//! - `failing COMMAND FILE`: how many of the first 100 calls of the port that is read, and of `text`, are told when they fail.
+//! - `failing COMMAND .. FILE`: how many of the first 100 calls of the port that is read, and of `text`, are told when they fail.
 //! - `words WORD ..`: the files' names among these words, the exit status over empty files, and its line.
 //! - `line WORD ..`: the fault of these words, or a lone dash where they are in the grammar.
 //! - `places MOVIE`: where the samples of the movie lie.
@@ -28,7 +28,7 @@ fn answer(rt: &HostRuntime, line: &str) -> io::Result<String> {
         "line" => runs::line_told(rt, rest),
         "fronts" => runs::fronts_told(rt, rest),
         "failing" => runs::failing_told(rt, rest),
-        "plan" | "list" => runs::told(rt, line),
+        "plan" | "list" | "decode" => runs::told(rt, line),
         "places" => movies::places_told(rt, rest),
         "write" => movies::bytes_told(rt, rest),
         "written" => movies::written_told(rt, rest),

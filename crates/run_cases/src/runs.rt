@@ -2,10 +2,11 @@
 
 ghost use Rattle.std.specs.Prelude.{◌≤◌};
 
-use crate::hex::bytes_of;
+use crate::hex::{bytes_of, word_of};
+use monitors::{BlackMonitor, BytesMonitor, IndexMonitor, LevelMonitor, Monitor};
 use pw_outside::{MemSink, MemSource, MemStore};
 use std::io;
-use workshop::{Status, names_of, workshop};
+use workshop::{Status, names_of, tells_monitors, workshop};
 
 /// How many bytes a call of a port moves, and which of its calls fails.
 #[derive(Clone, Copy)]
@@ -15,12 +16,34 @@ struct Ports {
     writing: Option<u64>,
 }
 
-/// The words of a command over a file.
+/// What a run answered, and what it wrote to `text` and to `out`.
+#[derive(Drop)]
+struct Answer {
+    status: Status,
+    text: Vec<u8>,
+    out: Vec<u8>,
+}
+
+/// The words of a command over a file: a lone word has one operand behind it.
 fn command_words(rt: &HostRuntime, command: &str) -> io::Result<Vec<String>> {
-    let mut words = Vec::new(rt.alloc());
-    words.push(command.to_string(rt.alloc())?)?;
-    words.push("file".to_string(rt.alloc())?)?;
+    let mut words = words_of(rt, command)?;
+    if words.len() == 1 {
+        words.push("file".to_string(rt.alloc())?)?;
+    }
     Ok(words)
+}
+
+/// The four monitors, in the order of their reports, where the words are a run of `decode`.
+fn monitors_for(rt: &HostRuntime, words: &[String]) -> io::Result<Vec<Box<dyn Monitor>>> {
+    let alloc = rt.alloc();
+    let mut monitors: Vec<Box<dyn Monitor>> = Vec::new(alloc);
+    if tells_monitors(words) {
+        monitors.push(Box::new(alloc, LevelMonitor::new())?)?;
+        monitors.push(Box::new(alloc, BlackMonitor::new(alloc))?)?;
+        monitors.push(Box::new(alloc, BytesMonitor::new())?)?;
+        monitors.push(Box::new(alloc, IndexMonitor::new())?)?;
+    }
+    Ok(monitors)
 }
 
 /// The calls that fail: none, or one.
@@ -42,13 +65,13 @@ fn sink_of(rt: &HostRuntime, step: usize, call: Option<u64>) -> io::Result<MemSi
     }
 }
 
-/// The status of the top call, where this file stands behind both ports that a command may read, and its text.
+/// What the top call answers, where this file stands behind both ports that a command may read.
 fn ran(
     rt: &HostRuntime,
     words: &[String],
     file: &[u8],
     ports: &Ports,
-) -> io::Result<(Status, Vec<u8>)>
+) -> io::Result<Answer>
     requires { 1 ≤ ports.now.step }
 {
     let alloc = rt.alloc();
@@ -56,9 +79,10 @@ fn ran(
     let mut pictures = MemSource::new(Vec::new(alloc), 1, Vec::new(alloc));
     let mut proof = MemSource::new(file.to_vec(alloc)?, step, calls_of(rt, ports.reading)?);
     let mut movie = MemStore::new(file.to_vec(alloc)?, step, calls_of(rt, ports.reading)?);
-    let mut out = sink_of(rt, 1, None)?;
+    let mut out = sink_of(rt, step, None)?;
     let mut cert = sink_of(rt, 1, None)?;
     let mut text = sink_of(rt, step, ports.writing)?;
+    let mut monitors = monitors_for(rt, words)?;
     let status = workshop(
         alloc,
         words,
@@ -68,12 +92,17 @@ fn ran(
         &mut out,
         &mut cert,
         &mut text,
+        &mut monitors,
     );
-    Ok((status, text.bytes().to_vec(alloc)?))
+    Ok(Answer {
+        status,
+        text: text.bytes().to_vec(alloc)?,
+        out: out.bytes().to_vec(alloc)?,
+    })
 }
 
-/// An answer on one line: the text with `\n` for each line feed, or the fault.
-fn line_of(rt: &HostRuntime, status: Status, text: &[u8]) -> io::Result<String> {
+/// How a run ended, on one line: the text with `\n` for each line feed, or the fault.
+fn end_of(rt: &HostRuntime, status: Status, text: &[u8]) -> io::Result<String> {
     let alloc = rt.alloc();
     match status {
         Status::Done => {
@@ -90,6 +119,16 @@ fn line_of(rt: &HostRuntime, status: Status, text: &[u8]) -> io::Result<String> 
     }
 }
 
+/// An answer on one line: how the run ended, and what was written to `out` where something was.
+fn line_of(rt: &HostRuntime, answer: &Answer) -> io::Result<String> {
+    let mut line = end_of(rt, answer.status, &answer.text)?;
+    if !answer.out.is_empty() {
+        line.push_str(", out ")?;
+        line.push_str(&word_of(rt, &answer.out)?)?;
+    }
+    Ok(line)
+}
+
 /// What a command answers over a file whose ports move so many bytes a call.
 fn answer_of(rt: &HostRuntime, command: &str, file: &[u8], step: usize) -> io::Result<String>
     requires { 1 ≤ step }
@@ -100,8 +139,7 @@ fn answer_of(rt: &HostRuntime, command: &str, file: &[u8], step: usize) -> io::R
         reading: None,
         writing: None,
     };
-    let (status, text) = ran(rt, &words, file, &ports)?;
-    line_of(rt, status, &text)
+    line_of(rt, &ran(rt, &words, file, &ports)?)
 }
 
 /// What a command answers over a file, whatever number of bytes a call moves.
@@ -118,7 +156,7 @@ pub(crate) fn answer_over(rt: &HostRuntime, command: &str, file: &[u8]) -> io::R
 
 /// The command of a case, and its file.
 fn case_of<'a>(rt: &HostRuntime, case: &'a str) -> io::Result<(&'a str, Vec<u8>)> {
-    let (command, word) = case.split_once(' ').unwrap_or((case, "-"));
+    let (command, word) = case.rsplit_once(' ').unwrap_or((case, "-"));
     Ok((command, bytes_of(rt, word)?))
 }
 
@@ -151,8 +189,8 @@ fn read_faults(rt: &HostRuntime, words: &[String], file: &[u8]) -> io::Result<u6
             reading: Some(call),
             writing: None,
         };
-        let (status, text) = ran(rt, words, file, &ports)?;
-        if status != Status::ReadFault || !text.is_empty() {
+        let answer = ran(rt, words, file, &ports)?;
+        if answer.status != Status::ReadFault || !answer.text.is_empty() {
             return Ok(call);
         }
     }
@@ -167,8 +205,8 @@ fn write_faults(rt: &HostRuntime, words: &[String], file: &[u8], whole: &[u8]) -
             reading: None,
             writing: Some(call),
         };
-        let (status, text) = ran(rt, words, file, &ports)?;
-        if status != Status::WriteFault || !whole.starts_with(&text) {
+        let answer = ran(rt, words, file, &ports)?;
+        if answer.status != Status::WriteFault || !whole.starts_with(&answer.text) {
             return Ok(call);
         }
     }
@@ -183,10 +221,10 @@ pub(crate) fn failing_told(rt: &HostRuntime, case: &str) -> io::Result<String> {
         reading: None,
         writing: None,
     };
-    let (status, text) = ran(rt, &words, &file, &ports)?;
+    let whole = ran(rt, &words, &file, &ports)?;
     let reads = read_faults(rt, &words, &file)?;
-    let writes = write_faults(rt, &words, &file, &text)?;
-    let answer = line_of(rt, status, &text)?;
+    let writes = write_faults(rt, &words, &file, &whole.text)?;
+    let answer = line_of(rt, &whole)?;
     Ok(format!(in rt.alloc(); "{reads} reads, {writes} writes, {answer}")?)
 }
 
@@ -208,7 +246,7 @@ pub(crate) fn words_told(rt: &HostRuntime, case: &str) -> io::Result<String> {
         writing: None,
     };
     let names = names_of(&words);
-    let (status, text) = ran(rt, &words, &[], &ports)?;
+    let Answer { status, text, .. } = ran(rt, &words, &[], &ports)?;
     let code = status.code();
     let length = text.len();
     Ok(format!(in alloc; "{names:?}, {code}, {status}, {length} bytes")?)
@@ -221,8 +259,8 @@ pub(crate) fn line_told(rt: &HostRuntime, case: &str) -> io::Result<String> {
         reading: None,
         writing: None,
     };
-    match ran(rt, &words, &[], &ports)? {
-        (Status::Usage { kind, word }, _) => {
+    match ran(rt, &words, &[], &ports)?.status {
+        Status::Usage { kind, word } => {
             Ok(format!(in rt.alloc(); "usage: {kind:?} at word {word}")?)
         }
         _ => Ok("-".to_string(rt.alloc())?),

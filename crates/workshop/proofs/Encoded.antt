@@ -73,6 +73,9 @@ abbrev words-in : EncodeWords → Task → EncodeWords
 words-in other task.Plan = other
 words-in other (task.Encode w) = w
 words-in other task.List = other
+words-in other task.Check = other
+words-in other task.Reproof = other
+words-in other (task.Decode w) = other
 
 -- the words are a run of `encode` with one list of values alone
 pub same-words : (x : Said) (t : Task × List ℕ) (v w : EncodeWords) → x ≡ Ok t → t.0 ≡ task.Encode v → IsEncode w x → v ≡ w

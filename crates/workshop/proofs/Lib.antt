@@ -4,3 +4,4 @@ pub mod Encoded
 pub mod Checked
 pub mod Complete
 pub mod Reproofed
+pub mod Decoded

@@ -52,6 +52,7 @@ task_allowed command.Plan v a l e = tt
 task_allowed command.List v a l e = tt
 task_allowed command.Check v a l e = tt
 task_allowed command.Reproof v a l e = tt
+task_allowed command.Decode v a l e = tt
 task_allowed command.Encode v a l e =
     let three = or_parts _ _ e in
     let two = or_parts _ _ three.0 in

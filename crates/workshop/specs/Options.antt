@@ -15,6 +15,8 @@ use Rattle.pic_y4m.specs.HeadLine.{IsHead, is_interlaced}
 use Rattle.pic_y4m.specs.Values.{number_within}
 use Rattle.pr_quant.specs.declared.weights.Matrix.{Matrix}
 use Rattle.pr_quant.specs.declared.weights.Matrix.TheVariants.{Flat, Steep}
+use Rattle.run_decode.specs.declared.job.Form.{Form}
+use Rattle.run_decode.specs.declared.job.Form.TheVariants.{Y4m, Raw}
 use Rattle.workshop.specs.declared.options.OptionName.{OptionName}
 use Rattle.workshop.specs.declared.options.OptionName.TheVariants as option
 use Rattle.workshop.specs.declared.options.Values.{Values}
@@ -32,6 +34,8 @@ name_of_option option.Raw = codes "raw"
 name_of_option option.Interlace = codes "interlace"
 name_of_option option.Group = codes "group"
 name_of_option option.Proof = codes "proof"
+name_of_option option.Depth = codes "depth"
+name_of_option option.Form = codes "form"
 
 -- ---- values. Numbers are decimal, and may have zeros in front; words are taken letter by letter.
 
@@ -47,6 +51,10 @@ abbrev pub interlace_named : List ℕ → Option Interlace
 interlace_named bytes = if bytes_eq bytes (codes "p") then Some Progressive
     else (if bytes_eq bytes (codes "t") then Some TopFirst
     else (if bytes_eq bytes (codes "b") then Some BottomFirst else None))
+
+-- how pictures are written
+abbrev pub form_named : List ℕ → Option Form
+form_named bytes = if bytes_eq bytes (codes "y4m") then Some Y4m else (if bytes_eq bytes (codes "raw") then Some Raw else None)
 
 abbrev pub chroma_of : ℕ → Option Chroma
 chroma_of n = if n == 422 then Some C422 else (if n == 444 then Some C444 else None)
@@ -105,7 +113,7 @@ raw_form bytes = do
 -- ---- the values that a command line gives
 
 abbrev pub no_values : Values
-no_values = record { budget = None; lo = None; hi = None; log2 = None; matrix = None; raw = None; interlace = None; group = None; proof = None }
+no_values = record { budget = None; lo = None; hi = None; log2 = None; matrix = None; raw = None; interlace = None; group = None; proof = None; depth = None; form = None }
 
 -- whether a value was given
 abbrev pub is_given : OptionName → Values → Bool
@@ -118,6 +126,8 @@ is_given option.Raw v = is_some v.raw
 is_given option.Interlace v = is_some v.interlace
 is_given option.Group v = is_some v.group
 is_given option.Proof v = is_some v.proof
+is_given option.Depth v = is_some v.depth
+is_given option.Form v = is_some v.form
 
 -- the values with that of one option more; none where the bytes are no value of it
 abbrev pub with_value : OptionName → List ℕ → Values → Option Values
@@ -130,6 +140,8 @@ with_value option.Raw bytes v = option_map (λ h. record v { raw = Some h }) (ra
 with_value option.Interlace bytes v = option_map (λ i. record v { interlace = Some i }) (interlace_named bytes)
 with_value option.Group bytes v = option_map (λ n. record v { group = Some n }) (number_within 1 8 bytes)
 with_value option.Proof bytes v = option_map (λ n. record v { proof = Some n }) (number_within 1 2 bytes)
+with_value option.Depth bytes v = option_map (λ d. record v { depth = Some d }) (depth_in bytes)
+with_value option.Form bytes v = option_map (λ f. record v { form = Some f }) (form_named bytes)
 
 -- a form of progressive pictures within the limits
 abbrev pub IsRawForm : Head → Type 0

@@ -3,15 +3,18 @@ use Rattle.std.specs.Prelude.{◌≡◌, ℕ, ◌+◌, ◌*◌, ◌<◌, ◌≤�
 use Rattle.std.specs.List.{starts_with, list_any}
 use Rattle.pw_planes.specs.declared.kinds.Interlace.{Interlace}
 use Rattle.pw_planes.specs.declared.kinds.Interlace.TheVariants.{Progressive}
+use Rattle.pw_planes.specs.declared.kinds.Depth.TheVariants.{D10}
 use Rattle.pic_y4m.specs.declared.head.Head.{Head}
 use Rattle.pic_y4m.specs.HeadLine.{is_interlaced}
 use Rattle.pr_quant.specs.declared.weights.Matrix.TheVariants.{Flat}
 use Rattle.run_encode.specs.declared.job.EncodeWords.{EncodeWords}
 use Rattle.run_encode.specs.Groups.{AreWords}
+use Rattle.run_decode.specs.declared.job.Form.TheVariants.{Y4m}
 use Rattle.workshop.specs.declared.words.Command.{Command}
 use Rattle.workshop.specs.declared.words.Command.TheVariants as command
 use Rattle.workshop.specs.declared.words.Task.{Task}
 use Rattle.workshop.specs.declared.words.Task.TheVariants as task
+use Rattle.workshop.specs.declared.words.DecodeWords.{DecodeWords}
 use Rattle.workshop.specs.declared.words.Names.{Names}
 use Rattle.workshop.specs.declared.words.BadWords.{BadWords}
 use Rattle.workshop.specs.declared.words.Settings.{Settings}
@@ -25,7 +28,7 @@ use Rattle.workshop.specs.declared.status.UsageKind.TheVariants.{NoCommand, Unkn
 -- ---- the table of commands
 
 abbrev pub commands : List Command
-commands = command.Plan ∷ command.Encode ∷ command.List ∷ command.Check ∷ command.Reproof ∷ []
+commands = command.Plan ∷ command.Encode ∷ command.List ∷ command.Check ∷ command.Reproof ∷ command.Decode ∷ []
 
 -- the word of each command
 abbrev pub name_of : Command → List ℕ
@@ -34,6 +37,7 @@ name_of command.Encode = codes "encode"
 name_of command.List = codes "list"
 name_of command.Check = codes "check"
 name_of command.Reproof = codes "reproof"
+name_of command.Decode = codes "decode"
 
 -- how many operands each command may have, rising
 abbrev pub operands_of : Command → List ℕ
@@ -42,6 +46,7 @@ operands_of command.Encode = 3 ∷ []
 operands_of command.List = 1 ∷ []
 operands_of command.Check = 1 ∷ []
 operands_of command.Reproof = 2 ∷ []
+operands_of command.Decode = 2 ∷ []
 
 -- the options of each command
 abbrev pub options_of : Command → List OptionName
@@ -50,6 +55,7 @@ options_of command.Encode = option.Budget ∷ option.Lo ∷ option.Hi ∷ option
 options_of command.List = []
 options_of command.Check = []
 options_of command.Reproof = []
+options_of command.Decode = option.Depth ∷ option.Form ∷ []
 
 -- an option is wanting that the command needs
 abbrev pub lacks_option : Command → Values → Bool
@@ -58,18 +64,20 @@ lacks_option command.Encode v = is_none v.budget
 lacks_option command.List v = false
 lacks_option command.Check v = false
 lacks_option command.Reproof v = false
+lacks_option command.Decode v = false
 
 abbrev pub no_names : Names
 no_names = record { pictures = None; proof = None; movie = None; out = None; cert = None }
 
 -- The ports that the operands name, by the numbers of their words: `plan TABLE`, `encode PICTURES MOVIE PROOF`, `list MOVIE`,
--- `check PROOF`, `reproof PROOF OUTPUT`.
+-- `check PROOF`, `reproof PROOF OUTPUT`, `decode MOVIE OUT`.
 abbrev pub ports_of : Command → List ℕ → Names
 ports_of command.Plan operands = record no_names { proof = slice_get operands 0 }
 ports_of command.Encode operands = record no_names { pictures = slice_get operands 0; out = slice_get operands 1; cert = slice_get operands 2 }
 ports_of command.List operands = record no_names { movie = slice_get operands 0 }
 ports_of command.Check operands = record no_names { proof = slice_get operands 0 }
 ports_of command.Reproof operands = record no_names { proof = slice_get operands 0; cert = slice_get operands 1 }
+ports_of command.Decode operands = record no_names { movie = slice_get operands 0; out = slice_get operands 1 }
 
 -- which ports a run uses: it reads `pictures`, `proof` and `movie`, and writes `out`, `cert` and `text`
 pub record Ports : Type 0 where
@@ -89,6 +97,7 @@ uses_of (task.Encode w) = record no_ports { pictures = true; out = true; cert = 
 uses_of task.List = record no_ports { movie = true; text = true }
 uses_of task.Check = record no_ports { proof = true; text = true }
 uses_of task.Reproof = record no_ports { proof = true; cert = true; text = true }
+uses_of (task.Decode w) = record no_ports { movie = true; out = true; text = true }
 
 -- ---- the values of options, and what stands for one that is absent
 
@@ -111,6 +120,9 @@ encode_words v = record {
   proof = unwrap_or v.proof 2;
 }
 
+abbrev pub decode_words : Values → DecodeWords
+decode_words v = record { depth = unwrap_or v.depth D10; form = unwrap_or v.form Y4m }
+
 -- interlaced frames of an odd number of rows
 abbrev pub is_odd_form : Head → Bool
 is_odd_form h = is_interlaced h.interlace && (h.height % 2 == 1)
@@ -130,6 +142,7 @@ clash command.Encode v = nat_lt (encode_words v).hi (encode_words v).lo
 clash command.List v = false
 clash command.Check v = false
 clash command.Reproof v = false
+clash command.Decode v = false
 
 -- what a command is to do
 abbrev pub task_of : Command → Values → Task
@@ -138,6 +151,7 @@ task_of command.Encode v = task.Encode (encode_words v)
 task_of command.List v = task.List
 task_of command.Check v = task.Check
 task_of command.Reproof v = task.Reproof
+task_of command.Decode v = task.Decode (decode_words v)
 
 -- ---- the walk over the words
 
@@ -174,7 +188,7 @@ unless_bad at None = Err (BadValue, at)
 unless_bad at (Some v) = Ok v
 
 -- the values with that of this option, which may stand once
-abbrev pub with_option_value : OptionName → List ℕ → ℕ → Values → Result Values UsageFault
+unfoldable pub with_option_value : OptionName → List ℕ → ℕ → Values → Result Values UsageFault
 with_option_value o value at v = if is_given o v then Err (RepeatedOption, at) else unless_bad at (with_value o value v)
 
 abbrev pub with_named : Option OptionName → List ℕ → ℕ → Values → Result Values UsageFault
@@ -236,12 +250,16 @@ IsRun t (Err fault) = ⊥
 abbrev pub IsEncode : EncodeWords → Said → Type 0
 IsEncode w s = IsRun (task.Encode w) s
 
+abbrev pub IsDecode : DecodeWords → Said → Type 0
+IsDecode w s = IsRun (task.Decode w) s
+
 abbrev pub command_of : Task → Command
 command_of task.Plan = command.Plan
 command_of (task.Encode w) = command.Encode
 command_of task.List = command.List
 command_of task.Check = command.Check
 command_of task.Reproof = command.Reproof
+command_of (task.Decode w) = command.Decode
 
 -- the ports that the run uses: none where the words have a fault
 abbrev pub uses_in : Said → Ports
@@ -266,6 +284,15 @@ writes_cert s = (uses_in s).cert
 abbrev pub writes_text : Said → Bool
 writes_text s = (uses_in s).text
 
+-- whether the command tells monitors of pictures
+abbrev pub is_decode : Task → Bool
+is_decode (task.Decode w) = true
+is_decode _ = false
+
+abbrev pub tells_monitors : Said → Bool
+tells_monitors (Ok s) = is_decode s.0
+tells_monitors (Err fault) = false
+
 -- the words that name each port's file; none where the words have a fault
 abbrev pub names_in : Said → Names
 names_in (Ok s) = ports_of (command_of s.0) s.1
@@ -288,3 +315,4 @@ IsTask (task.Encode w) = AreWords w
 IsTask task.List = Unit {0}
 IsTask task.Check = Unit {0}
 IsTask task.Reproof = Unit {0}
+IsTask (task.Decode w) = Unit {0}

@@ -2,6 +2,7 @@
 #![tactic(auto)]
 
 mod checking;
+mod decode;
 mod encode;
 mod listing;
 mod options;
@@ -17,7 +18,7 @@ mod top;
 mod words;
 
 pub use ports::{InputPort, OutputPort, StorePort, Target};
-pub use process::program;
+pub use process::{exit_code, program, words_of};
 pub use status::{Status, UsageKind};
 pub use top::workshop;
-pub use words::{Command, Names, Task, names_of};
+pub use words::{Command, DecodeWords, Names, Task, names_of, tells_monitors};

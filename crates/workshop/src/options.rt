@@ -1,12 +1,13 @@
 //! The options of the command line, and their values.
 
 ghost use Rattle.std.specs.Prelude.{◌≡◌, ◌≤◌, ◌<◌, IfSome};
-ghost use Rattle.workshop.specs.Options.{name_of_option, matrix_named, interlace_named, no_values, is_given, with_value, AreValues};
+ghost use Rattle.workshop.specs.Options.{name_of_option, matrix_named, interlace_named, form_named, no_values, is_given, with_value, AreValues};
 
-use crate::raw_form::{number_within, raw_form};
+use crate::raw_form::{depth_in, number_within, raw_form};
 use pic_y4m::Head;
 use pr_quant::Matrix;
-use pw_planes::Interlace;
+use pw_planes::{Depth, Interlace};
+use run_decode::Form;
 
 /// The greatest budget of a group of frames, in bytes.
 pub(crate) const MAX_BUDGET: u32 = 2_147_483_647;
@@ -26,6 +27,8 @@ pub(crate) enum OptionName {
     Interlace,
     Group,
     Proof,
+    Depth,
+    Form,
 }
 
 impl OptionName {
@@ -43,6 +46,8 @@ impl OptionName {
             OptionName::Interlace => b"interlace",
             OptionName::Group => b"group",
             OptionName::Proof => b"proof",
+            OptionName::Depth => b"depth",
+            OptionName::Form => b"form",
         }
     }
 }
@@ -66,6 +71,10 @@ pub(crate) struct Values {
     pub(crate) group: Option<u8>,
     /// The format of the proof, 1 or 2.
     pub(crate) proof: Option<u8>,
+    /// The number of bits of the samples that are written.
+    pub(crate) depth: Option<Depth>,
+    /// How pictures are written.
+    pub(crate) form: Option<Form>,
 }
 
 /// The matrix of this name.
@@ -91,6 +100,17 @@ fn interlace_named(bytes: &[u8]) -> Option<Interlace>
     }
 }
 
+/// How pictures are written, by its name.
+fn form_named(bytes: &[u8]) -> Option<Form>
+    ensures { result ≡ form_named bytes.now }
+{
+    match bytes {
+        b"y4m" => Some(Form::Y4m),
+        b"raw" => Some(Form::Raw),
+        _ => None,
+    }
+}
+
 impl Values {
     pub(crate) fn none() -> Values
         ensures value { result ≡ no_values }
@@ -106,6 +126,8 @@ impl Values {
             interlace: None,
             group: None,
             proof: None,
+            depth: None,
+            form: None,
         }
     }
 
@@ -123,6 +145,8 @@ impl Values {
             OptionName::Interlace => self.interlace.is_some(),
             OptionName::Group => self.group.is_some(),
             OptionName::Proof => self.proof.is_some(),
+            OptionName::Depth => self.depth.is_some(),
+            OptionName::Form => self.form.is_some(),
         }
     }
 
@@ -145,6 +169,8 @@ impl Values {
             OptionName::Interlace => values.interlace = Some(interlace_named(bytes)?),
             OptionName::Group => values.group = Some(number_within(bytes, 1, 8)? as u8),
             OptionName::Proof => values.proof = Some(number_within(bytes, 1, 2)? as u8),
+            OptionName::Depth => values.depth = Some(depth_in(bytes)?),
+            OptionName::Form => values.form = Some(form_named(bytes)?),
         }
         Some(values)
     }

@@ -4,13 +4,14 @@ use crate::ports::{InputPort, OutputPort, StorePort, Target};
 use crate::status::Status;
 use crate::top::workshop;
 use crate::words::names_of;
+use monitors::Monitor;
 use std::process::ExitCode;
 use std::{env, io};
 
-/// Does what the words of the command line say. The line of a status other than `Done` goes to standard error,
-/// and the exit status is its number.
-pub fn program(rt: &HostRuntime) -> ExitCode {
-    let status = match run(rt) {
+/// How the process ends. The line of a status other than `Done` goes to standard error, and the exit status is its
+/// number; an error is want of memory.
+pub fn exit_code(rt: &HostRuntime, status: io::Result<Status>) -> ExitCode {
+    let status = match status {
         Ok(status) => status,
         Err(_) => Status::NoMemory,
     };
@@ -22,7 +23,7 @@ pub fn program(rt: &HostRuntime) -> ExitCode {
 }
 
 /// The words of the command line behind the program's name.
-fn words_of(rt: &HostRuntime) -> io::Result<Vec<String>> {
+pub fn words_of(rt: &HostRuntime) -> io::Result<Vec<String>> {
     let mut words = Vec::new(rt.alloc());
     let mut is_name = true;
     for word in env::args(rt)? {
@@ -50,23 +51,29 @@ fn pictures_of(word: Option<usize>, words: &[String]) -> io::Result<Target> {
     }
 }
 
-fn run(rt: &HostRuntime) -> io::Result<Status> {
-    let words = words_of(rt)?;
-    let names = names_of(&words);
-    let mut pictures = InputPort::new(rt.clone()?, pictures_of(names.pictures, &words)?);
-    let mut proof = InputPort::new(rt.clone()?, file_of(names.proof, &words)?);
-    let mut movie = StorePort::new(rt.clone()?, file_of(names.movie, &words)?);
-    let mut out = OutputPort::new(rt.clone()?, file_of(names.out, &words)?);
-    let mut cert = OutputPort::new(rt.clone()?, file_of(names.cert, &words)?);
+/// Does what these words say, over the files that they name. `decode` tells these monitors of the pictures; other
+/// commands leave the list as it was. An error is want of memory.
+pub fn program(
+    rt: &HostRuntime,
+    words: &[String],
+    monitors: &mut Vec<Box<dyn Monitor>>,
+) -> io::Result<Status> {
+    let names = names_of(words);
+    let mut pictures = InputPort::new(rt.clone()?, pictures_of(names.pictures, words)?);
+    let mut proof = InputPort::new(rt.clone()?, file_of(names.proof, words)?);
+    let mut movie = StorePort::new(rt.clone()?, file_of(names.movie, words)?);
+    let mut out = OutputPort::new(rt.clone()?, file_of(names.out, words)?);
+    let mut cert = OutputPort::new(rt.clone()?, file_of(names.cert, words)?);
     let mut text = OutputPort::new(rt.clone()?, Target::Standard);
     Ok(workshop(
         rt.alloc(),
-        &words,
+        words,
         &mut pictures,
         &mut proof,
         &mut movie,
         &mut out,
         &mut cert,
         &mut text,
+        monitors,
     ))
 }

@@ -59,7 +59,7 @@ fn chroma_in(bytes: &[u8]) -> Option<Chroma>
 }
 
 /// The number of bits of luma and chroma samples.
-fn depth_in(bytes: &[u8]) -> Option<Depth>
+pub(crate) fn depth_in(bytes: &[u8]) -> Option<Depth>
     ensures { result ≡ depth_in bytes.now }
 {
     match number_within(bytes, 8, 12)? {

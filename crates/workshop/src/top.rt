@@ -1,13 +1,13 @@
 //! The top call.
 
-ghost use Rattle.std.specs.Prelude.{◌≡◌};
+ghost use Rattle.std.specs.Prelude.{◌≡◌, [], map};
 ghost use Rattle.std.specs.Bool.{OnTrue, OnFalse};
 ghost use Rattle.std.specs.Io.KnownBytes.{IsAtEnd};
 ghost use Rattle.pw_outside.specs.Reading.{Told};
 ghost use Rattle.rate_table.specs.Reading.{tabled};
 ghost use Rattle.workshop.specs.Status.{is_done, is_read_fault, is_settled, is_write_fault, has_written, usage_of};
 ghost use Rattle.workshop.specs.declared.words.Task.TheVariants as task;
-ghost use Rattle.workshop.specs.Words.{said, usage_fault, IsRun, IsEncode, uses_in, reads_pictures, reads_proof, reads_movie, writes_out, writes_cert, writes_text};
+ghost use Rattle.workshop.specs.Words.{said, usage_fault, IsRun, IsEncode, IsDecode, tells_monitors, uses_in, reads_pictures, reads_proof, reads_movie, writes_out, writes_cert, writes_text};
 ghost use Rattle.workshop.specs.Faults.{faults, CountsReads, CountsWrites, NoPortFailed, Settles};
 ghost use Rattle.pw_outside.specs.Writing.{sink_state};
 ghost use Rattle.qt_movie.specs.Movie.{movie_in};
@@ -23,12 +23,19 @@ ghost use Rattle.run_look.specs.Reproofing.{reproofed, SaysTheSame};
 ghost use Rattle.workshop.specs.Reproofing.{AnswersReproof, WritesUntil, CompletesReproof};
 
 use crate::checking::check;
+ghost use Rattle.run_decode.specs.Running.{world};
+ghost use Rattle.run_decode.specs.Laws.{WritesFrontsOf};
+ghost use Rattle.workshop.specs.declared.words.DecodeWords.{DecodeWords};
+ghost use Rattle.workshop.specs.Decoding.{AnswersDecode, CompletesDecode};
+
+use crate::decode::decode;
 use crate::encode::encode;
 use crate::listing::list;
 use crate::plan::plan;
 use crate::reproofing::reproof;
 use crate::status::Status;
 use crate::words::{Task, settings_of};
+use monitors::Monitor;
 use pw_outside::{ByteSink, ByteSource, ByteStore};
 use std::alloc::Global;
 
@@ -46,6 +53,8 @@ use std::alloc::Global;
 ///   the number of records to `text`.
 /// - `reproof PROOF OUTPUT` reads a proof of either format through `proof` to its end, writes it in format 2 to
 ///   `cert`, and a line with the number of records to `text`.
+/// - `decode MOVIE OUT` reads a QuickTime movie through `movie`, writes the pictures of its first track of ProRes to `out`,
+///   tells each monitor of each picture, and writes their number and the monitors' reports to `text`.
 #[tactic(auto, using(run_look::proofs::Texts::none_extends))]
 pub fn workshop<S: ByteSource, M: ByteStore, K: ByteSink>(
     alloc: Global,
@@ -56,6 +65,7 @@ pub fn workshop<S: ByteSource, M: ByteStore, K: ByteSink>(
     out: &mut K,
     cert: &mut K,
     text: &mut K,
+    monitors: &mut Vec<Box<dyn Monitor>>,
 ) -> Status
     // Usage comes exactly where the words aren't in the grammar, with their first fault.
     ensures usage { usage_of result ≡ usage_fault (said words.now) }
@@ -67,6 +77,9 @@ pub fn workshop<S: ByteSource, M: ByteStore, K: ByteSink>(
     ensures out_alone { OnFalse (writes_out (said words.now)) (out.new ≡ out.old) }
     ensures cert_alone { OnFalse (writes_cert (said words.now)) (cert.new ≡ cert.old) }
     ensures text_alone { OnFalse (writes_text (said words.now)) (text.new ≡ text.old) }
+
+    // The monitors are left as they were where the command tells them nothing.
+    ensures monitors_alone { OnFalse (tells_monitors (said words.now)) (monitors.new ≡ monitors.old) }
 
     // Whatever the answer, and whether the bytes that are read are told or not, each sink extends what it held.
     ensures out_extends { Extends (sink_state (K.held out.old) (K.taken out.old)) (sink_state (K.held out.new) (K.taken out.new)) }
@@ -157,6 +170,20 @@ pub fn workshop<S: ByteSource, M: ByteStore, K: ByteSink>(
     ensures reproof_complete { Told (S.left proof.old) (λ bytes. IsRun task.Reproof (said words.now)
         → NoPortFailed (uses_in (said words.now)) (faults S.faults M.faults K.faults pictures.old proof.old movie.old out.old cert.old text.old) (faults S.faults M.faults K.faults pictures.new proof.new movie.new out.new cert.new text.new)
         → CompletesReproof result bytes) }
+
+    // `decode`: where the movie's bytes are told, they decide the answer, what is written, and what the monitors are told.
+    ensures decode { Told (M.bytes movie.old) (λ file. (w : DecodeWords) → IsDecode w (said words.now)
+        → AnswersDecode w file (movie_in file) result (world K.held K.taken out.old text.old (map state monitors.old.items)) (world K.held K.taken out.new text.new (map state monitors.new.items))) }
+    // After every answer both sinks have fronts of what decoding gives; of a file that is no such movie nothing is written.
+    ensures decode_fronts { Told (M.bytes movie.old) (λ file. (w : DecodeWords) → IsDecode w (said words.now)
+        → WritesFrontsOf w.form w.depth file (movie_in file) (world K.held K.taken out.old text.old (map state monitors.old.items)) (world K.held K.taken out.new text.new (map state monitors.new.items))) }
+    // After Done no monitor is left in the list.
+    ensures decode_emptied { (w : DecodeWords) → IsDecode w (said words.now) → OnTrue (is_done result) (map state monitors.new.items ≡ []) }
+    // Where no port failed, a movie whose samples all lie in the file and stand for frames like the first is decoded, unless
+    // memory runs out.
+    ensures decode_complete { Told (M.bytes movie.old) (λ file. (w : DecodeWords) → IsDecode w (said words.now)
+        → NoPortFailed (uses_in (said words.now)) (faults S.faults M.faults K.faults pictures.old proof.old movie.old out.old cert.old text.old) (faults S.faults M.faults K.faults pictures.new proof.new movie.new out.new cert.new text.new)
+        → CompletesDecode w file (movie_in file) result) }
 {
     let settings = match settings_of(words) {
         Ok(settings) => settings,
@@ -173,5 +200,6 @@ pub fn workshop<S: ByteSource, M: ByteStore, K: ByteSink>(
         Task::List => list(alloc, movie, text),
         Task::Check => check(alloc, proof, text),
         Task::Reproof => reproof(alloc, proof, cert, text),
+        Task::Decode(values) => decode(alloc, &values, movie, out, text, monitors),
     }
 }

@@ -2,7 +2,7 @@
 
 ghost use Rattle.std.specs.Prelude.{◌≡◌, ◌<◌, ◌≤◌, [], IfOk, drop, length, map, string_bytes};
 ghost use Rattle.workshop.specs.Options.{AreValues, no_values};
-ghost use Rattle.workshop.specs.Words.{IsWalk, IsTask, command_named, option_named, options_of, most_operands, takes, lacks_option, clash, encode_words, raw_in, has_odd_form, task_of, with_option_value, with_option, ended, walk, said, settled, command_of, ports_of, names_in, no_names};
+ghost use Rattle.workshop.specs.Words.{IsWalk, IsTask, command_named, option_named, options_of, most_operands, takes, lacks_option, clash, encode_words, decode_words, raw_in, has_odd_form, task_of, with_option_value, with_option, ended, walk, said, settled, command_of, ports_of, names_in, no_names, is_decode, tells_monitors};
 
 use crate::options::{MAX_BUDGET, OptionName, Values};
 use crate::raw_form::cut;
@@ -10,7 +10,8 @@ use crate::status::UsageKind;
 use arrayvec::ArrayVec;
 use pic_y4m::Head;
 use pr_quant::Matrix;
-use pw_planes::Interlace;
+use pw_planes::{Depth, Interlace};
+use run_decode::Form;
 use run_encode::EncodeWords;
 
 /// No command has more operands.
@@ -29,6 +30,17 @@ pub enum Command {
     Check,
     /// `reproof PROOF OUTPUT` writes a proof again in format 2.
     Reproof,
+    /// `decode MOVIE OUT` shows the pictures of a movie.
+    Decode,
+}
+
+/// What the words say of a run of `decode`.
+#[derive(Clone, Copy, Debug, PartialEq, Eq)]
+pub struct DecodeWords {
+    /// The number of bits of the samples that are written.
+    pub depth: Depth,
+    /// How pictures are written.
+    pub form: Form,
 }
 
 /// For each port the number of the word that names its file.
@@ -56,6 +68,7 @@ pub enum Task {
     List,
     Check,
     Reproof,
+    Decode(DecodeWords),
 }
 
 /// What is to be done, with the numbers of the words that are operands.
@@ -77,6 +90,7 @@ impl Command {
             "list" => Some(Command::List),
             "check" => Some(Command::Check),
             "reproof" => Some(Command::Reproof),
+            "decode" => Some(Command::Decode),
             _ => None,
         }
     }
@@ -88,6 +102,7 @@ impl Command {
     {
         match self {
             Command::Plan | Command::List | Command::Check => 1,
+            Command::Decode => 2,
             Command::Encode => 3,
             Command::Reproof => 2,
         }
@@ -99,6 +114,7 @@ impl Command {
     {
         match self {
             Command::Plan | Command::List | Command::Check => operands == 1,
+            Command::Decode => operands == 2,
             Command::Encode => operands == 3,
             Command::Reproof => operands == 2,
         }
@@ -121,6 +137,7 @@ impl Command {
                 OptionName::Group,
                 OptionName::Proof,
             ],
+            Command::Decode => &[OptionName::Depth, OptionName::Form],
         }
     }
 
@@ -142,7 +159,7 @@ impl Command {
         ensures { result ≡ lacks_option self values.now }
     {
         match self {
-            Command::Plan | Command::List | Command::Check | Command::Reproof => false,
+            Command::Plan | Command::List | Command::Check | Command::Reproof | Command::Decode => false,
             Command::Encode => values.budget.is_none(),
         }
     }
@@ -153,7 +170,7 @@ impl Command {
         ensures { result ≡ clash self values.now }
     {
         match self {
-            Command::Plan | Command::List | Command::Check | Command::Reproof => false,
+            Command::Plan | Command::List | Command::Check | Command::Reproof | Command::Decode => false,
             Command::Encode => {
                 let words = encode_words(values);
                 words.hi < words.lo
@@ -174,6 +191,7 @@ impl Command {
             Command::List => Task::List,
             Command::Check => Task::Check,
             Command::Reproof => Task::Reproof,
+            Command::Decode => Task::Decode(decode_words(values)),
         }
     }
 
@@ -205,6 +223,11 @@ impl Command {
                 cert: operands.get(1).copied(),
                 ..Names::none()
             },
+            Command::Decode => Names {
+                movie: operands.first().copied(),
+                out: operands.get(1).copied(),
+                ..Names::none()
+            },
         }
     }
 }
@@ -220,6 +243,17 @@ impl Task {
             Task::List => Command::List,
             Task::Check => Command::Check,
             Task::Reproof => Command::Reproof,
+            Task::Decode(_) => Command::Decode,
+        }
+    }
+
+    /// Whether monitors are told of pictures.
+    fn tells_monitors(self) -> bool
+        ensures { result ≡ is_decode self }
+    {
+        match self {
+            Task::Decode(_) => true,
+            Task::Plan | Task::Encode(_) | Task::List | Task::Check | Task::Reproof => false,
         }
     }
 }
@@ -267,6 +301,16 @@ fn encode_words(values: &Values) -> EncodeWords
     }
 }
 
+/// The values of the options of `decode`, and of those that are absent.
+fn decode_words(values: &Values) -> DecodeWords
+    ensures { result ≡ decode_words values.now }
+{
+    DecodeWords {
+        depth: values.depth.unwrap_or(Depth::D10),
+        form: values.form.unwrap_or(Form::Y4m),
+    }
+}
+
 /// Whether frames are interlaced and have an odd number of rows.
 fn has_odd_form(form: Option<Head>) -> bool
     ensures { result ≡ has_odd_form form }
@@ -278,6 +322,7 @@ fn has_odd_form(form: Option<Head>) -> bool
 }
 
 /// The values with that of this option, which the word of this number gives, and which may stand once.
+#[tactic(auto, unfolding(crate::specs::Words::with_option_value))]
 fn with_option_value(
     option: OptionName,
     value: &[u8],
@@ -403,5 +448,15 @@ pub fn names_of(words: &[String]) -> Names
     match settings_of(words) {
         Ok(settings) => settings.task.command().names(&settings.operands),
         Err(_) => Names::none(),
+    }
+}
+
+/// Whether what the words say tells monitors of pictures: `decode` alone does. It takes no memory.
+pub fn tells_monitors(words: &[String]) -> bool
+    ensures { result ≡ tells_monitors (said words.now) }
+{
+    match settings_of(words) {
+        Ok(settings) => settings.task.tells_monitors(),
+        Err(_) => false,
     }
 }

@@ -2,8 +2,11 @@ use Rattle.std.proofs.Common.{◌≡◌, subst}
 use Rattle.pw_outside.specs.Reading.{bytes_of}
 use Rattle.pic_raw.specs.Any.{pictures_of}
 use Rattle.workshop.specs.Encoding.{CompletesEncode}
+use Rattle.qt_movie.specs.Movie.{movie_in}
+use Rattle.workshop.specs.Decoding.{CompletesDecode}
 use Rattle.workshop.specs.Words.{said, settled}
 use Rattle.workshop.proofs.Encoded.{quiet, same-words}
+use Rattle.workshop.proofs.Decoded as decoded
 use Rattle.workshop.proofs.top.workshop.Goals as goal
 use Rattle.workshop.specs.Listing.{status_of}
 use Rattle.workshop.specs.Status.{AnswersUnlessOutside}
@@ -24,3 +27,11 @@ pub returns-in-Reproof-clause-reproof_complete : goal.returns-in-Reproof-clause-
 returns-in-Reproof-clause-reproof_complete g c = λ told run none done.
     reproof_completes (said c.args.words.now) c.reproof.result _ _ run none c.reproof.ensures.read c.reproof.ensures.write
     (subst (λ end. AnswersUnlessOutside c.reproof.result (status_of end)) done (c.reproof.ensures.answer told))
+
+pub returns-in-Decode-clause-decode_complete : goal.returns-in-Decode-clause-decode_complete
+returns-in-Decode-clause-decode_complete g c = λ told w is none.
+    let none = decoded.quiet (said c.args.words.now) (settled c.in-Ok.settings) c.in-Decode.values _ _ c.in-Ok.ensures.value c.in-Decode.is none in
+    let same = decoded.same-words (said c.args.words.now) (settled c.in-Ok.settings) c.in-Decode.values w c.in-Ok.ensures.value c.in-Decode.is is in
+    let file = bytes_of (g.M.ByteStore.bytes c.args.movie.now) in
+    subst (λ v. CompletesDecode v file (movie_in file) c.decode.result) same
+    (c.decode.ensures.complete told none.0 none.1 none.2)
