@@ -1,4 +1,4 @@
-//! Bytes in hexadecimal.
+//! Bytes in hexadecimal, and their hash.
 
 ghost use Rattle.std.specs.Prelude.{◌<◌, IfSome};
 
@@ -38,4 +38,27 @@ pub(crate) fn word_of(rt: &HostRuntime, bytes: &[u8]) -> io::Result<String> {
         word.push_str(&format!(in alloc; "{byte:02x}")?)?;
     }
     Ok(word)
+}
+
+/// A hash of bytes (FNV-1a, 64 bits).
+fn hash_of(bytes: &[u8]) -> u64 {
+    let mut hash: u64 = 0xcbf2_9ce4_8422_2325;
+    for byte in bytes {
+        hash ^= u64::from(*byte);
+        hash = hash.wrapping_mul(0x0100_0000_01b3);
+    }
+    hash
+}
+
+/// The same, with a lone dash for none, and their number and a hash for more than 600.
+pub(crate) fn hashed_of(rt: &HostRuntime, bytes: &[u8]) -> io::Result<String> {
+    let alloc = rt.alloc();
+    if bytes.is_empty() {
+        return Ok("-".to_string(alloc)?);
+    }
+    if bytes.len() > 600 {
+        let hash = hash_of(bytes);
+        return Ok(format!(in alloc; "{}:{hash:016x}", bytes.len())?);
+    }
+    word_of(rt, bytes)
 }

@@ -6,6 +6,8 @@
 //! - `fronts COMMAND .. FILE`: what it answers over the fronts of this file: each answer behind the length of the first front
 //!   that has it, if the front before has another.
 //! - `failing COMMAND .. FILE`: how many of the first 100 calls of the port that is read, and of `text`, are told when they fail.
+//! - `whole WORD .. FILE`: a whole run where this file stands behind each port that is read: the exit status with its line, the
+//!   text, and what `out` and `cert` got, those of more than 600 bytes by their number and a hash.
 //! - `words WORD ..`: the files' names among these words, the exit status over empty files, and its line.
 //! - `line WORD ..`: the fault of these words, or a lone dash where they are in the grammar.
 //! - `places MOVIE`: where the samples of the movie lie.
@@ -29,6 +31,7 @@ fn answer(rt: &HostRuntime, line: &str) -> io::Result<String> {
         "fronts" => runs::fronts_told(rt, rest),
         "failing" => runs::failing_told(rt, rest),
         "plan" | "list" | "decode" => runs::told(rt, line),
+        "whole" => runs::whole_told(rt, rest),
         "places" => movies::places_told(rt, rest),
         "write" => movies::bytes_told(rt, rest),
         "written" => movies::written_told(rt, rest),

@@ -2,7 +2,7 @@
 
 ghost use Rattle.std.specs.Prelude.{◌≤◌};
 
-use crate::hex::{bytes_of, word_of};
+use crate::hex::{bytes_of, hashed_of, word_of};
 use monitors::{BlackMonitor, BytesMonitor, IndexMonitor, LevelMonitor, Monitor};
 use pw_outside::{MemSink, MemSource, MemStore};
 use std::io;
@@ -16,12 +16,13 @@ struct Ports {
     writing: Option<u64>,
 }
 
-/// What a run answered, and what it wrote to `text` and to `out`.
+/// What a run answered, and what it wrote to `text`, `out` and `cert`.
 #[derive(Drop)]
 struct Answer {
     status: Status,
     text: Vec<u8>,
     out: Vec<u8>,
+    cert: Vec<u8>,
 }
 
 /// The words of a command over a file: a lone word has one operand behind it.
@@ -65,7 +66,7 @@ fn sink_of(rt: &HostRuntime, step: usize, call: Option<u64>) -> io::Result<MemSi
     }
 }
 
-/// What the top call answers, where this file stands behind both ports that a command may read.
+/// What the top call answers, where this file stands behind each port that a command may read.
 fn ran(
     rt: &HostRuntime,
     words: &[String],
@@ -76,11 +77,11 @@ fn ran(
 {
     let alloc = rt.alloc();
     let step = ports.step;
-    let mut pictures = MemSource::new(Vec::new(alloc), 1, Vec::new(alloc));
+    let mut pictures = MemSource::new(file.to_vec(alloc)?, step, calls_of(rt, ports.reading)?);
     let mut proof = MemSource::new(file.to_vec(alloc)?, step, calls_of(rt, ports.reading)?);
     let mut movie = MemStore::new(file.to_vec(alloc)?, step, calls_of(rt, ports.reading)?);
     let mut out = sink_of(rt, step, None)?;
-    let mut cert = sink_of(rt, 1, None)?;
+    let mut cert = sink_of(rt, step, None)?;
     let mut text = sink_of(rt, step, ports.writing)?;
     let mut monitors = monitors_for(rt, words)?;
     let status = workshop(
@@ -98,6 +99,7 @@ fn ran(
         status,
         text: text.bytes().to_vec(alloc)?,
         out: out.bytes().to_vec(alloc)?,
+        cert: cert.bytes().to_vec(alloc)?,
     })
 }
 
@@ -265,4 +267,47 @@ pub(crate) fn line_told(rt: &HostRuntime, case: &str) -> io::Result<String> {
         }
         _ => Ok("-".to_string(rt.alloc())?),
     }
+}
+
+/// A text on one line, with `\n` for each line feed; a lone dash for none.
+fn text_of(rt: &HostRuntime, text: &[u8]) -> io::Result<String> {
+    let alloc = rt.alloc();
+    if text.is_empty() {
+        return Ok("-".to_string(alloc)?);
+    }
+    let mut line = String::new(alloc);
+    for part in String::from_utf8_lossy(alloc, text)?.lines() {
+        line.push_str(part)?;
+        line.push_str("\\n")?;
+    }
+    Ok(line)
+}
+
+/// A whole run whose ports move so many bytes a call: the exit status with its line, the text, and what `out` and `cert` got.
+fn whole_of(rt: &HostRuntime, words: &[String], file: &[u8], step: usize) -> io::Result<String>
+    requires { 1 ≤ step }
+{
+    let ports = Ports {
+        step,
+        reading: None,
+        writing: None,
+    };
+    let answer = ran(rt, words, file, &ports)?;
+    let code = answer.status.code();
+    let line = answer.status;
+    let text = text_of(rt, &answer.text)?;
+    let out = hashed_of(rt, &answer.out)?;
+    let cert = hashed_of(rt, &answer.cert)?;
+    Ok(format!(in rt.alloc(); "{code} {line} | {text} | {out} | {cert}")?)
+}
+
+pub(crate) fn whole_told(rt: &HostRuntime, case: &str) -> io::Result<String> {
+    let (command, file) = case_of(rt, case)?;
+    let words = words_of(rt, command)?;
+    let answer = whole_of(rt, &words, &file, 4096)?;
+    let other = whole_of(rt, &words, &file, 3)?;
+    if other != answer {
+        return Ok(format!(in rt.alloc(); "{answer}, but in steps of 3 {other}")?);
+    }
+    Ok(answer)
 }

@@ -2,6 +2,7 @@
 
 use crate::{Status, UsageKind};
 use pic_y4m::PictureKind;
+use pr_head::FrameKind;
 use qt_tables::MovieKind;
 use rate_table::ProofKind;
 use std::test::Fail;
@@ -12,7 +13,7 @@ fn each_status_has_its_line_and_its_number(rt: HostRuntime) -> Result<(), Fail> 
         kind: UsageKind::ExtraOperand,
         word: 2,
     };
-    let cases: [(Status, &str, u8); 10] = [
+    let cases: [(Status, &str, u8); 12] = [
         (Status::Done, "", 0),
         (usage, "usage: ExtraOperand at word 2", 1),
         (Status::NoMemory, "no memory", 2),
@@ -54,6 +55,23 @@ fn each_status_has_its_line_and_its_number(rt: HostRuntime) -> Result<(), Fail> 
             },
             "movie: AtomSize at 206",
             8,
+        ),
+        (
+            Status::BadFrame {
+                sample: 2,
+                kind: FrameKind::Differs,
+                place: 8,
+            },
+            "sample 2: Differs at 8",
+            9,
+        ),
+        (
+            Status::Refused {
+                frame: 3,
+                clause: 7,
+            },
+            "frame 3: refused by clause 7",
+            11,
         ),
     ];
     for (status, line, code) in cases {
