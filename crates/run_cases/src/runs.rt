@@ -67,12 +67,7 @@ fn sink_of(rt: &HostRuntime, step: usize, call: Option<u64>) -> io::Result<MemSi
 }
 
 /// What the top call answers, where this file stands behind each port that a command may read.
-fn ran(
-    rt: &HostRuntime,
-    words: &[String],
-    file: &[u8],
-    ports: &Ports,
-) -> io::Result<Answer>
+fn ran(rt: &HostRuntime, words: &[String], file: &[u8], ports: &Ports) -> io::Result<Answer>
     requires { 1 ≤ ports.now.step }
 {
     let alloc = rt.alloc();

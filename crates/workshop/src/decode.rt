@@ -65,13 +65,5 @@ pub(crate) fn decode<M: ByteStore, K: ByteSink>(
     ensures read { CountsFault (M.faults movie.old) (M.faults movie.new) (is_read_fault result) }
     ensures write { CountsFaults K.faults out.old text.old out.new text.new (is_write_fault result) }
 {
-    status_of(decode_run(
-        alloc,
-        movie,
-        words.depth,
-        words.form,
-        out,
-        text,
-        monitors,
-    ))
+    status_of(decode_run(alloc, movie, words.depth, words.form, out, text, monitors))
 }

@@ -21,13 +21,12 @@ ghost use Rattle.workshop.specs.Listing.{AnswersList, CompletesList};
 ghost use Rattle.workshop.specs.Checking.{AnswersCheck, PrintsChecked, CompletesCheck};
 ghost use Rattle.run_look.specs.Reproofing.{reproofed, SaysTheSame};
 ghost use Rattle.workshop.specs.Reproofing.{AnswersReproof, WritesUntil, CompletesReproof};
-
-use crate::checking::check;
 ghost use Rattle.run_decode.specs.Running.{world};
 ghost use Rattle.run_decode.specs.Laws.{WritesFrontsOf};
 ghost use Rattle.workshop.specs.declared.words.DecodeWords.{DecodeWords};
 ghost use Rattle.workshop.specs.Decoding.{AnswersDecode, CompletesDecode};
 
+use crate::checking::check;
 use crate::decode::decode;
 use crate::encode::encode;
 use crate::listing::list;

@@ -159,7 +159,8 @@ impl Command {
         ensures { result ≡ lacks_option self values.now }
     {
         match self {
-            Command::Plan | Command::List | Command::Check | Command::Reproof | Command::Decode => false,
+            Command::Plan | Command::List | Command::Check | Command::Reproof | Command::Decode =>
+                false,
             Command::Encode => values.budget.is_none(),
         }
     }
@@ -170,7 +171,8 @@ impl Command {
         ensures { result ≡ clash self values.now }
     {
         match self {
-            Command::Plan | Command::List | Command::Check | Command::Reproof | Command::Decode => false,
+            Command::Plan | Command::List | Command::Check | Command::Reproof | Command::Decode =>
+                false,
             Command::Encode => {
                 let words = encode_words(values);
                 words.hi < words.lo
