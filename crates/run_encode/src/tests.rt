@@ -61,6 +61,11 @@ fn greys(alloc: Global, lumas: &[u16]) -> Result<Vec<u8>, Fail> {
     Ok(bytes)
 }
 
+/// Whether these bytes stand at this place.
+fn stands_at(bytes: &[u8], place: usize, piece: &[u8]) -> bool {
+    place <= bytes.len() && bytes[place..].starts_with(piece)
+}
+
 /// What a run over these bytes gives, where the calls with these numbers of the source and of the movie's sink fail.
 fn given(
     alloc: Global,
@@ -120,7 +125,7 @@ fn one_frame_alone(rt: HostRuntime) -> Result<(), Fail> {
         (798, 237),
     )?;
     let slice = b"\x30\x01\x00\x02\x00\x02\x82\x30\x82\x00\x82\x00";
-    assert!(rt; gave.movie[194..].starts_with(slice));
+    assert!(rt; stands_at(&gave.movie, 194, slice));
     gives(
         &rt,
         alloc,
@@ -170,7 +175,7 @@ fn two_frames_under_one_budget(rt: HostRuntime) -> Result<(), Fail> {
         assert_eq!(rt; together.end, EncodeEnd::Done);
         assert!(rt; together.text.as_slice() == lines.as_bytes());
         assert_eq!(rt; together.proof.len(), length);
-        assert_eq!(rt; together.proof[5], 2);
+        assert!(rt; stands_at(&together.proof, 5, b"\x02"));
     }
     let small = EncodeEnd::TooSmall {
         frame: 0,
@@ -201,9 +206,9 @@ fn both_fields_of_a_frame(rt: HostRuntime) -> Result<(), Fail> {
     let gave = given(alloc, &words(202, 1, 1, 2), &bytes, &[], &[])?;
     assert_eq!(rt; gave.end, EncodeEnd::Done);
     assert!(rt; gave.text.as_slice() == b"frame 0 size 202 error 0\nframes 1\n".as_slice());
-    assert_eq!(rt; gave.movie[48], 0x88);
+    assert!(rt; stands_at(&gave.movie, 48, b"\x88"));
     let first = b"\x40\0\0\0\x17\0\x01\x30\0\x0d\x30\x01\0\x03\0\x02\x05\xa0\x8c\x82\0\x82\0";
-    assert!(rt; gave.movie[184..].starts_with(first));
+    assert!(rt; stands_at(&gave.movie, 184, first));
     let gave = given(alloc, &words(202, 31, 1, 2), &bytes, &[], &[])?;
     assert!(rt; gave.text.as_slice() == b"frame 0 size 200 error 0\nframes 1\n".as_slice());
     Ok(())
@@ -245,8 +250,8 @@ fn raw_pictures_with_alpha(rt: HostRuntime) -> Result<(), Fail> {
     assert_eq!(rt; gave.end, EncodeEnd::Done);
     assert!(rt; gave.text.as_slice() == b"frame 0 size 184 error 0\nframes 1\n".as_slice());
     let slice = b"\x40\x01\0\x02\0\x02\0\x02\x82\x30\x82\x30\x82\x30\x80\0\x7f\x80";
-    assert!(rt; gave.movie[194..].starts_with(slice));
-    assert_eq!(rt; gave.proof[5], 1);
+    assert!(rt; stands_at(&gave.movie, 194, slice));
+    assert!(rt; stands_at(&gave.proof, 5, b"\x01"));
     Ok(())
 }
 
@@ -266,11 +271,13 @@ fn faults_of_ports_and_of_pictures(rt: HostRuntime) -> Result<(), Fail> {
     }
     let gave = given(alloc, &words, &grey, &[1], &[])?;
     assert_eq!(rt; gave.end, EncodeEnd::ReadFault);
+    let mut short = greys(alloc, &[512])?;
+    short.truncate(1064);
     let cut = EncodeEnd::BadPictures {
         kind: PictureKind::Truncated,
         place: 1064,
     };
-    let gave = given(alloc, &words, &grey[..1064], &[], &[])?;
+    let gave = given(alloc, &words, &short, &[], &[])?;
     assert_eq!(rt; gave.end, cut);
     assert_eq!(rt; gave.movie.len(), 20);
     Ok(())
