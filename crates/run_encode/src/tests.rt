@@ -261,7 +261,8 @@ fn faults_of_ports_and_of_pictures(rt: HostRuntime) -> Result<(), Fail> {
     let grey = greys(alloc, &[512])?;
     let words = words(178, 3, 1, 2);
     let whole = given(alloc, &words, &grey, &[], &[])?;
-    for call in 0..12u8 {
+    // The movie's sink is called 20 times in all, its flush included.
+    for call in 0..20u8 {
         let gave = given(alloc, &words, &grey, &[], &[u64::from(call)])?;
         assert_eq!(rt; gave.end, EncodeEnd::WriteFault, "call {call}");
         assert!(rt;
@@ -269,6 +270,8 @@ fn faults_of_ports_and_of_pictures(rt: HostRuntime) -> Result<(), Fail> {
             "call {call}"
         );
     }
+    let gave = given(alloc, &words, &grey, &[], &[20])?;
+    assert_eq!(rt; gave.end, EncodeEnd::Done);
     let gave = given(alloc, &words, &grey, &[1], &[])?;
     assert_eq!(rt; gave.end, EncodeEnd::ReadFault);
     let mut short = greys(alloc, &[512])?;
