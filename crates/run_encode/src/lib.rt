@@ -22,3 +22,6 @@ pub use end::EncodeEnd;
 pub use job::{EncodeWords, Job};
 pub use laws::{cut_has_headline, encoded_has_headline, encoding_goes_on, encoding_is_one};
 pub use run::encode_run;
+
+#[cfg(test)]
+mod tests;
