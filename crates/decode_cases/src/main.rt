@@ -15,17 +15,6 @@ use pw_planes::Depth;
 use run_decode::{DecodeEnd, Form, decode_run};
 use std::io;
 
-/// The four monitors, in the order of their reports.
-fn monitors_of(rt: &HostRuntime) -> io::Result<Vec<Box<dyn Monitor>>> {
-    let alloc = rt.alloc();
-    let mut monitors: Vec<Box<dyn Monitor>> = Vec::new(alloc);
-    monitors.push(Box::new(alloc, LevelMonitor::new())?)?;
-    monitors.push(Box::new(alloc, BlackMonitor::new(alloc))?)?;
-    monitors.push(Box::new(alloc, BytesMonitor::new())?)?;
-    monitors.push(Box::new(alloc, IndexMonitor::new())?)?;
-    Ok(monitors)
-}
-
 /// How a run ended, on one line.
 fn end_told(rt: &HostRuntime, end: DecodeEnd) -> io::Result<String> {
     let alloc = rt.alloc();
@@ -82,7 +71,11 @@ fn decoded(
     let mut movie = MemStore::new(file.to_vec(alloc)?, step, Vec::new(alloc));
     let mut out = sink_of(rt, step)?;
     let mut text = sink_of(rt, step)?;
-    let mut monitors = monitors_of(rt)?;
+    let mut monitors: Vec<Box<dyn Monitor>> = Vec::new(alloc);
+    monitors.push(Box::new(alloc, LevelMonitor::new())?)?;
+    monitors.push(Box::new(alloc, BlackMonitor::new(alloc))?)?;
+    monitors.push(Box::new(alloc, BytesMonitor::new())?)?;
+    monitors.push(Box::new(alloc, IndexMonitor::new())?)?;
     let end = decode_run(
         alloc,
         &mut movie,

@@ -22,6 +22,19 @@ pub trait Monitor: Drop {
         ensures err { OnErr result (IsFrontAdded text.old.items text.new.items (report_of (state self.now))) };
 }
 
+/// A box is the monitor in it.
+impl Monitor for Box<dyn Monitor> {
+    ghost state = { λ b. (Monitor-box b).state b.value };
+
+    fn picture(&mut self, facts: &PictureFacts) -> Result<(), NoMemory> {
+        (**self).picture(facts)
+    }
+
+    fn report(&self, text: &mut Vec<u8>) -> Result<(), NoMemory> {
+        (**self).report(text)
+    }
+}
+
 /// Appends bytes. After `NoMemory` the text is as it was.
 pub(crate) fn append(text: &mut Vec<u8>, bytes: &[u8]) -> Result<(), NoMemory>
     ensures ok { OnOk result (text.new.items ≡ text.old.items ++ bytes.now) }

@@ -34,19 +34,6 @@ fn command_words(rt: &HostRuntime, command: &str) -> io::Result<Vec<String>> {
     Ok(words)
 }
 
-/// The four monitors, in the order of their reports, where the words are a run of `decode`.
-fn monitors_for(rt: &HostRuntime, words: &[String]) -> io::Result<Vec<Box<dyn Monitor>>> {
-    let alloc = rt.alloc();
-    let mut monitors: Vec<Box<dyn Monitor>> = Vec::new(alloc);
-    if tells_monitors(words) {
-        monitors.push(Box::new(alloc, LevelMonitor::new())?)?;
-        monitors.push(Box::new(alloc, BlackMonitor::new(alloc))?)?;
-        monitors.push(Box::new(alloc, BytesMonitor::new())?)?;
-        monitors.push(Box::new(alloc, IndexMonitor::new())?)?;
-    }
-    Ok(monitors)
-}
-
 /// The calls that fail: none, or one.
 fn calls_of(rt: &HostRuntime, call: Option<u64>) -> io::Result<Vec<u64>> {
     let mut calls = Vec::new(rt.alloc());
@@ -66,7 +53,8 @@ fn sink_of(rt: &HostRuntime, step: usize, call: Option<u64>) -> io::Result<MemSi
     }
 }
 
-/// What the top call answers, where this file stands behind each port that a command may read.
+/// What the top call answers, where this file stands behind each port that a command may read. `decode` has the four
+/// monitors, in the order of their reports.
 fn ran(rt: &HostRuntime, words: &[String], file: &[u8], ports: &Ports) -> io::Result<Answer>
     requires { 1 ≤ ports.now.step }
 {
@@ -78,7 +66,13 @@ fn ran(rt: &HostRuntime, words: &[String], file: &[u8], ports: &Ports) -> io::Re
     let mut out = sink_of(rt, step, None)?;
     let mut cert = sink_of(rt, step, None)?;
     let mut text = sink_of(rt, step, ports.writing)?;
-    let mut monitors = monitors_for(rt, words)?;
+    let mut monitors: Vec<Box<dyn Monitor>> = Vec::new(alloc);
+    if tells_monitors(words) {
+        monitors.push(Box::new(alloc, LevelMonitor::new())?)?;
+        monitors.push(Box::new(alloc, BlackMonitor::new(alloc))?)?;
+        monitors.push(Box::new(alloc, BytesMonitor::new())?)?;
+        monitors.push(Box::new(alloc, IndexMonitor::new())?)?;
+    }
     let status = workshop(
         alloc,
         words,

@@ -51,12 +51,12 @@ fn put_line<K: ByteSink>(alloc: Global, count: u32, text: &mut K) -> Result<(), 
 }
 
 /// Writes a monitor's report.
-fn put_report<K: ByteSink>(
+fn put_report<K: ByteSink, B: Monitor>(
     alloc: Global,
-    monitor: &Box<dyn Monitor>,
+    monitor: &B,
     text: &mut K,
 ) -> Result<(), WriteEnd>
-    ensures bytes { Writes result (sink_state (K.held text.old) (K.taken text.old)) (sink_state (K.held text.new) (K.taken text.new)) (report_of (state monitor.now)) }
+    ensures bytes { Writes result (sink_state (K.held text.old) (K.taken text.old)) (sink_state (K.held text.new) (K.taken text.new)) (report_of (B.state monitor.now)) }
     ensures cause { CountsFault (K.faults text.old) (K.faults text.new) (write_failed result) }
 {
     let mut lines = Vec::new(alloc);
@@ -67,14 +67,14 @@ fn put_report<K: ByteSink>(
 }
 
 /// Writes the reports in order. A monitor leaves the list once its report was written whole.
-fn put_reports<K: ByteSink>(
+fn put_reports<K: ByteSink, B: Monitor>(
     alloc: Global,
-    monitors: &mut Vec<Box<dyn Monitor>>,
+    monitors: &mut Vec<B>,
     text: &mut K,
 ) -> Result<(), WriteEnd>
-    ensures ok { OnOk result (Puts (sink_state (K.held text.old) (K.taken text.old)) (sink_state (K.held text.new) (K.taken text.new)) (reports_of (map state monitors.old.items))) }
-    ensures emptied { OnOk result (map state monitors.new.items ≡ []) }
-    ensures err { OnErr result (Reported (map state monitors.old.items) (map state monitors.new.items) (sink_state (K.held text.old) (K.taken text.old)) (sink_state (K.held text.new) (K.taken text.new))) }
+    ensures ok { OnOk result (Puts (sink_state (K.held text.old) (K.taken text.old)) (sink_state (K.held text.new) (K.taken text.new)) (reports_of (map B.state monitors.old.items))) }
+    ensures emptied { OnOk result (map B.state monitors.new.items ≡ []) }
+    ensures err { OnErr result (Reported (map B.state monitors.old.items) (map B.state monitors.new.items) (sink_state (K.held text.old) (K.taken text.old)) (sink_state (K.held text.new) (K.taken text.new))) }
     ensures cause { CountsFault (K.faults text.old) (K.faults text.new) (write_failed result) }
 {
     while !monitors.is_empty() {
@@ -85,14 +85,14 @@ fn put_reports<K: ByteSink>(
 }
 
 /// Writes the line and the reports.
-fn print<K: ByteSink>(
+fn print<K: ByteSink, B: Monitor>(
     alloc: Global,
     count: u32,
-    monitors: &mut Vec<Box<dyn Monitor>>,
+    monitors: &mut Vec<B>,
     text: &mut K,
 ) -> Result<(), WriteEnd>
-    ensures ok { OnOk result (Printed count (map state monitors.old.items) (map state monitors.new.items) (sink_state (K.held text.old) (K.taken text.old)) (sink_state (K.held text.new) (K.taken text.new))) }
-    ensures err { OnErr result (TextStops count (map state monitors.old.items) (map state monitors.new.items) (sink_state (K.held text.old) (K.taken text.old)) (sink_state (K.held text.new) (K.taken text.new))) }
+    ensures ok { OnOk result (Printed count (map B.state monitors.old.items) (map B.state monitors.new.items) (sink_state (K.held text.old) (K.taken text.old)) (sink_state (K.held text.new) (K.taken text.new))) }
+    ensures err { OnErr result (TextStops count (map B.state monitors.old.items) (map B.state monitors.new.items) (sink_state (K.held text.old) (K.taken text.old)) (sink_state (K.held text.new) (K.taken text.new))) }
     ensures cause { CountsFault (K.faults text.old) (K.faults text.new) (write_failed result) }
 {
     put_line(alloc, count, text)?;
@@ -113,14 +113,14 @@ fn settle<K: ByteSink>(out: &mut K, text: &mut K) -> Result<(), Failed>
 
 /// Writes the line and the reports, and settles both sinks.
 #[tactic(auto, using(crate::proofs::Reports::finish_done, crate::proofs::Reports::finish_failed))]
-pub(crate) fn finish<K: ByteSink>(
+pub(crate) fn finish<K: ByteSink, B: Monitor>(
     alloc: Global,
     count: u32,
     out: &mut K,
     text: &mut K,
-    monitors: &mut Vec<Box<dyn Monitor>>,
+    monitors: &mut Vec<B>,
 ) -> DecodeEnd
-    ensures finish { FinishIs count result (map state monitors.old.items) (map state monitors.new.items) (sink_state (K.held text.old) (K.taken text.old)) (sink_state (K.held text.new) (K.taken text.new)) }
+    ensures finish { FinishIs count result (map B.state monitors.old.items) (map B.state monitors.new.items) (sink_state (K.held text.old) (K.taken text.old)) (sink_state (K.held text.new) (K.taken text.new)) }
     ensures out { Puts (sink_state (K.held out.old) (K.taken out.old)) (sink_state (K.held out.new) (K.taken out.new)) [] }
     ensures settled { OnTrue (is_done result) ((K.settled out.new ≡ K.taken out.new) × (K.settled text.new ≡ K.taken text.new)) }
     ensures cause { CountsFaults K.faults out.old text.old out.new text.new (is_write_fault result) }

@@ -25,19 +25,19 @@ use qt_tables::{MovieFault, samples_are_counted};
 use std::alloc::Global;
 
 /// Shows all samples: reads, compares, writes, tells.
-fn show_all<M: ByteStore, K: ByteSink>(
+fn show_all<M: ByteStore, K: ByteSink, B: Monitor>(
     alloc: Global,
     job: &Job,
     reader: &MovieReader,
     movie: &mut M,
     out: &mut K,
-    monitors: &mut Vec<Box<dyn Monitor>>,
+    monitors: &mut Vec<B>,
 ) -> Result<(), DecodeEnd>
     requires { AreTables reader.now.tables }
     ensures refused { IfErr result (λ e. is_done e ≡ false) }
     ensures shown { Told (M.bytes movie.old) (λ file. (text : SinkState) → text.taken ≤ last →
         ShownAll job.now file (samples reader.now.tables) (length reader.now.tables.sizes) result
-        (with_text text (scene K.held K.taken out.old (map state monitors.old.items))) (with_text text (scene K.held K.taken out.new (map state monitors.new.items)))) }
+        (with_text text (scene K.held K.taken out.old (map B.state monitors.old.items))) (with_text text (scene K.held K.taken out.new (map B.state monitors.new.items)))) }
     ensures extends { Extends (sink_state (K.held out.old) (K.taken out.old)) (sink_state (K.held out.new) (K.taken out.new)) }
     ensures bytes { M.bytes movie.new ≡ M.bytes movie.old }
     ensures read { CountsFault (M.faults movie.old) (M.faults movie.new) (is_read_end result) }
@@ -61,21 +61,21 @@ fn show_all<M: ByteStore, K: ByteSink>(
 }
 
 /// Shows all samples of a movie that was read, and ends the run.
-fn run_job<M: ByteStore, K: ByteSink>(
+fn run_job<M: ByteStore, K: ByteSink, B: Monitor>(
     alloc: Global,
     job: &Job,
     reader: &MovieReader,
     movie: &mut M,
     out: &mut K,
     text: &mut K,
-    monitors: &mut Vec<Box<dyn Monitor>>,
+    monitors: &mut Vec<B>,
 ) -> DecodeEnd
     requires { AreTables reader.now.tables }
     ensures ran { Told (M.bytes movie.old) (λ file. Ran job.now file (samples reader.now.tables) result
-        (world K.held K.taken out.old text.old (map state monitors.old.items)) (world K.held K.taken out.new text.new (map state monitors.new.items))) }
+        (world K.held K.taken out.old text.old (map B.state monitors.old.items)) (world K.held K.taken out.new text.new (map B.state monitors.new.items))) }
     ensures out_extends { Extends (sink_state (K.held out.old) (K.taken out.old)) (sink_state (K.held out.new) (K.taken out.new)) }
     ensures text_extends { Extends (sink_state (K.held text.old) (K.taken text.old)) (sink_state (K.held text.new) (K.taken text.new)) }
-    ensures emptied { OnTrue (is_done result) (map state monitors.new.items ≡ []) }
+    ensures emptied { OnTrue (is_done result) (map B.state monitors.new.items ≡ []) }
     ensures settled { OnTrue (is_done result) ((K.settled out.new ≡ K.taken out.new) × (K.settled text.new ≡ K.taken text.new)) }
     ensures bytes { M.bytes movie.new ≡ M.bytes movie.old }
     ensures read { CountsFault (M.faults movie.old) (M.faults movie.new) (is_read_fault result) }
@@ -89,20 +89,20 @@ fn run_job<M: ByteStore, K: ByteSink>(
 
 /// Reads the movie's tables, and runs over its samples.
 #[tactic(auto, using(crate::proofs::Extending::none_extends))]
-fn run_movie<M: ByteStore, K: ByteSink>(
+fn run_movie<M: ByteStore, K: ByteSink, B: Monitor>(
     alloc: Global,
     movie: &mut M,
     depth: Depth,
     form: Form,
     out: &mut K,
     text: &mut K,
-    monitors: &mut Vec<Box<dyn Monitor>>,
+    monitors: &mut Vec<B>,
 ) -> DecodeEnd
     ensures ran { Told (M.bytes movie.old) (λ file. RanOn form depth file (movie_in file) result
-        (world K.held K.taken out.old text.old (map state monitors.old.items)) (world K.held K.taken out.new text.new (map state monitors.new.items))) }
+        (world K.held K.taken out.old text.old (map B.state monitors.old.items)) (world K.held K.taken out.new text.new (map B.state monitors.new.items))) }
     ensures out_extends { Extends (sink_state (K.held out.old) (K.taken out.old)) (sink_state (K.held out.new) (K.taken out.new)) }
     ensures text_extends { Extends (sink_state (K.held text.old) (K.taken text.old)) (sink_state (K.held text.new) (K.taken text.new)) }
-    ensures emptied { OnTrue (is_done result) (map state monitors.new.items ≡ []) }
+    ensures emptied { OnTrue (is_done result) (map B.state monitors.new.items ≡ []) }
     ensures settled { OnTrue (is_done result) ((K.settled out.new ≡ K.taken out.new) × (K.settled text.new ≡ K.taken text.new)) }
     ensures bytes { M.bytes movie.new ≡ M.bytes movie.old }
     ensures read { CountsFault (M.faults movie.old) (M.faults movie.new) (is_read_fault result) }
@@ -124,21 +124,21 @@ fn run_movie<M: ByteStore, K: ByteSink>(
 ///
 /// For each sample, in order: its place in the file; its reading; its frame's fault; the comparison with the first frame (`Differs`
 /// at byte 8 of the sample, where size, sampling, fields or alpha are others); the writing; the monitors in their order.
-pub fn decode_run<M: ByteStore, K: ByteSink>(
+pub fn decode_run<M: ByteStore, K: ByteSink, B: Monitor>(
     alloc: Global,
     movie: &mut M,
     depth: Depth,
     form: Form,
     out: &mut K,
     text: &mut K,
-    monitors: &mut Vec<Box<dyn Monitor>>,
+    monitors: &mut Vec<B>,
 ) -> DecodeEnd
     // Where the movie's bytes are told, they decide the answer, what is written, and what the monitors are told.
     ensures ran { Told (M.bytes movie.old) (λ file. RanOn form depth file (movie_in file) result
-        (world K.held K.taken out.old text.old (map state monitors.old.items)) (world K.held K.taken out.new text.new (map state monitors.new.items))) }
+        (world K.held K.taken out.old text.old (map B.state monitors.old.items)) (world K.held K.taken out.new text.new (map B.state monitors.new.items))) }
     // After every answer both sinks have fronts of what decoding gives; of a file that is no such movie nothing is written.
     ensures fronts { Told (M.bytes movie.old) (λ file. WritesFrontsOf form depth file (movie_in file)
-        (world K.held K.taken out.old text.old (map state monitors.old.items)) (world K.held K.taken out.new text.new (map state monitors.new.items))) }
+        (world K.held K.taken out.old text.old (map B.state monitors.old.items)) (world K.held K.taken out.new text.new (map B.state monitors.new.items))) }
     // Where no port failed, a movie whose samples all lie in the file and stand for frames like the first is decoded, unless memory runs
     // out.
     ensures complete { Told (M.bytes movie.old) (λ file.
@@ -148,7 +148,7 @@ pub fn decode_run<M: ByteStore, K: ByteSink>(
     ensures out_extends { Extends (sink_state (K.held out.old) (K.taken out.old)) (sink_state (K.held out.new) (K.taken out.new)) }
     ensures text_extends { Extends (sink_state (K.held text.old) (K.taken text.old)) (sink_state (K.held text.new) (K.taken text.new)) }
     // After Done no monitor is left, and all that was written is settled.
-    ensures emptied { OnTrue (is_done result) (map state monitors.new.items ≡ []) }
+    ensures emptied { OnTrue (is_done result) (map B.state monitors.new.items ≡ []) }
     ensures settled { OnTrue (is_done result) ((K.settled out.new ≡ K.taken out.new) × (K.settled text.new ≡ K.taken text.new)) }
     ensures bytes { M.bytes movie.new ≡ M.bytes movie.old }
     // A fault of a port is answered only where that port's count rose, and every other answer leaves the counts as they were.

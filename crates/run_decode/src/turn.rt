@@ -37,7 +37,7 @@ fn is_like(job: &Job, writer: &Option<Writer>, header: &FrameHeader) -> bool
 }
 
 /// Writes the picture, and tells the monitors.
-fn show<K: ByteSink>(
+fn show<K: ByteSink, B: Monitor>(
     alloc: Global,
     job: &Job,
     number: u32,
@@ -45,7 +45,7 @@ fn show<K: ByteSink>(
     shown: &Shown,
     writer: &mut Option<Writer>,
     out: &mut K,
-    monitors: &mut Vec<Box<dyn Monitor>>,
+    monitors: &mut Vec<B>,
 ) -> Result<(), DecodeEnd>
     requires writer { IfSome writer.old (IsWriter job.now) }
     requires like { IsOf job.now writer.old shown.now }
@@ -53,7 +53,7 @@ fn show<K: ByteSink>(
     ensures refused { IfErr result (λ e. is_done e ≡ false) }
     ensures kinds { is_read_end result ≡ false }
     ensures writer { OnOk result (IfSome writer.new (IsWriter job.now)) }
-    ensures shows { ShowIs job.now sample.now number shown.now writer.old writer.new result (scene K.held K.taken out.old (map state monitors.old.items)) (scene K.held K.taken out.new (map state monitors.new.items)) }
+    ensures shows { ShowIs job.now sample.now number shown.now writer.old writer.new result (scene K.held K.taken out.old (map B.state monitors.old.items)) (scene K.held K.taken out.new (map B.state monitors.new.items)) }
     ensures cause { CountsFault (K.faults out.old) (K.faults out.new) (is_write_end result) }
 {
     match write_picture(alloc, job, writer, shown, out) {
@@ -68,7 +68,7 @@ fn show<K: ByteSink>(
 }
 
 /// Compares the picture's form with the first, writes it and tells the monitors.
-fn show_like<K: ByteSink>(
+fn show_like<K: ByteSink, B: Monitor>(
     alloc: Global,
     job: &Job,
     number: u32,
@@ -76,7 +76,7 @@ fn show_like<K: ByteSink>(
     shown: &Shown,
     writer: &mut Option<Writer>,
     out: &mut K,
-    monitors: &mut Vec<Box<dyn Monitor>>,
+    monitors: &mut Vec<B>,
 ) -> Result<(), DecodeEnd>
     requires writer { IfSome writer.old (IsWriter job.now) }
     requires form { HasForm (head_of job.now shown.now.header) shown.now.picture }
@@ -85,7 +85,7 @@ fn show_like<K: ByteSink>(
     ensures writer { OnOk result (IfSome writer.new (IsWriter job.now)) }
     ensures extends { Extends (sink_state (K.held out.old) (K.taken out.old)) (sink_state (K.held out.new) (K.taken out.new)) }
     ensures turn { (file : List ℕ) → Shows job.now.depth file sample.now shown.now → TurnIs job.now file sample.now number writer.old writer.new result
-        (scene K.held K.taken out.old (map state monitors.old.items)) (scene K.held K.taken out.new (map state monitors.new.items)) }
+        (scene K.held K.taken out.old (map B.state monitors.old.items)) (scene K.held K.taken out.new (map B.state monitors.new.items)) }
     ensures cause { CountsFault (K.faults out.old) (K.faults out.new) (is_write_end result) }
 {
     if is_like(job, writer, &shown.header) {
@@ -101,7 +101,7 @@ fn show_like<K: ByteSink>(
 
 /// Reads the sample of a number, compares it with the first, writes its picture and tells the monitors.
 #[tactic(auto, using(crate::proofs::Extending::none_extends))]
-pub(crate) fn take_turn<M: ByteStore, K: ByteSink>(
+pub(crate) fn take_turn<M: ByteStore, K: ByteSink, B: Monitor>(
     alloc: Global,
     job: &Job,
     reader: &MovieReader,
@@ -109,13 +109,13 @@ pub(crate) fn take_turn<M: ByteStore, K: ByteSink>(
     writer: &mut Option<Writer>,
     movie: &mut M,
     out: &mut K,
-    monitors: &mut Vec<Box<dyn Monitor>>,
+    monitors: &mut Vec<B>,
 ) -> Result<(), DecodeEnd>
     requires there { number < length reader.now.tables.sizes }
     requires writer { IfSome writer.old (IsWriter job.now) }
     ensures refused { IfErr result (λ e. is_done e ≡ false) }
     ensures turn { Told (M.bytes movie.old) (λ file. IfSome (slice_get (samples reader.now.tables) number) (λ s.
-        TurnIs job.now file s number writer.old writer.new result (scene K.held K.taken out.old (map state monitors.old.items)) (scene K.held K.taken out.new (map state monitors.new.items)))) }
+        TurnIs job.now file s number writer.old writer.new result (scene K.held K.taken out.old (map B.state monitors.old.items)) (scene K.held K.taken out.new (map B.state monitors.new.items)))) }
     ensures extends { Extends (sink_state (K.held out.old) (K.taken out.old)) (sink_state (K.held out.new) (K.taken out.new)) }
     ensures writer { OnOk result (IfSome writer.new (IsWriter job.now)) }
     ensures bytes { M.bytes movie.new ≡ M.bytes movie.old }

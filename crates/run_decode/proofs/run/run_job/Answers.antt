@@ -11,7 +11,7 @@ returns-in-Ok-clause-ran g c =
     let few : c.track.result.samples ≡ length c.args.reader.now.tables.sizes = search rules in
     λ told. ran_finished c.args.job.now _ (samples c.args.reader.now.tables) (length c.args.reader.now.tables.sizes) c.in-Ok.field-0 c.finish.result _ _ _ _ _ _
     (c.in-Ok.ensures.shown told (sink_state (g.K.ByteSink.held c.args.text.now) (g.K.ByteSink.taken c.args.text.now)) (g.met.K.ByteSink.counts c.args.text.now).1)
-    (subst (λ n. FinishIs n c.finish.result (map (λ b. (goal.Monitor-dyn g (b.vtable, b.value)).state b.value) c.show_all.new.monitors.items) (map (λ b. (goal.Monitor-dyn g (b.vtable, b.value)).state b.value) c.finish.new.monitors.items)
+    (subst (λ n. FinishIs n c.finish.result (map g.B.Monitor.state c.show_all.new.monitors.items) (map g.B.Monitor.state c.finish.new.monitors.items)
     (sink_state (g.K.ByteSink.held c.args.text.now) (g.K.ByteSink.taken c.args.text.now)) (sink_state (g.K.ByteSink.held c.finish.new.text) (g.K.ByteSink.taken c.finish.new.text))) few c.finish.ensures.finish)
     c.finish.ensures.out
 

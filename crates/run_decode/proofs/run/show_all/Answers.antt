@@ -24,8 +24,8 @@ loop-number-preserved g c =
     let counted : length ss ≡ length c.args.reader.now.tables.sizes = c.samples_are_counted.ensures c.args.reader.now.tables c.requires in
     let few : number < length c.args.reader.now.tables.sizes = search rules in
     let turn = subst (λ x. IsSome x → IfSome (slice_get ss number) (λ s. TurnIs c.args.job.now (bytes_of x) s number c.loop-number.writer c.take_turn.new.writer c.take_turn.result
-    (scene g.K.ByteSink.held g.K.ByteSink.taken c.loop-number.out (map (λ b. (goal.Monitor-dyn g (b.vtable, b.value)).state b.value) c.loop-number.monitors.items))
-    (scene g.K.ByteSink.held g.K.ByteSink.taken c.take_turn.new.out (map (λ b. (goal.Monitor-dyn g (b.vtable, b.value)).state b.value) c.take_turn.new.monitors.items)))) c.loop-number.invariant.bytes c.take_turn.ensures.turn in
+    (scene g.K.ByteSink.held g.K.ByteSink.taken c.loop-number.out (map g.B.Monitor.state c.loop-number.monitors.items))
+    (scene g.K.ByteSink.held g.K.ByteSink.taken c.take_turn.new.out (map g.B.Monitor.state c.take_turn.new.monitors.items)))) c.loop-number.invariant.bytes c.take_turn.ensures.turn in
     record {
       shown = λ told. go_on c.args.job.now _ ss number c.loop-number.writer c.take_turn.new.writer c.take_turn.result c.in_ok-take_turn.field-0 _ _ _ c.in_ok-take_turn.was (omega (arith, counted, few))
           (c.loop-number.invariant.shown told) (turn told);
@@ -44,11 +44,11 @@ returns-in_err-take_turn-clause-shown g c =
     let few : number < length c.args.reader.now.tables.sizes = search rules in
     let is : c.from_residual.result ≡ Err c.in_err-take_turn.field-0.0 = search rules in
     let turn = subst (λ x. IsSome x → IfSome (slice_get ss number) (λ s. TurnIs c.args.job.now (bytes_of x) s number c.loop-number.writer c.take_turn.new.writer c.take_turn.result
-    (scene g.K.ByteSink.held g.K.ByteSink.taken c.loop-number.out (map (λ b. (goal.Monitor-dyn g (b.vtable, b.value)).state b.value) c.loop-number.monitors.items))
-    (scene g.K.ByteSink.held g.K.ByteSink.taken c.take_turn.new.out (map (λ b. (goal.Monitor-dyn g (b.vtable, b.value)).state b.value) c.take_turn.new.monitors.items)))) c.loop-number.invariant.bytes c.take_turn.ensures.turn in
+    (scene g.K.ByteSink.held g.K.ByteSink.taken c.loop-number.out (map g.B.Monitor.state c.loop-number.monitors.items))
+    (scene g.K.ByteSink.held g.K.ByteSink.taken c.take_turn.new.out (map g.B.Monitor.state c.take_turn.new.monitors.items)))) c.loop-number.invariant.bytes c.take_turn.ensures.turn in
     λ told text few_taken. subst (λ r. ShownAll c.args.job.now (bytes_of (g.M.ByteStore.bytes c.args.movie.now)) ss (length c.args.reader.now.tables.sizes) r
-    (with_text text (scene g.K.ByteSink.held g.K.ByteSink.taken c.args.out.now (map (λ b. (goal.Monitor-dyn g (b.vtable, b.value)).state b.value) c.args.monitors.now.items)))
-    (with_text text (scene g.K.ByteSink.held g.K.ByteSink.taken c.take_turn.new.out (map (λ b. (goal.Monitor-dyn g (b.vtable, b.value)).state b.value) c.take_turn.new.monitors.items)))) (sym is)
+    (with_text text (scene g.K.ByteSink.held g.K.ByteSink.taken c.args.out.now (map g.B.Monitor.state c.args.monitors.now.items)))
+    (with_text text (scene g.K.ByteSink.held g.K.ByteSink.taken c.take_turn.new.out (map g.B.Monitor.state c.take_turn.new.monitors.items)))) (sym is)
     (stop c.args.job.now _ ss number (length c.args.reader.now.tables.sizes) c.loop-number.writer c.take_turn.new.writer c.take_turn.result c.in_err-take_turn.field-0.0 _ _ _ c.in_err-take_turn.was (omega (arith, counted, few))
     (c.loop-number.invariant.shown told) (turn told) text few_taken)
 

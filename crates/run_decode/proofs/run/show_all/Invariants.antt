@@ -10,8 +10,8 @@ use Rattle.run_decode.proofs.run.show_all.Given as goal
 abbrev pub invariant-loop-number : goal.invariant-loop-number
 invariant-loop-number g l = record {
   shown : IsSome (g.M.ByteStore.bytes l.initial.movie) → ShownUpTo l.job (bytes_of (g.M.ByteStore.bytes l.initial.movie)) (samples l.reader.tables) l.number l.writer
-      (scene g.K.ByteSink.held g.K.ByteSink.taken l.initial.out (map (λ b. (goal.Monitor-dyn g (b.vtable, b.value)).state b.value) l.initial.monitors.items))
-      (scene g.K.ByteSink.held g.K.ByteSink.taken l.out (map (λ b. (goal.Monitor-dyn g (b.vtable, b.value)).state b.value) l.monitors.items));
+      (scene g.K.ByteSink.held g.K.ByteSink.taken l.initial.out (map g.B.Monitor.state l.initial.monitors.items))
+      (scene g.K.ByteSink.held g.K.ByteSink.taken l.out (map g.B.Monitor.state l.monitors.items));
   extends : Extends (sink_state (g.K.ByteSink.held l.initial.out) (g.K.ByteSink.taken l.initial.out)) (sink_state (g.K.ByteSink.held l.out) (g.K.ByteSink.taken l.out));
   writer : IfSome l.writer (IsWriter l.job);
   bytes : g.M.ByteStore.bytes l.movie ≡ g.M.ByteStore.bytes l.initial.movie;
