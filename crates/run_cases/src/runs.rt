@@ -4,7 +4,8 @@ ghost use Rattle.std.specs.Prelude.{◌≤◌};
 
 use crate::hex::{bytes_of, hashed_of, word_of};
 use monitors::{BlackMonitor, BytesMonitor, IndexMonitor, LevelMonitor, Monitor};
-use pw_outside::{MemSink, MemSource, MemStore};
+use pw_outside::{ByteSink, ByteSource, ByteStore, MemSink, MemSource, MemStore};
+use std::alloc::Global;
 use std::io;
 use workshop::{Status, names_of, tells_monitors, workshop};
 
@@ -53,19 +54,18 @@ fn sink_of(rt: &HostRuntime, step: usize, call: Option<u64>) -> io::Result<MemSi
     }
 }
 
-/// What the top call answers, where this file stands behind each port that a command may read. `decode` has the four
-/// monitors, in the order of their reports.
-fn ran(rt: &HostRuntime, words: &[String], file: &[u8], ports: &Ports) -> io::Result<Answer>
-    requires { 1 ≤ ports.now.step }
-{
-    let alloc = rt.alloc();
-    let step = ports.step;
-    let mut pictures = MemSource::new(file.to_vec(alloc)?, step, calls_of(rt, ports.reading)?);
-    let mut proof = MemSource::new(file.to_vec(alloc)?, step, calls_of(rt, ports.reading)?);
-    let mut movie = MemStore::new(file.to_vec(alloc)?, step, calls_of(rt, ports.reading)?);
-    let mut out = sink_of(rt, step, None)?;
-    let mut cert = sink_of(rt, step, None)?;
-    let mut text = sink_of(rt, step, ports.writing)?;
+/// The answer of the top call over these ports. `decode` has the four monitors, in the order of their reports. Nothing is said of
+/// what it leaves: the cases compare that.
+fn answered<S: ByteSource, M: ByteStore, K: ByteSink>(
+    alloc: Global,
+    words: &[String],
+    pictures: &mut S,
+    proof: &mut S,
+    movie: &mut M,
+    out: &mut K,
+    cert: &mut K,
+    text: &mut K,
+) -> io::Result<Status> {
     let mut monitors: Vec<Box<dyn Monitor>> = Vec::new(alloc);
     if tells_monitors(words) {
         monitors.push(Box::new(alloc, LevelMonitor::new())?)?;
@@ -73,23 +73,95 @@ fn ran(rt: &HostRuntime, words: &[String], file: &[u8], ports: &Ports) -> io::Re
         monitors.push(Box::new(alloc, BytesMonitor::new())?)?;
         monitors.push(Box::new(alloc, IndexMonitor::new())?)?;
     }
-    let status = workshop(
+    Ok(workshop(
         alloc,
         words,
-        &mut pictures,
-        &mut proof,
-        &mut movie,
-        &mut out,
-        &mut cert,
-        &mut text,
+        pictures,
+        proof,
+        movie,
+        out,
+        cert,
+        text,
         &mut monitors,
-    );
+    ))
+}
+
+/// The ports of a run in memory.
+#[derive(Drop)]
+struct Behind {
+    pictures: MemSource,
+    proof: MemSource,
+    movie: MemStore,
+    out: MemSink,
+    cert: MemSink,
+    text: MemSink,
+}
+
+/// A source of this file.
+fn source_of(rt: &HostRuntime, file: &[u8], ports: &Ports) -> io::Result<MemSource>
+    requires { 1 ≤ ports.now.step }
+{
+    let bytes = file.to_vec(rt.alloc())?;
+    let calls = calls_of(rt, ports.reading)?;
+    Ok(MemSource::new(bytes, ports.step, calls))
+}
+
+/// A store of this file.
+fn store_of(rt: &HostRuntime, file: &[u8], ports: &Ports) -> io::Result<MemStore>
+    requires { 1 ≤ ports.now.step }
+{
+    let bytes = file.to_vec(rt.alloc())?;
+    let calls = calls_of(rt, ports.reading)?;
+    Ok(MemStore::new(bytes, ports.step, calls))
+}
+
+/// The ports of a run where this file stands behind each port that a command may read.
+fn ports_over(rt: &HostRuntime, file: &[u8], ports: &Ports) -> io::Result<Behind>
+    requires { 1 ≤ ports.now.step }
+{
+    let pictures = source_of(rt, file, ports)?;
+    let proof = source_of(rt, file, ports)?;
+    let movie = store_of(rt, file, ports)?;
+    let out = sink_of(rt, ports.step, None)?;
+    let cert = sink_of(rt, ports.step, None)?;
+    let text = sink_of(rt, ports.step, ports.writing)?;
+    Ok(Behind {
+        pictures,
+        proof,
+        movie,
+        out,
+        cert,
+        text,
+    })
+}
+
+/// The answer of a run, and what its sinks hold.
+fn held(rt: &HostRuntime, status: Status, behind: &Behind) -> io::Result<Answer> {
+    let alloc = rt.alloc();
     Ok(Answer {
         status,
-        text: text.bytes().to_vec(alloc)?,
-        out: out.bytes().to_vec(alloc)?,
-        cert: cert.bytes().to_vec(alloc)?,
+        text: behind.text.bytes().to_vec(alloc)?,
+        out: behind.out.bytes().to_vec(alloc)?,
+        cert: behind.cert.bytes().to_vec(alloc)?,
     })
+}
+
+/// What the top call answers, where this file stands behind each port that a command may read.
+fn ran(rt: &HostRuntime, words: &[String], file: &[u8], ports: &Ports) -> io::Result<Answer>
+    requires { 1 ≤ ports.now.step }
+{
+    let mut behind = ports_over(rt, file, ports)?;
+    let status = answered(
+        rt.alloc(),
+        words,
+        &mut behind.pictures,
+        &mut behind.proof,
+        &mut behind.movie,
+        &mut behind.out,
+        &mut behind.cert,
+        &mut behind.text,
+    )?;
+    held(rt, status, &behind)
 }
 
 /// How a run ended, on one line: the text with `\n` for each line feed, or the fault.
