@@ -66,6 +66,11 @@ lacks_option command.Check v = false
 lacks_option command.Reproof v = false
 lacks_option command.Decode v = false
 
+-- this option is wanting, if there is one
+abbrev pub lacks : Option OptionName → Values → Bool
+lacks None v = false
+lacks (Some o) v = not (is_given o v)
+
 abbrev pub no_names : Names
 no_names = record { pictures = None; proof = None; movie = None; out = None; cert = None }
 

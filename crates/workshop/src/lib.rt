@@ -4,21 +4,28 @@
 mod checking;
 mod decode;
 mod encode;
+mod files;
+mod help;
+mod input;
 mod listing;
 mod options;
+mod output;
 mod plan;
-mod ports;
 mod process;
 mod raw_form;
 mod reproofing;
 mod status;
+mod store;
 #[cfg(test)]
 mod tests;
 mod top;
 mod words;
 
-pub use ports::{InputPort, OutputPort, StorePort, Target};
-pub use process::{exit_code, program, words_of};
+pub use files::Target;
+pub use input::InputPort;
+pub use output::OutputPort;
+pub use process::{exit_code, program, run_alone, told, unread, words_of};
+pub use store::StorePort;
 pub use status::{Status, UsageKind};
 pub use top::workshop;
 pub use words::{Command, DecodeWords, Names, Task, names_of, tells_monitors};

@@ -33,22 +33,29 @@ pub(crate) enum OptionName {
 
 impl OptionName {
     /// The option's name, without the dashes in front of it.
-    pub(crate) fn name(self) -> &'static [u8]
+    pub(crate) fn word(self) -> &'static str
         ensures { result.now ≡ name_of_option self }
     {
         match self {
-            OptionName::Budget => b"budget",
-            OptionName::Lo => b"lo",
-            OptionName::Hi => b"hi",
-            OptionName::Log => b"log",
-            OptionName::Matrix => b"matrix",
-            OptionName::Raw => b"raw",
-            OptionName::Interlace => b"interlace",
-            OptionName::Group => b"group",
-            OptionName::Proof => b"proof",
-            OptionName::Depth => b"depth",
-            OptionName::Form => b"form",
+            OptionName::Budget => "budget",
+            OptionName::Lo => "lo",
+            OptionName::Hi => "hi",
+            OptionName::Log => "log",
+            OptionName::Matrix => "matrix",
+            OptionName::Raw => "raw",
+            OptionName::Interlace => "interlace",
+            OptionName::Group => "group",
+            OptionName::Proof => "proof",
+            OptionName::Depth => "depth",
+            OptionName::Form => "form",
         }
+    }
+
+    /// The bytes of its name.
+    pub(crate) fn name(self) -> &'static [u8]
+        ensures { result.now ≡ name_of_option self }
+    {
+        self.word().as_bytes()
     }
 }
 

@@ -1,16 +1,26 @@
 //! The program: the real ports by the words of the command line, the top call, and how the process ends.
 
-use crate::ports::{InputPort, OutputPort, StorePort, Target};
+use crate::files::Target;
+use crate::help::{put_answer, put_help, question_of, says_help};
+use crate::input::InputPort;
+use crate::output::OutputPort;
 use crate::status::Status;
+use crate::store::StorePort;
 use crate::top::workshop;
-use crate::words::names_of;
+use crate::words::{Names, names_of};
 use monitors::Monitor;
+use std::alloc::Global;
+use std::env;
+use std::io::{self, IsTerminal, Write};
 use std::process::ExitCode;
-use std::{env, io};
+
+/// The status of a line of words that can't be read, which no call of the program sees.
+const UNREAD: u8 = 1;
 
 /// How the process ends. The line of a status other than `Done` goes to standard error, and the exit status is its
-/// number; an error is want of memory.
-pub fn exit_code(rt: &HostRuntime, status: io::Result<Status>) -> ExitCode {
+/// number; an error is want of memory. Where the words aren't in the grammar, what helps stands behind the line, for a person: where standard error
+/// is a terminal, or a word is `--help`.
+pub fn exit_code(rt: &HostRuntime, words: &[String], status: io::Result<Status>) -> ExitCode {
     let status = match status {
         Ok(status) => status,
         Err(_) => Status::NoMemory,
@@ -19,7 +29,39 @@ pub fn exit_code(rt: &HostRuntime, status: io::Result<Status>) -> ExitCode {
         // Where standard error fails, the number alone tells the status.
         let _ = eprintln!(rt; "workshop: {status}");
     }
+    if let Status::Usage { .. } = status {
+        if rt.stderr().is_terminal() || says_help(words) {
+            let mut text = String::new(rt.alloc());
+            if put_help(&mut text, words).is_ok() {
+                let _ = eprint!(rt; "{}", text.as_str());
+            }
+        }
+    }
     ExitCode::from(status.code())
+}
+
+/// How the process ends where the words of the command line can't be read: one of them isn't UTF-8, which no name of a file may be that is handed to the
+/// system here, or memory ran out.
+pub fn unread(rt: &HostRuntime, error: &io::Error) -> ExitCode {
+    if error.kind() == io::ErrorKind::InvalidData {
+        let _ = eprintln!(rt; "workshop: usage: a word isn't UTF-8");
+        return ExitCode::from(UNREAD);
+    }
+    exit_code(rt, &[], Ok(Status::NoMemory))
+}
+
+/// Answers on standard output what the words ask of the program about itself: `--help`, `help COMMAND` or `--version`. `None` where they ask nothing
+/// of the kind.
+pub fn told(rt: &HostRuntime, words: &[String]) -> Option<Status> {
+    let question = question_of(words)?;
+    let mut text = String::new(rt.alloc());
+    if put_answer(&mut text, question).is_err() {
+        return Some(Status::NoMemory);
+    }
+    match io::writer(rt).write_all(text.as_bytes()) {
+        Ok(()) => Some(Status::Done),
+        Err(_) => Some(Status::WriteFault),
+    }
 }
 
 /// The words of the command line behind the program's name.
@@ -43,6 +85,24 @@ fn file_of(word: Option<usize>, words: &[String]) -> io::Result<Target> {
     }
 }
 
+/// The names of the files of a run, but for that of the word of this number: an output is none of them. Standard input and standard
+/// output have names on every system that the program is built for.
+fn others_of(alloc: Global, names: &Names, own: Option<usize>, words: &[String]) -> io::Result<Vec<String>> {
+    let mut others = Vec::new(alloc);
+    let all = [names.pictures, names.proof, names.movie, names.out, names.cert];
+    for number in all {
+        if number == own {
+            continue;
+        }
+        if let Target::File(name) = file_of(number, words)? {
+            others.push(name)?;
+        }
+    }
+    others.push(String::from_str(alloc, "/dev/stdin")?)?;
+    others.push(String::from_str(alloc, "/dev/stdout")?)?;
+    Ok(others)
+}
+
 /// What gives the pictures: the file that the word of this number names, or standard input where the word is a lone dash.
 fn pictures_of(word: Option<usize>, words: &[String]) -> io::Result<Target> {
     match word.and_then(|number| words.get(number)) {
@@ -62,9 +122,17 @@ pub fn program(
     let mut pictures = InputPort::new(rt.clone()?, pictures_of(names.pictures, words)?);
     let mut proof = InputPort::new(rt.clone()?, file_of(names.proof, words)?);
     let mut movie = StorePort::new(rt.clone()?, file_of(names.movie, words)?);
-    let mut out = OutputPort::new(rt.clone()?, file_of(names.out, words)?);
-    let mut cert = OutputPort::new(rt.clone()?, file_of(names.cert, words)?);
-    let mut text = OutputPort::new(rt.clone()?, Target::Standard);
+    let mut out = OutputPort::new(
+        rt.clone()?,
+        file_of(names.out, words)?,
+        others_of(rt.alloc(), &names, names.out, words)?,
+    );
+    let mut cert = OutputPort::new(
+        rt.clone()?,
+        file_of(names.cert, words)?,
+        others_of(rt.alloc(), &names, names.cert, words)?,
+    );
+    let mut text = OutputPort::new(rt.clone()?, Target::Standard, Vec::new(rt.alloc()));
     Ok(workshop(
         rt.alloc(),
         words,
@@ -76,4 +144,15 @@ pub fn program(
         &mut text,
         monitors,
     ))
+}
+
+/// The program where no monitor is told of pictures, for stored runs.
+pub fn run_alone(rt: &HostRuntime) -> ExitCode {
+    match words_of(rt) {
+        Ok(words) => {
+            let status = program(rt, &words, &mut Vec::new(rt.alloc()));
+            exit_code(rt, &words, status)
+        }
+        Err(error) => unread(rt, &error),
+    }
 }

@@ -2,7 +2,7 @@
 
 ghost use Rattle.std.specs.Prelude.{◌≡◌, ◌<◌, ◌≤◌, [], IfOk, drop, length, map, string_bytes};
 ghost use Rattle.workshop.specs.Options.{AreValues, no_values};
-ghost use Rattle.workshop.specs.Words.{IsWalk, IsTask, command_named, option_named, options_of, most_operands, takes, lacks_option, clash, encode_words, decode_words, raw_in, has_odd_form, task_of, with_option_value, with_option, ended, walk, said, settled, command_of, ports_of, names_in, no_names, is_decode, tells_monitors};
+ghost use Rattle.workshop.specs.Words.{IsWalk, IsTask, commands, name_of, command_named, option_named, options_of, operands_of, most_operands, takes, lacks, lacks_option, clash, encode_words, decode_words, raw_in, has_odd_form, task_of, with_option_value, with_option, ended, walk, said, settled, command_of, ports_of, names_in, no_names, is_decode, tells_monitors};
 
 use crate::options::{MAX_BUDGET, OptionName, Values};
 use crate::raw_form::cut;
@@ -81,7 +81,7 @@ pub(crate) struct Settings {
 // The grammar, a row for each command.
 impl Command {
     /// The command of this name.
-    fn named(word: &str) -> Option<Command>
+    pub(crate) fn named(word: &str) -> Option<Command>
         ensures { result ≡ command_named word.now }
     {
         match word {
@@ -95,17 +95,65 @@ impl Command {
         }
     }
 
+    /// All commands, in the order in which they are told.
+    pub(crate) fn all() -> &'static [Command]
+        ensures { result.now ≡ commands }
+    {
+        &[
+            Command::Plan,
+            Command::Encode,
+            Command::List,
+            Command::Check,
+            Command::Reproof,
+            Command::Decode,
+        ]
+    }
+
+    /// Its word.
+    pub(crate) fn name(self) -> &'static str
+        ensures { result.now ≡ name_of self }
+    {
+        match self {
+            Command::Plan => "plan",
+            Command::Encode => "encode",
+            Command::List => "list",
+            Command::Check => "check",
+            Command::Reproof => "reproof",
+            Command::Decode => "decode",
+        }
+    }
+
+    /// What its operands are called, those that may be absent too.
+    pub(crate) fn operands(self) -> &'static [&'static str]
+        ensures { length result.now ≡ most_operands self }
+    {
+        match self {
+            Command::Plan => &["TABLE"],
+            Command::Encode => &["PICTURES", "MOVIE", "PROOF"],
+            Command::List => &["MOVIE"],
+            Command::Check => &["PROOF"],
+            Command::Reproof => &["PROOF", "OUTPUT"],
+            Command::Decode => &["MOVIE", "OUT"],
+        }
+    }
+
+    /// How many operands it may have, rising.
+    pub(crate) fn operand_counts(self) -> &'static [usize]
+        ensures { result.now ≡ operands_of self }
+    {
+        match self {
+            Command::Plan | Command::List | Command::Check => &[1],
+            Command::Reproof | Command::Decode => &[2],
+            Command::Encode => &[3],
+        }
+    }
+
     /// The most operands that it may have.
     fn most_operands(self) -> usize
         ensures value { result ≡ most_operands self }
         ensures few { result ≤ 5 }
     {
-        match self {
-            Command::Plan | Command::List | Command::Check => 1,
-            Command::Decode => 2,
-            Command::Encode => 3,
-            Command::Reproof => 2,
-        }
+        self.operands().len()
     }
 
     /// Whether it may have so many operands.
@@ -114,14 +162,13 @@ impl Command {
     {
         match self {
             Command::Plan | Command::List | Command::Check => operands == 1,
-            Command::Decode => operands == 2,
+            Command::Reproof | Command::Decode => operands == 2,
             Command::Encode => operands == 3,
-            Command::Reproof => operands == 2,
         }
     }
 
     /// Its options.
-    fn options(self) -> &'static [OptionName]
+    pub(crate) fn options(self) -> &'static [OptionName]
         ensures { result.now ≡ options_of self }
     {
         match self {
@@ -138,6 +185,17 @@ impl Command {
                 OptionName::Proof,
             ],
             Command::Decode => &[OptionName::Depth, OptionName::Form],
+        }
+    }
+
+    /// The option that it needs.
+    pub(crate) fn needed(self) -> Option<OptionName>
+        ensures { (v : Values) → lacks_option self v ≡ lacks result v }
+    {
+        match self {
+            Command::Plan | Command::List | Command::Check | Command::Reproof | Command::Decode =>
+                None,
+            Command::Encode => Some(OptionName::Budget),
         }
     }
 

@@ -4,22 +4,28 @@
 use monitors::{BlackMonitor, BytesMonitor, IndexMonitor, LevelMonitor, Monitor};
 use std::io;
 use std::process::ExitCode;
-use workshop::{Status, exit_code, program, tells_monitors, words_of};
+use workshop::{Status, exit_code, program, tells_monitors, told, unread, words_of};
 
-/// Does what the command line says. `decode` has four monitors, in the order of their reports; other commands have none.
-fn run(rt: &HostRuntime) -> io::Result<Status> {
+/// Does what the command line says, or tells what it asks of the program itself. `decode` has four monitors, in the order of
+/// their reports; other commands have none.
+fn run(rt: &HostRuntime, words: &[String]) -> io::Result<Status> {
     let alloc = rt.alloc();
-    let words = words_of(rt)?;
+    if let Some(status) = told(rt, words) {
+        return Ok(status);
+    }
     let mut monitors: Vec<Box<dyn Monitor>> = Vec::new(alloc);
-    if tells_monitors(&words) {
+    if tells_monitors(words) {
         monitors.push(Box::new(alloc, LevelMonitor::new())?)?;
         monitors.push(Box::new(alloc, BlackMonitor::new(alloc))?)?;
         monitors.push(Box::new(alloc, BytesMonitor::new())?)?;
         monitors.push(Box::new(alloc, IndexMonitor::new())?)?;
     }
-    program(rt, &words, &mut monitors)
+    program(rt, words, &mut monitors)
 }
 
 fn main(rt: HostRuntime) -> ExitCode {
-    exit_code(&rt, run(&rt))
+    match words_of(&rt) {
+        Ok(words) => exit_code(&rt, &words, run(&rt, &words)),
+        Err(error) => unread(&rt, &error),
+    }
 }

@@ -1,0 +1,147 @@
+//! What the program tells of itself: its commands, and the usage of one. The commands, what their operands are called, and their options are those
+//! of the grammar, so that the two can't disagree.
+
+use crate::options::OptionName;
+use crate::status::{Status, UsageKind};
+use crate::words::Command;
+use std::alloc::AllocError;
+
+/// The version that `workshop --version` tells.
+const VERSION: &str = "1.0";
+
+/// What is asked of the program about itself.
+#[derive(Clone, Copy, Debug, PartialEq, Eq)]
+pub(crate) enum Question {
+    /// `--help`, `help`: all commands.
+    All,
+    /// `help COMMAND`: the usage of one.
+    One(Command),
+    /// `--version`.
+    Version,
+}
+
+/// What the words ask of the program about itself. None of these lines is in the grammar.
+pub(crate) fn question_of(words: &[String]) -> Option<Question> {
+    let first = words.first()?.as_str();
+    match (words.get(1), words.len()) {
+        (None, _) if first == "--help" || first == "help" => Some(Question::All),
+        (None, _) if first == "--version" => Some(Question::Version),
+        (Some(name), 2) if first == "help" => match Command::named(name.as_str()) {
+            Some(command) => Some(Question::One(command)),
+            None => Some(Question::All),
+        },
+        _ => None,
+    }
+}
+
+/// How values of an option are written.
+fn form(option: OptionName) -> &'static str {
+    match option {
+        OptionName::Budget | OptionName::Lo | OptionName::Hi | OptionName::Log => "N",
+        OptionName::Matrix => "flat|steep",
+        OptionName::Raw => "WxH:CHROMA:DEPTH:ALPHA:NUM/DEN",
+        OptionName::Interlace => "p|t|b",
+        OptionName::Group => "G",
+        OptionName::Proof => "1|2",
+        OptionName::Depth => "8|10|12",
+        OptionName::Form => "y4m|raw",
+    }
+}
+
+/// What an option is for, its range, and what stands for it where it is absent.
+fn meaning(option: OptionName) -> &'static str {
+    match option {
+        OptionName::Budget => "bytes that a frame may have, all headers included; 1 to 2147483647",
+        OptionName::Lo => "the least quantisation index, 1 to 224 (finest; 1 if absent)",
+        OptionName::Hi => "the greatest quantisation index, 1 to 224 (31 if absent)",
+        OptionName::Log => "slices are 2^N macroblocks wide, 0 to 3 (3 if absent)",
+        OptionName::Matrix => "the weights (flat if absent)",
+        OptionName::Raw => "raw planes in place of Y4M, as 1920x1080:422:10:0:25/1",
+        OptionName::Interlace => "raw planes are progressive, top or bottom field first (p if absent)",
+        OptionName::Group => "so many frames share their budgets, 1 to 8 (1 if absent)",
+        OptionName::Proof => "the version of the proof file (2 if absent)",
+        OptionName::Depth => "bits of a sample that is written (10 if absent)",
+        OptionName::Form => "how pictures are written (y4m if absent)",
+    }
+}
+
+/// What a command does, in a line.
+fn purpose(command: Command) -> &'static str {
+    match command {
+        Command::Plan => "prints the best choice for a table of costs",
+        Command::Encode => "makes a movie of pictures (- is standard input), and the proof of its choices",
+        Command::List => "prints the track of ProRes of a movie, and its samples",
+        Command::Check => "checks a proof",
+        Command::Reproof => "writes a proof again in version 2",
+        Command::Decode => "writes the pictures of a movie",
+    }
+}
+
+/// The line of a command: its word, its operands, and its options, those that may be absent in brackets.
+fn put_line(text: &mut String, command: Command) -> Result<(), AllocError> {
+    write!(text, "workshop {}", command.name())?;
+    let least = command.operand_counts().first().copied().unwrap_or(0);
+    let operands = command.operands();
+    for (number, operand) in operands.iter().enumerate() {
+        let open = if number == least { "[" } else { "" };
+        let close = if number >= least && number + 1 == operands.len() { "]" } else { "" };
+        write!(text, " {open}{operand}{close}")?;
+    }
+    for option in command.options() {
+        if command.needed() == Some(*option) {
+            write!(text, " --{}={}", option.word(), form(*option))?;
+        } else {
+            write!(text, " [--{}={}]", option.word(), form(*option))?;
+        }
+    }
+    writeln!(text)
+}
+
+/// The usage of a command.
+fn put_usage(text: &mut String, command: Command) -> Result<(), AllocError> {
+    write!(text, "usage: ")?;
+    put_line(text, command)?;
+    writeln!(text, "  {}", purpose(command))?;
+    for option in command.options() {
+        writeln!(text, "  --{}: {}", option.word(), meaning(*option))?;
+    }
+    Ok(())
+}
+
+/// All commands, a line each.
+fn put_commands(text: &mut String) -> Result<(), AllocError> {
+    writeln!(text, "workshop makes, shows, lists and checks QuickTime movies of ProRes frames.")?;
+    for command in Command::all() {
+        write!(text, "  ")?;
+        put_line(text, *command)?;
+        writeln!(text, "      {}", purpose(*command))?;
+    }
+    writeln!(text, "workshop help COMMAND tells the options of a command.")
+}
+
+/// The answer to what is asked.
+pub(crate) fn put_answer(text: &mut String, question: Question) -> Result<(), AllocError> {
+    match question {
+        Question::All => put_commands(text),
+        Question::One(command) => put_usage(text, command),
+        Question::Version => writeln!(text, "workshop {VERSION}"),
+    }
+}
+
+/// Whether one of the words is `--help`.
+pub(crate) fn says_help(words: &[String]) -> bool {
+    for word in words {
+        if word.as_str() == "--help" {
+            return true;
+        }
+    }
+    false
+}
+
+/// What helps where the words aren't in the grammar: the usage of their command, or all commands.
+pub(crate) fn put_help(text: &mut String, words: &[String]) -> Result<(), AllocError> {
+    match words.first().and_then(|word| Command::named(word.as_str())) {
+        Some(command) => put_usage(text, command),
+        None => put_commands(text),
+    }
+}
