@@ -97,7 +97,7 @@ module _ (ps : List Pair) (size at : ℕ) (h : Rises ps) (parts : IsPartitionPoi
 
 -- ---- the first entry
 
-indices_at : (xs : List Entry) (i j : ℕ) (d : Entry) → IndicesRise xs → i < j → j < length xs → (get_or xs i d).index < (get_or xs j d).index
+pub indices_at : (xs : List Entry) (i j : ℕ) (d : Entry) → IndicesRise xs → i < j → j < length xs → (get_or xs i d).index < (get_or xs j d).index
 indices_at [] i j d h l n = absurd (omega arith)
 indices_at (x ∷ xs) i zero d h l n = absurd (omega arith)
 indices_at (x ∷ xs) zero (suc j) d h l n = index_after x xs (get_or xs j d) h (Contains-get_or xs j d (omega arith))
