@@ -28,7 +28,10 @@ use std::alloc::Global;
 /// The span to an error of too many pairs is halved so many times before the refusal stands.
 const HALVINGS: usize = 8;
 
-/// A multiplier below this is small.
+/// A multiplier below this is small: its bound is loose, since it is a whole number.
+const SMALL: u64 = 100;
+
+/// A small multiplier is made about as great as this in the search for the optimum's error.
 const FINE: u64 = 1024;
 
 /// Layers, and the pair of the best choice, which is the last one of the last layer.
@@ -171,11 +174,12 @@ fn find_by_stages(
     }
 }
 
-/// How many times errors count in the search for the optimum's error: not once only where the multiplier is small.
+/// How many times errors count in the search for the optimum's error: once where the multiplier isn't small, and where it
+/// is 0, so that the picks are best.
 fn times_of(multiplier: u64) -> u64
     ensures { 1 ≤ result }
 {
-    if multiplier == 0 || FINE <= multiplier {
+    if multiplier == 0 || SMALL <= multiplier {
         1
     } else {
         FINE / multiplier
@@ -197,7 +201,8 @@ fn guess(alloc: Global, table: &FrameTable, times: u64) -> Option<u64>
 }
 
 /// The layers that some error keeps that a fitting choice has. Where the multiplier is small, the first error that is
-/// tried is guessed: it is that of the best choice, so that no layers are made that aren't needed.
+/// tried is guessed: it is that of the best choice, so no layers are made that aren't needed. Where those are too many,
+/// no smaller error would serve.
 fn find(alloc: Global, table: &FrameTable, multiplier: u64) -> Result<Found, BestFault>
     requires { IsMultiplier table.now multiplier }
     ensures found { IfOk result (λ f. (u : ℕ) × AreFound table.now multiplier u f.goal (map (λ l. l.items) f.layers.items)) }
@@ -243,7 +248,8 @@ fn best_fit(alloc: Global, table: &FrameTable) -> Result<Outcome, BestFault>
 /// index lists; with the layers and the multiplier that show that none has less error. `None` where no choice fits.
 /// The layers take 16 bytes a pair, those that are returned no more. While it searches it holds at most 2^25 pairs of
 /// finished layers, with two vectors for the layer at work, of up to 32 bytes for each pair of the longest half-merged
-/// layer; while the choice is found, a mark of one byte for each pair beside the layers.
+/// layer, and where the multiplier is small a second table, until the optimum's error is found; while the choice is
+/// found, a mark of one byte for each pair beside the layers.
 ///
 /// The errors are `LayersFull` where the layers number more than 2^25 pairs, and `NoMemory`.
 pub fn best(alloc: Global, table: &FrameTable) -> Result<Outcome, BestFault>
