@@ -1,8 +1,8 @@
-use Rattle.std.proofs.Common.{◌≡◌, ◌+◌, ◌-◌, ◌<◌, get_or, [], sym, ap, ◌∙◌, subst, arith}
+use Rattle.std.proofs.Common.{◌≡◌, ◌+◌, ◌-◌, ◌<◌, get_or, [], ap, ◌∙◌, arith}
 use Rattle.std.proofs.lemmas.List.{get_or_default}
 use Rattle.std.proofs.lemmas.List.Elements.{All-push}
 use Rattle.rate_table.specs.declared.entry.Entry.{Entry}
-use Rattle.rate_table.specs.Table.{IsEntry, IsSlice}
+use Rattle.rate_table.specs.Table.{IsEntry}
 use Rattle.rate_table.specs.Body.{last_index}
 use Rattle.rate_table.proofs.Behind.{last_index-behind, slice-behind}
 use Rattle.rate_layers.proofs.Onward.{indices_at}

@@ -1,5 +1,5 @@
-use Rattle.std.proofs.Common.{subst, take, get_or, ◌+◌, sym, refl}
-use Rattle.std.specs.List.{Contains, All}
+use Rattle.std.proofs.Common.{subst, take, get_or, refl}
+use Rattle.std.specs.List.{All}
 use Rattle.std.proofs.lemmas.List.{take_all}
 use Rattle.std.proofs.lemmas.List.Elements.{All-contains, All-more, All-weaker, Contains-get_or}
 use Rattle.std.proofs.lemmas.Bool.{false≢true}
