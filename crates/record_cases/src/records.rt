@@ -44,7 +44,7 @@ fn change_choice(numbers: &mut Numbers, choice: &mut Vec<u8>) {
     }
 }
 
-/// Another number in a pair, one pair fewer, or two exchanged.
+/// Another number in a pair, one pair fewer or one twice, or two exchanged.
 fn change_layer(numbers: &mut Numbers, layer: &mut Vec<Pair>) {
     if layer.is_empty() {
         return;
@@ -54,8 +54,14 @@ fn change_layer(numbers: &mut Numbers, layer: &mut Vec<Pair>) {
         0 => layer[i].size = small(numbers.beside(u64::from(layer[i].size))),
         1 => layer[i].error = numbers.beside(layer[i].error),
         2 => layer.swap(i, j),
-        _ => {
+        3 => {
             layer.remove(i);
+        }
+        _ => {
+            let again = layer[i];
+            if layer.push(again).is_err() {
+                return;
+            }
         }
     }
 }
