@@ -1,5 +1,5 @@
 -- Pairs with marks.
-use Rattle.std.proofs.Common.{◌≡◌, ℕ, zero, suc, ◌+◌, ◌-◌, ◌<◌, ◌≤◌, List, [], ◌∷◌, ◌++◌, length, get_or, set, take, replicate, Bool, true, false, cond, refl, sym, ap, ◌∙◌, subst, arith, ◌⊎◌, inl, inr, ⊎_elim}
+use Rattle.std.proofs.Common.{◌≡◌, ℕ, zero, suc, ◌+◌, ◌<◌, List, [], ◌∷◌, ◌++◌, length, get_or, set, take, replicate, Bool, true, false, cond, refl, sym, ap, ◌∙◌, subst, arith, ◌⊎◌, inl, inr, ⊎_elim}
 use Rattle.std.specs.Prelude.{◌↔◌}
 use Rattle.std.specs.List.{Contains}
 use Rattle.std.proofs.lemmas.List.{get_or_default, get_or-set_same, get_or-set_other, get_or-replicate, length-replicate, take_more}
@@ -10,8 +10,8 @@ use Rattle.rate_table.specs.declared.entry.Pair.{Pair}
 use Rattle.rate_table.specs.Pairs.{joined}
 use Rattle.rate_table.proofs.Lists.{contains_cases, contains_head, contains_tail, contains_none}
 use Rattle.rate_layers.specs.Layers.{Rises}
-use Rattle.rate_layers.specs.Live.{StandsAt, LeadsOn, LeadOn, LeadsAt, marked, MarkedMore, MarkedOn}
-use Rattle.rate_layers.proofs.Fronts.{same_pair, first_smaller, rises_tail}
+use Rattle.rate_layers.specs.Live.{StandsAt, LeadsAt, marked, MarkedMore, MarkedOn}
+use Rattle.rate_layers.proofs.Fronts.{first_smaller, rises_tail}
 use Rattle.rate_layers.proofs.Onward.{rises_at, build_rises}
 
 -- ---- which pairs have a mark

@@ -1,12 +1,10 @@
 -- Steps from pair to pair.
-use Rattle.std.proofs.Common.{◌≡◌, ℕ, zero, suc, ◌+◌, ◌<◌, ◌≤◌, List, [], ◌∷◌, ◌++◌, length, get_or, take, Bool, true, false, ltb, cond, refl, sym, ap, ◌∙◌, subst, arith, ⊎_elim}
-use Rattle.std.specs.Prelude.{IsTrue, ◌↔◌, Option, Some, None, IfSome, IfNone, is_some}
+use Rattle.std.proofs.Common.{◌≡◌, ℕ, zero, suc, ◌+◌, ◌<◌, ◌≤◌, List, [], ◌∷◌, length, get_or, Bool, true, false, ltb, cond, sym, ap, ◌∙◌, subst, arith, ⊎_elim}
 use Rattle.std.specs.List.{Contains, filter}
 use Rattle.std.specs.List.Sorted.{IsNonDecreasingBy, IsPartitionPoint}
 use Rattle.std.proofs.lemmas.List.{get_or_default}
-use Rattle.std.proofs.lemmas.List.Elements.{Contains-get_or, Contains-append_left, Contains-append_right, Contains-append_cases}
-use Rattle.std.proofs.lemmas.Bool.{cases_lt, ltb-true, ltb-false, cases_Bool, true≢false, false≢true}
-use Rattle.std.proofs.Math.Seq.{take-suc}
+use Rattle.std.proofs.lemmas.List.Elements.{Contains-get_or}
+use Rattle.std.proofs.lemmas.Bool.{cases_lt, ltb-true, ltb-false, cases_Bool, true≢false}
 use Rattle.rate_table.specs.declared.entry.Entry.{Entry}
 use Rattle.rate_table.specs.declared.entry.Pair.{Pair}
 use Rattle.rate_table.specs.Table.{IndicesRise}
@@ -97,7 +95,7 @@ module _ (ps : List Pair) (size at : ℕ) (h : Rises ps) (parts : IsPartitionPoi
 
 -- ---- the first entry
 
-indices_at : (xs : List Entry) (i j : ℕ) (d : Entry) → IndicesRise xs → i < j → j < length xs → (get_or xs i d).index < (get_or xs j d).index
+pub indices_at : (xs : List Entry) (i j : ℕ) (d : Entry) → IndicesRise xs → i < j → j < length xs → (get_or xs i d).index < (get_or xs j d).index
 indices_at [] i j d h l n = absurd (omega arith)
 indices_at (x ∷ xs) i zero d h l n = absurd (omega arith)
 indices_at (x ∷ xs) zero (suc j) d h l n = index_after x xs (get_or xs j d) h (Contains-get_or xs j d (omega arith))

@@ -8,6 +8,7 @@ mod layers;
 mod live;
 mod marks;
 mod merge;
+mod multiplied;
 mod multiplier;
 mod narrowed;
 mod outcome;

@@ -4,17 +4,16 @@ ghost use Rattle.std.specs.Prelude.{◌≡◌, ◌+◌, ◌*◌, ◌<◌, ◌≤
 ghost use Rattle.std.specs.List.{All, Contains};
 ghost use Rattle.rate_table.specs.declared.entry.Entry.{Entry};
 ghost use Rattle.rate_table.specs.Table.{IsSlice, IsChoice, Fits, HasNoFit, size_of, error_of};
+ghost use Rattle.rate_table.specs.Pairs.{cost};
 ghost use Rattle.rate_layers.specs.Multiplier.{IsPick, ArePicks, PicksFit, IsMultiplier, Wins};
 
 use rate_table::{Entry, FrameTable, SliceTable, cost_of, least};
 
-/// Whether one entry is taken rather than another, or is the other.
-fn is_better(a: &Entry, b: &Entry, multiplier: u64) -> bool
-    ensures yes { IsTrue result → Wins multiplier a.now b.now }
-    ensures no { (IsTrue result → ⊥) → Wins multiplier b.now a.now }
+/// Whether one entry is taken rather than another, or is the other; these are their costs.
+fn is_better(a: &Entry, first: u128, b: &Entry, second: u128) -> bool
+    ensures yes { (m : ℕ) → first ≡ cost m a.now → second ≡ cost m b.now → IsTrue result → Wins m a.now b.now }
+    ensures no { (m : ℕ) → first ≡ cost m a.now → second ≡ cost m b.now → (IsTrue result → ⊥) → Wins m b.now a.now }
 {
-    let first = cost_of(a, multiplier);
-    let second = cost_of(b, multiplier);
     first < second || first == second && (a.size < b.size || a.size == b.size && a.index <= b.index)
 }
 
@@ -24,9 +23,12 @@ fn pick(entries: &[Entry], multiplier: u64) -> Entry
     ensures { IsPick multiplier entries.now result }
 {
     let mut best = entries[0];
+    let mut least = cost_of(&best, multiplier);
     for x in entries {
-        if !is_better(&best, x, multiplier) {
+        let cost = cost_of(x, multiplier);
+        if !is_better(&best, least, x, cost) {
             best = *x;
+            least = cost;
         }
     }
     best

@@ -18,7 +18,8 @@ mod tests;
 use crate::fault::BestFault;
 use crate::layers::kept_layers;
 use crate::live::first_choice;
-use crate::multiplier::{least_multiplier, pick_sums};
+use crate::multiplied::multiplied;
+use crate::multiplier::{fitting_multiplier, least_multiplier, pick_sums};
 use crate::narrowed::narrow;
 use crate::outcome::Outcome;
 use rate_table::{FrameTable, Pair, least, least_costs};
@@ -26,6 +27,12 @@ use std::alloc::Global;
 
 /// The span to an error of too many pairs is halved so many times before the refusal stands.
 const HALVINGS: usize = 8;
+
+/// A multiplier below this is small: its bound is loose, since it is a whole number.
+const SMALL: u64 = 100;
+
+/// A small multiplier is made about as great as this in the search for the optimum's error.
+const FINE: u64 = 1024;
 
 /// Layers, and the pair of the best choice, which is the last one of the last layer.
 #[derive(Drop)]
@@ -64,19 +71,20 @@ fn found_within(
 }
 
 /// The layers of a smaller error, where this one's are too many: from an error up to which all were too small, the span
-/// to this one is halved some times.
+/// to this one is halved so many times.
 fn found_by_halving(
     alloc: Global,
     table: &FrameTable,
     multiplier: u64,
     low: u64,
     full: u64,
+    halvings: usize,
 ) -> Result<Found, BestFault>
     ensures { IfOk result (λ f. (u : ℕ) × AreFound table.now multiplier u f.goal (map (λ l. l.items) f.layers.items)) }
 {
     let mut low = low.min(full);
     let mut full = full;
-    'halving: for _ in 0..HALVINGS {
+    'halving: for _ in 0..halvings {
         if low == full {
             return Err(BestFault::LayersFull);
         }
@@ -99,6 +107,7 @@ fn found_up_to(
     multiplier: u64,
     low: u64,
     error: u64,
+    halvings: usize,
 ) -> Result<Option<Found>, BestFault>
     ensures some { IfOk result (λ o. IfSome o (λ f. (u : ℕ) × AreFound table.now multiplier u f.goal (map (λ l. l.items) f.layers.items))) }
     ensures none { IfOk result (λ o. IfNone o ((c : List Entry) → IsChoice table.now.slices c → Fits table.now c → error < error_of c)) }
@@ -107,7 +116,7 @@ fn found_up_to(
     match found_within(alloc, table, multiplier, error) {
         Ok(found) => Ok(found),
         Err(BestFault::LayersFull) => {
-            let found = found_by_halving(alloc, table, multiplier, low, error)?;
+            let found = found_by_halving(alloc, table, multiplier, low, error, halvings)?;
             Ok(Some(found))
         }
         Err(BestFault::NoMemory) => Err(BestFault::NoMemory),
@@ -135,8 +144,13 @@ fn between(low: u64, most: u64, part: u64) -> u64
 
 /// The layers that some error keeps that a fitting choice has. Small errors are tried first: from a lower bound of all
 /// errors a 4,096th of the way to the error of the multiplier's picks, then four times as far, up to that error, which
-/// a fitting choice has. None is tried twice.
-fn find(alloc: Global, table: &FrameTable, multiplier: u64) -> Result<Found, BestFault>
+/// a fitting choice has. None is tried twice. Where an error's layers are too many, the span is halved so many times.
+fn find_by_stages(
+    alloc: Global,
+    table: &FrameTable,
+    multiplier: u64,
+    halvings: usize,
+) -> Result<Found, BestFault>
     requires { IsMultiplier table.now multiplier }
     ensures found { IfOk result (λ f. (u : ℕ) × AreFound table.now multiplier u f.goal (map (λ l. l.items) f.layers.items)) }
     ensures full { IfErr result (λ e. e ≡ LayersFull → PassesByPicks table.now) }
@@ -147,16 +161,63 @@ fn find(alloc: Global, table: &FrameTable, multiplier: u64) -> Result<Found, Bes
     for part in [4096, 1024, 256, 64, 16, 4] {
         let error = between(low, most, part);
         if untried <= error {
-            if let Some(found) = found_up_to(alloc, table, multiplier, untried, error)? {
+            let found = found_up_to(alloc, table, multiplier, untried, error, halvings)?;
+            if let Some(found) = found {
                 return Ok(found);
             }
             untried = error + 1;
         }
     }
-    match found_up_to(alloc, table, multiplier, untried, most)? {
+    match found_up_to(alloc, table, multiplier, untried, most, halvings)? {
         Some(found) => Ok(found),
         None => unreachable!(),
     }
+}
+
+/// How many times errors count in the search for the optimum's error: once where the multiplier isn't small, and where it
+/// is 0, so that the picks are best.
+fn times_of(multiplier: u64) -> u64
+    ensures { 1 ≤ result }
+{
+    if multiplier == 0 || SMALL <= multiplier {
+        1
+    } else {
+        FINE / multiplier
+    }
+}
+
+/// The error of the best choice, found over the table whose errors count so many times. Whole multipliers are fractions
+/// there, and their bounds keep far fewer pairs where the table's own is small. `None` where nothing was found.
+/// It is a guess: whoever takes it tries it.
+fn guess(alloc: Global, table: &FrameTable, times: u64) -> Option<u64>
+    requires { 1 ≤ times }
+{
+    let finer = multiplied(alloc, table, times)?;
+    let multiplier = fitting_multiplier(&finer)?;
+    match find_by_stages(alloc, &finer, multiplier, 0) {
+        Ok(found) => Some(found.goal.error / times),
+        Err(_) => None,
+    }
+}
+
+/// The layers that some error keeps that a fitting choice has. Where the multiplier is small, the first error that is
+/// tried is guessed: it is that of the best choice, so no layers are made that aren't needed. Where those are too many,
+/// no smaller error would serve.
+fn find(alloc: Global, table: &FrameTable, multiplier: u64) -> Result<Found, BestFault>
+    requires { IsMultiplier table.now multiplier }
+    ensures found { IfOk result (λ f. (u : ℕ) × AreFound table.now multiplier u f.goal (map (λ l. l.items) f.layers.items)) }
+    ensures full { IfErr result (λ e. e ≡ LayersFull → PassesByPicks table.now) }
+{
+    let times = times_of(multiplier);
+    if 1 < times {
+        if let Some(guessed) = guess(alloc, table, times) {
+            let error = guessed.min(pick_sums(table, multiplier).1);
+            if let Some(kept) = found_within(alloc, table, multiplier, error)? {
+                return Ok(kept);
+            }
+        }
+    }
+    find_by_stages(alloc, table, multiplier, HALVINGS)
 }
 
 /// The best choice of a table where one fits.
@@ -187,7 +248,8 @@ fn best_fit(alloc: Global, table: &FrameTable) -> Result<Outcome, BestFault>
 /// index lists; with the layers and the multiplier that show that none has less error. `None` where no choice fits.
 /// The layers take 16 bytes a pair, those that are returned no more. While it searches it holds at most 2^25 pairs of
 /// finished layers, with two vectors for the layer at work, of up to 32 bytes for each pair of the longest half-merged
-/// layer; while the choice is found, a mark of one byte for each pair beside the layers.
+/// layer, and where the multiplier is small a second table, until the optimum's error is found; while the choice is
+/// found, a mark of one byte for each pair beside the layers.
 ///
 /// The errors are `LayersFull` where the layers number more than 2^25 pairs, and `NoMemory`.
 pub fn best(alloc: Global, table: &FrameTable) -> Result<Outcome, BestFault>

@@ -1,5 +1,5 @@
-use Rattle.std.proofs.Common.{subst, take, get_or, ◌+◌, sym, refl}
-use Rattle.std.specs.List.{Contains, All}
+use Rattle.std.proofs.Common.{subst, take, get_or, refl}
+use Rattle.std.specs.List.{All}
 use Rattle.std.proofs.lemmas.List.{take_all}
 use Rattle.std.proofs.lemmas.List.Elements.{All-contains, All-more, All-weaker, Contains-get_or}
 use Rattle.std.proofs.lemmas.Bool.{false≢true}
@@ -20,17 +20,20 @@ loop-x-preserved c =
     let k = c.loop-x.x-index in
     let e = get_or xs k no_entry in
     let best = c.loop-x.best in
+    let i = c.loop-x.invariant in
     elim c.if-not-is_better.branch [
       | then-not-is_better w ↦
-          subst (λ (b : Entry). record { within : Contains xs b; wins : All (λ y. Wins m b y) (take (k + 1) xs) }) (sym w.best-is) (record {
+          rw (w.best-is, w.least-is) (record {
             within = Contains-get_or xs k no_entry c.loop-x-test.true;
             wins = All-more (λ y. Wins m e y) xs k no_entry c.loop-x-test.true
-                (All-weaker (λ y. Wins m best y) (λ y. Wins m e y) (λ y h. wins_trans m e best y (w.if-not-is_better.ensures.no false≢true) h) (take k xs) c.loop-x.invariant.wins) (wins_self m e e refl);
+                (All-weaker (λ y. Wins m best y) (λ y. Wins m e y) (λ y h. wins_trans m e best y (w.if-not-is_better.ensures.no m i.least c.cost_of-cost.ensures.value false≢true) h) (take k xs) i.wins) (wins_self m e e refl);
+            least = c.cost_of-cost.ensures.value;
           })
       | else-not-is_better w ↦
-          subst (λ (b : Entry). record { within : Contains xs b; wins : All (λ y. Wins m b y) (take (k + 1) xs) }) (sym w.best-is) (record {
-            within = c.loop-x.invariant.within;
-            wins = All-more (λ y. Wins m best y) xs k no_entry c.loop-x-test.true c.loop-x.invariant.wins (w.if-not-is_better.ensures.yes refl);
+          rw (w.best-is, w.least-is) (record {
+            within = i.within;
+            wins = All-more (λ y. Wins m best y) xs k no_entry c.loop-x-test.true i.wins (w.if-not-is_better.ensures.yes m i.least c.cost_of-cost.ensures.value refl);
+            least = i.least;
           })
     ]
 

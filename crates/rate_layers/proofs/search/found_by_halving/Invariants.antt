@@ -1,4 +1,4 @@
-use Rattle.std.proofs.Common.{◌≤◌, ◌<◌, ◌^◌}
+use Rattle.std.proofs.Common.{◌≤◌}
 use Rattle.rate_layers.proofs.search.found_by_halving.Given as goal
 
 abbrev pub invariant-halving : goal.invariant-halving

@@ -1,5 +1,5 @@
 use Rattle.std.proofs.Common.{◌≤◌}
-use Rattle.rate_layers.proofs.search.find.Given as goal
+use Rattle.rate_layers.proofs.search.find_by_stages.Given as goal
 
 -- the lower bound is one
 abbrev pub invariant-loop-part : goal.invariant-loop-part

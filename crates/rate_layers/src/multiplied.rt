@@ -1,0 +1,62 @@
+//! A table whose errors count several times.
+
+ghost use Rattle.std.specs.Prelude.{◌≡◌, ◌<◌, ◌≤◌, ◌^◌, IfOk, length};
+ghost use Rattle.std.specs.List.{All};
+ghost use Rattle.rate_table.specs.Table.{IsEntry, IsSlice};
+
+use rate_table::{Entry, FrameTable, SliceTable, Slices};
+use std::alloc::{AllocError, Global};
+
+/// The greatest error of an entry.
+const MOST: u64 = (1 << 43) - 1;
+
+/// The entry with its error so many times, or the greatest error.
+fn entry_of(x: &Entry, times: u64) -> Entry
+    requires { IsEntry x.now }
+    ensures entry { IsEntry result }
+    ensures index { result.index ≡ x.now.index }
+{
+    Entry {
+        index: x.index,
+        size: x.size,
+        error: x.error.saturating_mul(times).min(MOST),
+    }
+}
+
+fn slice_of(entries: &[Entry], times: u64) -> SliceTable
+    requires { IsSlice entries.now }
+    ensures { IsSlice result }
+{
+    let mut slice = SliceTable::one(entry_of(&entries[0], times));
+    for i in 1..entries.len() {
+        slice.add(entry_of(&entries[i], times));
+    }
+    slice
+}
+
+fn slices_of(
+    alloc: Global,
+    slices: &[SliceTable],
+    times: u64,
+) -> Result<Vec<SliceTable>, AllocError>
+    requires { All IsSlice slices.now }
+    ensures count { IfOk result (λ v. length v.items ≡ length slices.now) }
+    ensures each { IfOk result (λ v. All IsSlice v.items) }
+{
+    let mut all = Vec::with_capacity(alloc, slices.len())?;
+    for slice in slices {
+        all.push(slice_of(slice.entries(), times))?;
+    }
+    Ok(all)
+}
+
+/// The table whose entries have their errors so many times; an error that is too great for an entry is the greatest one.
+/// `None` where memory ran out.
+pub fn multiplied(alloc: Global, table: &FrameTable, times: u64) -> Option<FrameTable> {
+    let slices = slices_of(alloc, table.slices.as_slice(), times).ok()?;
+    Some(FrameTable {
+        budget: table.budget,
+        fixed: table.fixed,
+        slices: Slices::from_vec(slices),
+    })
+}
