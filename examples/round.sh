@@ -26,7 +26,7 @@ clip() {
         LC_ALL=C awk -v chroma="$1" -v mode="$2" -v width="$width" '
             function put(value) { printf "%c%c", value % 256, int(value / 256) }
             function plane(columns, turn,   x, y) {
-                for (y = 0; y < 48; y++) for (x = 0; x < columns; x++) put(64 + (x * 11 + y * 17 + turn * 29 + int(x * y / 7)) % 876)
+                for (y = 0; y < 48; y++) for (x = 0; x < columns; x++) put(64 + (x * 5 + y * 7 + turn * 29) % 876)
             }
             BEGIN {
                 printf "YUV4MPEG2 W64 H48 F25:1 I%s C%sp10\n", mode, chroma
