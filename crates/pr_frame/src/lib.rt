@@ -8,6 +8,7 @@ mod pictures;
 mod placing;
 mod products;
 mod read;
+mod screen;
 mod showing;
 mod size;
 mod slices;

@@ -26,7 +26,7 @@ use pw_planes::Interlace;
 use std::alloc::Global;
 
 /// Reads the header of the picture that begins here, in a frame of `frame` bytes.
-fn picture_header<S: ByteSource>(
+pub(crate) fn picture_header<S: ByteSource>(
     source: &mut S,
     place: &mut u64,
     frame: u32,
@@ -49,7 +49,7 @@ fn picture_header<S: ByteSource>(
 }
 
 /// Reads the sizes of so many slices, behind the picture's header.
-fn slice_sizes<S: ByteSource>(
+pub(crate) fn slice_sizes<S: ByteSource>(
     alloc: Global,
     source: &mut S,
     place: &mut u64,
@@ -74,7 +74,11 @@ fn slice_sizes<S: ByteSource>(
 }
 
 /// Passes over the bytes up to this place.
-fn pass_to<S: ByteSource>(source: &mut S, place: &mut u64, end: u64) -> Result<(), FrameFault>
+pub(crate) fn pass_to<S: ByteSource>(
+    source: &mut S,
+    place: &mut u64,
+    end: u64,
+) -> Result<(), FrameFault>
     requires { place.old ≤ end }
     ensures told { IsSome (S.left source.old) → IsSome (S.left source.new) }
     ensures bytes { OnOk result (IsSome (S.left source.old) → bytes_of (S.left source.new) ≡ drop (end - place.old) (bytes_of (S.left source.old))) }

@@ -83,7 +83,7 @@ fn read_components<S: ByteSource>(
 
 /// Reads the slice at this place of the layout, in the next `size` bytes. The layout is that of a frame with this header.
 #[tactic(auto, using(pr_head::proofs::Bounds::lowers_then))]
-fn read_slice<S: ByteSource>(
+pub(crate) fn read_slice<S: ByteSource>(
     alloc: Global,
     source: &mut S,
     place: &mut u64,
