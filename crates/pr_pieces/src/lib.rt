@@ -8,6 +8,8 @@ mod first;
 mod short;
 mod shorts;
 mod step;
+#[cfg(test)]
+mod tests;
 mod triple;
 mod values;
 mod word;
