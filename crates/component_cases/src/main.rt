@@ -151,13 +151,14 @@ fn line_of(alloc: Global, words: &ShortWords, case: &Case<'_>) -> Result<Vec<u8>
     if padded.extend_from_slice(&[0xa5; 8]).is_err() {
         return Err(NoMemory);
     }
-    if case.count == 0 || case.count > 32 || bytes.len() > 16384 {
+    let size = bytes.len();
+    if case.count == 0 || case.count > 32 || size > 16384 || padded.len() < size + 8 {
         put_words(&mut line, "no component")?;
         return Ok(line);
     }
     let mut blocks = [[7; 64]; 32];
     let blocks = &mut blocks[..case.count];
-    let answer = read_component_in(&padded, bytes.len(), case.scan, blocks, words);
+    let answer = read_component_in(&padded, size, case.scan, blocks, words);
     match answer {
         Ok(()) if case.again => {
             put_blocks(&mut line, blocks)?;
