@@ -2,6 +2,7 @@
 #![tactic(auto)]
 
 mod coded;
+mod desk;
 mod laws;
 mod parts;
 mod pictures;

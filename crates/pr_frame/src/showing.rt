@@ -14,6 +14,7 @@ ghost use Rattle.pr_frame.specs.Reading.{coded_slices_at, coded_picture_at, code
 ghost use Rattle.pr_frame.specs.Shown.{HasHeaderForm, IsShownBy};
 ghost use Rattle.pr_frame.specs.Screen.{empty_screen, HasFieldSize, woven_screen, shown_with, AreSlicesOf, IsPictureOf, ArePicturesOf, IsFrameOf, Finds};
 
+use crate::desk::{Desk, new_desk};
 use crate::read::{pass_to, picture_header, slice_sizes};
 use crate::screen::{Screen, empty_screen, put_slice, woven_screen};
 use crate::slices::read_slice;
@@ -60,6 +61,7 @@ fn show_slices<S: ByteSource>(
     header: &FrameHeader,
     layout: &Layout,
     depth: Depth,
+    desk: &mut Desk,
 ) -> Result<Screen, FrameFault>
     requires header { HasLayoutSize header.now }
     requires layout { IsLayoutOf layout.now header.now.width header.now.height layout.now.log2 header.now.interlace header.now.chroma }
@@ -75,7 +77,7 @@ fn show_slices<S: ByteSource>(
     let mut screen = first_screen(alloc, header, layout)?;
     for (number, size) in sizes.iter().enumerate() {
         let spot = layout.slice(number as u32);
-        let slice = read_slice(alloc, source, place, *size, header, layout, &spot)?;
+        let slice = read_slice(alloc, source, place, *size, header, layout, &spot, desk)?;
         put_slice(&mut screen, depth, header, layout, &spot, &slice);
     }
     Ok(screen)
@@ -91,6 +93,7 @@ fn show_picture<S: ByteSource>(
     frame: u32,
     header: &FrameHeader,
     depth: Depth,
+    desk: &mut Desk,
 ) -> Result<Screen, FrameFault>
     requires header { HasLayoutSize header.now }
     requires room { place.old ≤ frame }
@@ -103,7 +106,7 @@ fn show_picture<S: ByteSource>(
     let at = *place;
     let (picture, layout) = picture_header(source, place, frame, header)?;
     let sizes = slice_sizes(alloc, source, place, &picture, layout.slices())?;
-    let screen = show_slices(alloc, source, place, &sizes, header, &layout, depth)?;
+    let screen = show_slices(alloc, source, place, &sizes, header, &layout, depth, desk)?;
     pass_to(source, place, at + u64::from(picture.size))?;
     Ok(screen)
 }
@@ -137,6 +140,7 @@ fn show_pictures<S: ByteSource>(
     frame: u32,
     header: &FrameHeader,
     depth: Depth,
+    desk: &mut Desk,
 ) -> Result<Screen, FrameFault>
     requires header { HasLayoutSize header.now }
     requires room { place.old ≤ frame }
@@ -145,11 +149,11 @@ fn show_pictures<S: ByteSource>(
     ensures becomes { GoesOn S.becomes source.old source.new }
     ensures cause { CountsFault (S.faults source.old) (S.faults source.new) (is_failed result) }
 {
-    let first = show_picture(alloc, source, place, frame, header, depth)?;
+    let first = show_picture(alloc, source, place, frame, header, depth, desk)?;
     if header.interlace == Interlace::Progressive {
         return Ok(first);
     }
-    let second = show_picture(alloc, source, place, frame, header, depth)?;
+    let second = show_picture(alloc, source, place, frame, header, depth, desk)?;
     whole_screen(alloc, header, &first, &second)
 }
 
@@ -190,7 +194,8 @@ fn show_frame<S: ByteSource>(
 {
     let (header, taken, frame) = read_frame_header(source, size)?;
     *place = u64::from(taken);
-    let screen = show_pictures(alloc, source, place, frame, &header, depth)?;
+    let mut desk = new_desk();
+    let screen = show_pictures(alloc, source, place, frame, &header, depth, &mut desk)?;
     Ok(shown_with(header, depth, screen))
 }
 
