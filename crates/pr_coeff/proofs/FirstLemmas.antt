@@ -20,7 +20,7 @@ module _ (b : Codebook) (l : List Bool) (last : ℤ) (neg : Bool) (code : ℕ) (
   first_large n rest e large =
       ap (λ w. w >>= first_of last neg) (ap (λ b. word_at b l) (sym is) ∙ e) ∙ rw large refl
 
-  first_err : (f : Fault) → word_at b l ≡ Err f → first_at last neg code l ≡ Err f
+  pub first_err : (f : Fault) → word_at b l ≡ Err f → first_at last neg code l ≡ Err f
   unfolding first_at
   first_err f e = ap (λ w. w >>= first_of last neg) (ap (λ b. word_at b l) (sym is) ∙ e)
 

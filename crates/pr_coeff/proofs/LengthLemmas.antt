@@ -29,11 +29,11 @@ level_bits_small class m h = omega (arith, level_word_small class m h)
 pub code_small : (b : Codebook) (n : ℕ) → is_book b ≡ true → n ≤ 2 ^ 18 → length (word b n) ≤ 64
 code_small b n is h = omega (arith, length-word-le b n 18 is (omega arith) (omega (arith, small_exp b is)))
 
-run_named : (n : ℕ) → run_book (run_in (run_class n)) ≡ run_book n
+pub run_named : (n : ℕ) → run_book (run_in (run_class n)) ≡ run_book n
 unfolding run_class run_in run_book
 run_named n = grind (arith, nat_tests)
 
-level_named : (n : ℕ) → level_book (level_in (level_class n)) ≡ level_book n
+pub level_named : (n : ℕ) → level_book (level_in (level_class n)) ≡ level_book n
 unfolding level_class level_in level_book
 level_named n = grind (arith, nat_tests)
 

@@ -14,7 +14,7 @@ const fn book(last: u8, rice: u8, exp: u8) -> Codebook
 }
 
 /// The book of the first DC coefficient.
-pub(crate) fn first_book() -> Codebook
+pub fn first_book() -> Codebook
     ensures value { result ≡ record { last = 0; rice = 5; exp = 6 } }
     ensures book { IsTrue (is_book result) }
 {
@@ -23,7 +23,7 @@ pub(crate) fn first_book() -> Codebook
 
 /// The book of a DC difference, by the code before it.
 #[tactic(auto, unfolding(crate::specs::Component::dc_book))]
-pub(crate) fn book_of_difference(code: u32) -> Codebook
+pub fn book_of_difference(code: u32) -> Codebook
     ensures value { result ≡ dc_book code }
     ensures book { IsTrue (is_book result) }
 {
@@ -37,7 +37,7 @@ pub(crate) fn book_of_difference(code: u32) -> Codebook
 
 /// The book of a run, by the run before it.
 #[tactic(auto, unfolding(crate::specs::Component::run_book))]
-pub(crate) fn book_of_run(run: u32) -> Codebook
+pub fn book_of_run(run: u32) -> Codebook
     ensures value { result ≡ run_book run }
     ensures book { IsTrue (is_book result) }
 {
@@ -53,7 +53,7 @@ pub(crate) fn book_of_run(run: u32) -> Codebook
 
 /// The book of a level, by the magnitude before it.
 #[tactic(auto, unfolding(crate::specs::Component::level_book))]
-pub(crate) fn book_of_level(magnitude: u32) -> Codebook
+pub fn book_of_level(magnitude: u32) -> Codebook
     ensures value { result ≡ level_book magnitude }
     ensures book { IsTrue (is_book result) }
 {

@@ -13,13 +13,14 @@ mod tests;
 mod triple;
 mod write;
 
+pub use books::{book_of_difference, book_of_level, book_of_run, first_book};
 pub use component::read_component;
 pub use laws::{
     bits_are_counted, classes_name_books, coefficients_are_short, component_is_read,
     components_are_of_triples, components_are_short, one_list_of_triples, one_list_or_fault,
     scans_have_each_place,
 };
-pub use lengths::{Cost, Lengths, firsts_length};
+pub use lengths::{Cost, Lengths, class_of_level, class_of_run, firsts_length, level_of, run_of};
 pub use read::CoeffFault;
 pub use scan::{Block, Scan};
 pub use write::{component_length, write_component};

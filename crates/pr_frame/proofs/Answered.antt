@@ -17,7 +17,7 @@ pub answers-stand : (result : Result CodedFrame FrameFault) (size place : ℕ) (
 answers-stand (Ok f) size place left new told g = λ h. frame-found (bytes_of left) f (sample-value size (bytes_of left) f (rest_of place new) (told h) (g.answer h))
 answers-stand (Err e) size place left new told g = tt
 
-fault-told : (e : FrameFault) (sample : List ℕ) → Fails told_fault e (frame_of sample) → IfSome (told_fault e) (λ fault. frame_fault sample ≡ Some fault)
+pub fault-told : (e : FrameFault) (sample : List ℕ) → Fails told_fault e (frame_of sample) → IfSome (told_fault e) (λ fault. frame_fault sample ≡ Some fault)
 fault-told (faults.Bad kind place) sample told = ap result_err told
 fault-told faults.Failed sample told = tt
 fault-told faults.NoMemory sample told = tt

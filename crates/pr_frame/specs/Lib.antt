@@ -6,4 +6,5 @@ pub mod Stands
 pub mod Reading
 pub mod Shown
 pub mod Placing
+pub mod Screen
 pub mod Laws

@@ -55,6 +55,12 @@ IsFaultOf errors.RunPast place fault = fault ≡ faults.Bad kinds.RunPast place
 IsFaultOf errors.LevelRange place fault = fault ≡ faults.Bad kinds.LevelRange place
 IsFaultOf errors.Failed place fault = fault ≡ faults.Failed
 
+-- the error of a frame that the fault of a component's blocks is, which began at this place; no other error is one
+abbrev pub IsHeldFault : {A : Type 0} → ℕ → Result A coefficients.Fault → FrameFault → Type 0
+IsHeldFault place found (faults.Bad kind at) = (fault : coefficients.Fault) × (found ≡ Err fault) × (kind ≡ kind_of fault) × (at ≡ place)
+IsHeldFault place found faults.Failed = ⊥
+IsHeldFault place found faults.NoMemory = ⊥
+
 -- a component of so many blocks in the next `size` bytes
 unfoldable pub blocks_at : List ℕ → ℕ → ℕ → Rest → Read FrameKind (List Block)
 blocks_at scan count size s = do

@@ -2,12 +2,14 @@
 #![tactic(auto)]
 
 mod coded;
+mod desk;
 mod laws;
 mod parts;
 mod pictures;
 mod placing;
 mod products;
 mod read;
+mod screen;
 mod showing;
 mod size;
 mod slices;

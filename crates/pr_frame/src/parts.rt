@@ -1,24 +1,28 @@
 //! The parts of a slice, read.
 
-ghost use Rattle.std.specs.Prelude.{◌≡◌, ◌+◌, ◌*◌, ◌<◌, ◌≤◌, ◌^◌, length, IfOk, IfErr, OnOk, IsSome, IsTrue, Ok, drop, is_err};
+ghost use Rattle.std.specs.Prelude.{◌≡◌, ◌+◌, ◌*◌, ◌<◌, ◌≤◌, ◌^◌, length, IfOk, IfErr, OnOk, IsSome, IsTrue, Ok, None, take, drop, is_err, false};
 ghost use Rattle.std.specs.List.{All};
 ghost use Rattle.pw_outside.specs.Ports.{CountsFault, Lowers, GoesOn};
 ghost use Rattle.pw_outside.specs.Reading.{Gives, Fails, bytes_of, rest_of};
 ghost use Rattle.pr_geom.specs.Layout.{IsSlice};
 ghost use Rattle.pr_geom.specs.Blocks.{blocks_of};
 ghost use Rattle.pr_alpha.specs.Alpha.{is_width, AreBelow};
-ghost use Rattle.pr_coeff.specs.Component.{places};
+ghost use Rattle.pw_bits.specs.Bits.{bits};
+ghost use Rattle.pr_coeff.specs.Component.{Stands, places};
+ghost use Rattle.pr_coeff.specs.Reading.{component_at};
 ghost use Rattle.pr_head.specs.Faults.{told_fault, is_failed};
 ghost use Rattle.pr_frame.specs.Forms.{scan_of, has_alpha, alpha_count, alpha_depth};
-ghost use Rattle.pr_frame.specs.Reading.{blocks_at, IsFaultOf, values_at, alpha_at, IsAlphaFaultOf};
+ghost use Rattle.pr_frame.specs.Reading.{blocks_at, IsFaultOf, IsHeldFault, values_at, alpha_at, IsAlphaFaultOf};
 
 use crate::coded::{AlphaValues, Blocks};
+use crate::desk::Desk;
 use pr_alpha::{AlphaFault, read_alpha};
-use pr_coeff::{Block, CoeffFault, Scan, read_component};
+use pr_coeff::{Block, CoeffFault, Scan};
 use pr_geom::{Layout, Part, SlicePlace};
 use pr_head::{FrameFault, FrameHeader, FrameKind};
+use pr_pieces::{ShortWords, read_component_in};
 use pw_bits::Window;
-use pw_outside::{ByteSource, Failed};
+use pw_outside::{ByteSource, Failed, fill};
 use pw_planes::{AlphaKind, Interlace};
 use std::alloc::Global;
 
@@ -67,25 +71,38 @@ pub(crate) fn pass<S: ByteSource>(source: &mut S, count: u64) -> Result<(), Fail
     window.skip()
 }
 
-/// Reads the component that the window has, from the place `at` on, and passes over what is left of it.
-fn read_window<S: ByteSource>(
-    window: &mut Window<'_, S>,
+/// Fills the piece with the next bytes, and says how many came: fewer where the source ends.
+fn next_bytes<S: ByteSource>(source: &mut S, piece: &mut [u8]) -> Result<usize, FrameFault>
+    ensures count { IfOk result (λ n. n ≤ length piece.new) }
+    ensures bytes { IsSome (S.left source.old) → IfOk result (λ n. take n piece.new ≡ take (length piece.old) (bytes_of (S.left source.old))) }
+    ensures told { IsSome (S.left source.old) → OnOk result (IsSome (S.left source.new)) }
+    ensures rest { IsSome (S.left source.old) → OnOk result (bytes_of (S.left source.new) ≡ drop (length piece.old) (bytes_of (S.left source.old))) }
+    ensures failed { IfErr result (λ e. told_fault e ≡ None) }
+    ensures most { Lowers (S.most source.old) (S.most source.new) 0 }
+    ensures becomes { GoesOn S.becomes source.old source.new }
+    ensures cause { CountsFault (S.faults source.old) (S.faults source.new) (is_failed result) }
+{
+    Ok(fill(source, piece)?)
+}
+
+/// Reads the component that has these first bytes of a piece and eight behind them, which began at the place `at`.
+fn read_held(
+    piece: &[u8],
+    count: usize,
     at: u64,
     scan: Scan,
     blocks: &mut [Block],
+    words: &ShortWords,
 ) -> Result<(), FrameFault>
     requires count { (0 < length blocks.old) × (length blocks.old ≤ 32) }
-    ensures value { IsSome (S.left window.old.source.now) → OnOk result (blocks_at (places scan) (length blocks.old) window.old.left (rest_of at (S.left window.old.source.now)) ≡ Ok (blocks.new, rest_of (at + window.old.left) (S.left window.new.source.now))) }
-    ensures fault { IsSome (S.left window.old.source.now) → IfErr result (λ e. Fails told_fault e (blocks_at (places scan) (length blocks.old) window.old.left (rest_of at (S.left window.old.source.now)))) }
-    ensures told { IsSome (S.left window.old.source.now) → IsSome (S.left window.new.source.now) }
-    // The port behind it is the same.
-    ensures same_source { window.new.source.ghost_name ≡ window.old.source.ghost_name }
-    ensures most { Lowers (S.most window.old.source.now) (S.most window.new.source.now) 0 }
-    ensures becomes { GoesOn S.becomes window.old.source.now window.new.source.now }
-    ensures cause { CountsFault (S.faults window.old.source.now) (S.faults window.new.source.now) (is_failed result) }
+    requires held { count + 8 ≤ length piece.now }
+    requires short { count ≤ 65535 }
+    ensures stands { OnOk result (Stands (bits (take count piece.now)) blocks.new (places scan)) }
+    ensures fault { IfErr result (IsHeldFault at (component_at (length blocks.old) (places scan) (bits (take count piece.now)))) }
+    ensures no_source { is_failed result ≡ false }
 {
-    match read_component(window, scan, blocks) {
-        Ok(()) => Ok(window.skip()?),
+    match read_component_in(piece, count, scan, blocks, words) {
+        Ok(()) => Ok(()),
         Err(fault) => Err(fault_of(fault, at)),
     }
 }
@@ -97,6 +114,7 @@ fn component<S: ByteSource>(
     size: u16,
     scan: Scan,
     blocks: &mut [Block],
+    desk: &mut Desk,
 ) -> Result<(), FrameFault>
     requires count { (0 < length blocks.old) × (length blocks.old ≤ 32) }
     ensures told { IsSome (S.left source.old) → OnOk result (IsSome (S.left source.new)) }
@@ -106,8 +124,8 @@ fn component<S: ByteSource>(
     ensures becomes { GoesOn S.becomes source.old source.new }
     ensures cause { CountsFault (S.faults source.old) (S.faults source.new) (is_failed result) }
 {
-    let mut window = Window::new(source, u64::from(size));
-    read_window(&mut window, at, scan, blocks)
+    let count = next_bytes(source, &mut desk.piece[..usize::from(size)])?;
+    read_held(&desk.piece, count, at, scan, blocks, &desk.words)
 }
 
 /// Reads the blocks of a part of a slice in the next `size` bytes. The slice lies at this place of the layout, which is that
@@ -120,6 +138,7 @@ pub(crate) fn read_part<S: ByteSource>(
     layout: &Layout,
     slice: &SlicePlace,
     part: Part,
+    desk: &mut Desk,
 ) -> Result<Blocks, FrameFault>
     requires slice { IsSlice layout.now slice.now }
     requires room { place.old + size < 2 ^ 64 }
@@ -132,7 +151,14 @@ pub(crate) fn read_part<S: ByteSource>(
 {
     let count = layout.blocks(slice, part);
     let mut blocks = Vec::from_elem(alloc, [0; 64], usize::from(count))?;
-    component(source, *place, size, scan_of(layout.interlace), &mut blocks)?;
+    component(
+        source,
+        *place,
+        size,
+        scan_of(layout.interlace),
+        &mut blocks,
+        desk,
+    )?;
     *place += u64::from(size);
     Ok(Blocks::from_vec(blocks))
 }

@@ -35,7 +35,7 @@ fn layout_of(header: &FrameHeader, log2: u8) -> Layout
 }
 
 /// The width of the plane of a part.
-fn width_of(header: &FrameHeader, part: Part) -> u32
+pub(crate) fn plane_width(header: &FrameHeader, part: Part) -> u32
     ensures { result ≡ width_of header.now part }
 {
     let width = u32::from(header.width);
@@ -56,7 +56,7 @@ fn weights_of(header: &FrameHeader, part: Part) -> &[u8; 64]
 }
 
 /// Writes what a part of a slice shows into the plane of the part.
-fn put_slice_part(
+pub(crate) fn put_slice_part(
     plane: &mut Plane,
     depth: Depth,
     header: &FrameHeader,
@@ -101,7 +101,7 @@ fn part_plane(
 {
     let layout = layout_of(header, picture.log2);
     let height = u32::from(layout.picture_height());
-    let mut plane = Plane::new(alloc, width_of(header, part), height, 0)?;
+    let mut plane = Plane::new(alloc, plane_width(header, part), height, 0)?;
     let slices = picture.slices.as_slice();
     for number in 0..slices.len() {
         let place = layout.slice(number as u32);
@@ -140,7 +140,7 @@ fn alpha_plane(
 }
 
 /// The planes of the two fields of a frame, the earlier first, as one.
-fn woven(
+pub(crate) fn woven(
     alloc: Global,
     interlace: Interlace,
     first: &Plane,

@@ -14,6 +14,7 @@ ghost use Rattle.pr_frame.specs.Reading.{coded_picture_at, coded_pictures_at, fr
 ghost use Rattle.pr_frame.specs.Stands.{FrameStands};
 
 use crate::coded::{CodedFrame, CodedPicture, CodedPictures};
+use crate::desk::{Desk, new_desk};
 use crate::parts::pass;
 use crate::slices::read_slices;
 use pr_geom::Layout;
@@ -26,7 +27,7 @@ use pw_planes::Interlace;
 use std::alloc::Global;
 
 /// Reads the header of the picture that begins here, in a frame of `frame` bytes.
-fn picture_header<S: ByteSource>(
+pub(crate) fn picture_header<S: ByteSource>(
     source: &mut S,
     place: &mut u64,
     frame: u32,
@@ -49,7 +50,7 @@ fn picture_header<S: ByteSource>(
 }
 
 /// Reads the sizes of so many slices, behind the picture's header.
-fn slice_sizes<S: ByteSource>(
+pub(crate) fn slice_sizes<S: ByteSource>(
     alloc: Global,
     source: &mut S,
     place: &mut u64,
@@ -74,7 +75,11 @@ fn slice_sizes<S: ByteSource>(
 }
 
 /// Passes over the bytes up to this place.
-fn pass_to<S: ByteSource>(source: &mut S, place: &mut u64, end: u64) -> Result<(), FrameFault>
+pub(crate) fn pass_to<S: ByteSource>(
+    source: &mut S,
+    place: &mut u64,
+    end: u64,
+) -> Result<(), FrameFault>
     requires { place.old ≤ end }
     ensures told { IsSome (S.left source.old) → IsSome (S.left source.new) }
     ensures bytes { OnOk result (IsSome (S.left source.old) → bytes_of (S.left source.new) ≡ drop (end - place.old) (bytes_of (S.left source.old))) }
@@ -97,6 +102,7 @@ fn read_picture<S: ByteSource>(
     place: &mut u64,
     frame: u32,
     header: &FrameHeader,
+    desk: &mut Desk,
 ) -> Result<CodedPicture, FrameFault>
     requires header { HasLayoutSize header.now }
     requires room { place.old ≤ frame }
@@ -110,7 +116,7 @@ fn read_picture<S: ByteSource>(
     let at = *place;
     let (picture, layout) = picture_header(source, place, frame, header)?;
     let sizes = slice_sizes(alloc, source, place, &picture, layout.slices())?;
-    let slices = read_slices(alloc, source, place, &sizes, header, &layout)?;
+    let slices = read_slices(alloc, source, place, &sizes, header, &layout, desk)?;
     pass_to(source, place, at + u64::from(picture.size))?;
     Ok(CodedPicture {
         log2: picture.log2,
@@ -127,6 +133,7 @@ fn read_pictures<S: ByteSource>(
     count: u8,
     frame: u32,
     header: &FrameHeader,
+    desk: &mut Desk,
 ) -> Result<CodedPictures, FrameFault>
     requires header { HasLayoutSize header.now }
     requires room { place.old ≤ frame }
@@ -139,7 +146,7 @@ fn read_pictures<S: ByteSource>(
 {
     let mut pictures = Vec::new(alloc);
     for _ in 0..count {
-        let picture = read_picture(alloc, source, place, frame, header)?;
+        let picture = read_picture(alloc, source, place, frame, header, desk)?;
         pictures.push(picture)?;
     }
     Ok(CodedPictures::from_vec(pictures))
@@ -174,7 +181,8 @@ fn frame_from<S: ByteSource>(
     let (header, taken, frame) = read_frame_header(source, size)?;
     *place = u64::from(taken);
     let count = pictures_in(header.interlace);
-    let pictures = read_pictures(alloc, source, place, count, frame, &header)?;
+    let mut desk = new_desk();
+    let pictures = read_pictures(alloc, source, place, count, frame, &header, &mut desk)?;
     Ok(CodedFrame { header, pictures })
 }
 

@@ -1,18 +1,27 @@
-//! Samples, shown as they are read.
+//! Samples, shown as they are read: the blocks of one slice at a time.
 
-ghost use Rattle.std.specs.Prelude.{◌≡◌, min, max, length, IfOk, IfErr, OnOk, IfSome, IsSome, Some};
+ghost use Rattle.std.specs.Prelude.{◌≡◌, ◌+◌, ◌<◌, ◌≤◌, ◌^◌, length, sum, IfOk, IfErr, OnOk, IfSome, IsSome, Some};
 ghost use Rattle.pw_outside.specs.Ports.{CountsFault, Lowers, GoesOn};
 ghost use Rattle.pw_outside.specs.Reading.{Told};
+ghost use Rattle.pw_planes.specs.declared.kinds.Interlace.TheVariants.{Progressive};
+ghost use Rattle.pr_geom.specs.declared.places.TheConstants.{MAX_SLICES};
+ghost use Rattle.pr_geom.specs.Slices.{pictures_of};
+ghost use Rattle.pr_geom.specs.Layout.{IsLayoutOf, slices_of};
+ghost use Rattle.pr_head.specs.declared.fault.FrameFault.TheVariants.{NoMemory};
 ghost use Rattle.pr_head.specs.Faults.{told_fault, is_failed};
-ghost use Rattle.pr_frame.specs.Reading.{frame_fault};
-ghost use Rattle.pr_frame.specs.Shown.{slice_indices, indices_of, least, greatest, HasHeaderForm, IsShownBy};
+ghost use Rattle.pr_head.specs.Header.{HasLayoutSize};
+ghost use Rattle.pr_frame.specs.Reading.{coded_slices_at, coded_picture_at, coded_pictures_at, frame_at, frame_fault};
+ghost use Rattle.pr_frame.specs.Shown.{HasHeaderForm, IsShownBy};
+ghost use Rattle.pr_frame.specs.Screen.{empty_screen, HasFieldSize, woven_screen, shown_with, AreSlicesOf, IsPictureOf, ArePicturesOf, IsFrameOf, Finds};
 
-use crate::coded::{CodedFrame, CodedSlice};
-use crate::pictures::show;
-use crate::read::read_frame;
-use pr_head::{FrameFault, FrameHeader};
+use crate::desk::{Desk, new_desk};
+use crate::read::{pass_to, picture_header, slice_sizes};
+use crate::screen::{Screen, empty_screen, put_slice, woven_screen};
+use crate::slices::read_slice;
+use pr_geom::Layout;
+use pr_head::{FrameFault, FrameHeader, read_frame_header};
 use pw_outside::ByteSource;
-use pw_planes::{Depth, Picture};
+use pw_planes::{Depth, Interlace, Picture};
 use std::alloc::Global;
 
 /// The picture that a sample shows, and what of its frame is told.
@@ -28,30 +37,166 @@ pub struct Shown {
     pub picture: Picture,
 }
 
-/// The least and the greatest of two numbers and the quantisation indices of these slices.
-fn indices_with(slices: &[CodedSlice], indices: (u8, u8)) -> (u8, u8)
-    ensures least { result.0 ≡ min indices.0 (least (slice_indices slices.now)) }
-    ensures greatest { result.1 ≡ max indices.1 (greatest (slice_indices slices.now)) }
+/// Before the first slice of a picture, in a frame with this header.
+fn first_screen(alloc: Global, header: &FrameHeader, layout: &Layout) -> Result<Screen, FrameFault>
+    requires header { HasLayoutSize header.now }
+    requires layout { IsLayoutOf layout.now header.now.width header.now.height layout.now.log2 header.now.interlace header.now.chroma }
+    ensures value { IfOk result (λ s. s ≡ empty_screen header.now) }
+    ensures error { IfErr result (λ e. e ≡ NoMemory) }
 {
-    let (mut least, mut greatest) = indices;
-    for number in 0..slices.len() {
-        least = least.min(slices[number].index);
-        greatest = greatest.max(slices[number].index);
+    match empty_screen(alloc, header, layout) {
+        Ok(screen) => Ok(screen),
+        Err(_) => Err(FrameFault::NoMemory),
     }
-    (least, greatest)
 }
 
-/// The least and the greatest quantisation index of the slices of a frame.
-fn indices_of(frame: &CodedFrame) -> (u8, u8)
-    ensures least { result.0 ≡ least (indices_of frame.now) }
-    ensures greatest { result.1 ≡ greatest (indices_of frame.now) }
+/// Reads the slices of a picture with this layout, which have these sizes, and puts each into the picture's planes. The
+/// layout is that of a frame with this header.
+#[tactic(auto, using(pr_head::proofs::Bounds::lowers_then))]
+fn show_slices<S: ByteSource>(
+    alloc: Global,
+    source: &mut S,
+    place: &mut u64,
+    sizes: &[u16],
+    header: &FrameHeader,
+    layout: &Layout,
+    depth: Depth,
+    desk: &mut Desk,
+) -> Result<Screen, FrameFault>
+    requires header { HasLayoutSize header.now }
+    requires layout { IsLayoutOf layout.now header.now.width header.now.height layout.now.log2 header.now.interlace header.now.chroma }
+    requires count { length sizes.now ≡ length (slices_of layout.now) }
+    requires few { length sizes.now ≤ MAX_SLICES }
+    requires room { place.old + sum sizes.now < 2 ^ 32 }
+    ensures found { Finds (AreSlicesOf header.now depth (slices_of layout.now)) (Told (S.left source.old) (λ bytes. sum sizes.now ≤ length bytes)) (S.left source.old) (S.left source.new) place.old place.new result (coded_slices_at header.now (slices_of layout.now) sizes.now) }
+    ensures place { OnOk result (place.new ≤ place.old + sum sizes.now) }
+    ensures most { Lowers (S.most source.old) (S.most source.new) 0 }
+    ensures becomes { GoesOn S.becomes source.old source.new }
+    ensures cause { CountsFault (S.faults source.old) (S.faults source.new) (is_failed result) }
 {
-    let pictures = frame.pictures.as_slice();
-    let mut indices = (255, 0);
-    for number in 0..pictures.len() {
-        indices = indices_with(pictures[number].slices.as_slice(), indices);
+    let mut screen = first_screen(alloc, header, layout)?;
+    for (number, size) in sizes.iter().enumerate() {
+        let spot = layout.slice(number as u32);
+        let slice = read_slice(alloc, source, place, *size, header, layout, &spot, desk)?;
+        put_slice(&mut screen, depth, header, layout, &spot, &slice);
     }
-    indices
+    Ok(screen)
+}
+
+/// Reads the picture that begins here, in a frame of `frame` bytes with this header, into planes, and passes over what is
+/// left of it.
+#[tactic(auto, using(pr_head::proofs::Bounds::lowers_then))]
+fn show_picture<S: ByteSource>(
+    alloc: Global,
+    source: &mut S,
+    place: &mut u64,
+    frame: u32,
+    header: &FrameHeader,
+    depth: Depth,
+    desk: &mut Desk,
+) -> Result<Screen, FrameFault>
+    requires header { HasLayoutSize header.now }
+    requires room { place.old ≤ frame }
+    ensures found { Finds (IsPictureOf header.now depth) (Told (S.left source.old) (λ bytes. frame ≤ place.old + length bytes)) (S.left source.old) (S.left source.new) place.old place.new result (coded_picture_at frame header.now) }
+    ensures place { OnOk result (place.new ≤ frame) }
+    ensures most { Lowers (S.most source.old) (S.most source.new) 0 }
+    ensures becomes { GoesOn S.becomes source.old source.new }
+    ensures cause { CountsFault (S.faults source.old) (S.faults source.new) (is_failed result) }
+{
+    let at = *place;
+    let (picture, layout) = picture_header(source, place, frame, header)?;
+    let sizes = slice_sizes(alloc, source, place, &picture, layout.slices())?;
+    let screen = show_slices(alloc, source, place, &sizes, header, &layout, depth, desk)?;
+    pass_to(source, place, at + u64::from(picture.size))?;
+    Ok(screen)
+}
+
+/// The planes of the two fields of a frame, the earlier first, as one.
+fn whole_screen(
+    alloc: Global,
+    header: &FrameHeader,
+    first: &Screen,
+    second: &Screen,
+) -> Result<Screen, FrameFault>
+    requires header { HasLayoutSize header.now }
+    requires first { HasFieldSize header.now first.now }
+    requires second { HasFieldSize header.now second.now }
+    requires fields { header.now.interlace ≡ Progressive → ⊥ }
+    ensures value { IfOk result (λ s. s ≡ woven_screen header.now.interlace first.now second.now) }
+    ensures error { IfErr result (λ e. e ≡ NoMemory) }
+{
+    match woven_screen(alloc, header, first, second) {
+        Ok(screen) => Ok(screen),
+        Err(_) => Err(FrameFault::NoMemory),
+    }
+}
+
+/// Reads the pictures of a frame of `frame` bytes with this header into planes: one, or both fields.
+#[tactic(auto, using(pr_head::proofs::Bounds::lowers_then))]
+fn show_pictures<S: ByteSource>(
+    alloc: Global,
+    source: &mut S,
+    place: &mut u64,
+    frame: u32,
+    header: &FrameHeader,
+    depth: Depth,
+    desk: &mut Desk,
+) -> Result<Screen, FrameFault>
+    requires header { HasLayoutSize header.now }
+    requires room { place.old ≤ frame }
+    ensures found { Finds (ArePicturesOf header.now depth) (Told (S.left source.old) (λ bytes. frame ≤ place.old + length bytes)) (S.left source.old) (S.left source.new) place.old place.new result (coded_pictures_at (pictures_of header.now.interlace) frame header.now) }
+    ensures most { Lowers (S.most source.old) (S.most source.new) 0 }
+    ensures becomes { GoesOn S.becomes source.old source.new }
+    ensures cause { CountsFault (S.faults source.old) (S.faults source.new) (is_failed result) }
+{
+    let first = show_picture(alloc, source, place, frame, header, depth, desk)?;
+    if header.interlace == Interlace::Progressive {
+        return Ok(first);
+    }
+    let second = show_picture(alloc, source, place, frame, header, depth, desk)?;
+    whole_screen(alloc, header, &first, &second)
+}
+
+/// What is told of a frame with this header and these planes.
+fn shown_with(header: FrameHeader, depth: Depth, screen: Screen) -> Shown
+    ensures { result ≡ shown_with header depth screen }
+{
+    Shown {
+        least_index: screen.least,
+        greatest_index: screen.greatest,
+        picture: Picture {
+            y: screen.y,
+            cb: screen.cb,
+            cr: screen.cr,
+            alpha: screen.alpha,
+            chroma: header.chroma,
+            depth,
+        },
+        header,
+    }
+}
+
+/// Reads the frame at the front of a sample of `size` bytes, and shows it.
+#[tactic(auto, using(pr_head::proofs::Bounds::lowers_then))]
+fn show_frame<S: ByteSource>(
+    alloc: Global,
+    source: &mut S,
+    place: &mut u64,
+    size: u32,
+    depth: Depth,
+) -> Result<Shown, FrameFault>
+    requires place { place.old ≡ 0 }
+    requires bytes { Told (S.left source.old) (λ bytes. size ≤ length bytes) }
+    ensures found { Finds (IsFrameOf depth) (Told (S.left source.old) (λ bytes. size ≤ length bytes)) (S.left source.old) (S.left source.new) place.old place.new result (frame_at size) }
+    ensures most { Lowers (S.most source.old) (S.most source.new) 0 }
+    ensures becomes { GoesOn S.becomes source.old source.new }
+    ensures cause { CountsFault (S.faults source.old) (S.faults source.new) (is_failed result) }
+{
+    let (header, taken, frame) = read_frame_header(source, size)?;
+    *place = u64::from(taken);
+    let mut desk = new_desk();
+    let screen = show_pictures(alloc, source, place, frame, &header, depth, &mut desk)?;
+    Ok(shown_with(header, depth, screen))
 }
 
 /// Reads the picture that a sample of `size` bytes shows, with samples of this depth. The source holds the sample.
@@ -78,15 +223,6 @@ pub fn read_shown<S: ByteSource>(
     // The error is `Failed` only where a call of the source failed, and each such call is answered by it.
     ensures cause { CountsFault (S.faults source.old) (S.faults source.new) (is_failed result) }
 {
-    let frame = read_frame(alloc, source, size)?;
-    let (least_index, greatest_index) = indices_of(&frame);
-    match show(alloc, &frame, depth) {
-        Ok(picture) => Ok(Shown {
-            header: frame.header,
-            least_index,
-            greatest_index,
-            picture,
-        }),
-        Err(_) => Err(FrameFault::NoMemory),
-    }
+    let mut place = 0;
+    show_frame(alloc, source, &mut place, size, depth)
 }

@@ -15,6 +15,7 @@ ghost use Rattle.pr_frame.specs.Coded.{IsCodedSlice, AreCodedSlices};
 ghost use Rattle.pr_frame.specs.Reading.{components_at, coded_slice_at, coded_slices_at};
 
 use crate::coded::{CodedSlice, CodedSlices};
+use crate::desk::Desk;
 use crate::parts::{has_alpha, read_alpha_part, read_part};
 use pr_geom::{Layout, Part, SlicePlace};
 use pr_head::{FrameFault, FrameHeader, SliceHeader, read_slice_header};
@@ -52,6 +53,7 @@ fn read_components<S: ByteSource>(
     layout: &Layout,
     alpha: AlphaKind,
     slice: &SlicePlace,
+    desk: &mut Desk,
 ) -> Result<CodedSlice, FrameFault>
     requires slice { IsSlice layout.now slice.now }
     requires inside { IsInside layout.now slice.now }
@@ -68,9 +70,9 @@ fn read_components<S: ByteSource>(
     ensures becomes { GoesOn S.becomes source.old source.new }
     ensures cause { CountsFault (S.faults source.old) (S.faults source.new) (is_failed result) }
 {
-    let y = read_part(alloc, source, place, head.y, layout, slice, Part::Y)?;
-    let cb = read_part(alloc, source, place, head.cb, layout, slice, Part::Cb)?;
-    let cr = read_part(alloc, source, place, head.cr, layout, slice, Part::Cr)?;
+    let y = read_part(alloc, source, place, head.y, layout, slice, Part::Y, desk)?;
+    let cb = read_part(alloc, source, place, head.cb, layout, slice, Part::Cb, desk)?;
+    let cr = read_part(alloc, source, place, head.cr, layout, slice, Part::Cr, desk)?;
     let alpha = read_alpha_part(alloc, source, place, head.alpha, alpha, slice)?;
     Ok(CodedSlice {
         index: head.index,
@@ -83,7 +85,7 @@ fn read_components<S: ByteSource>(
 
 /// Reads the slice at this place of the layout, in the next `size` bytes. The layout is that of a frame with this header.
 #[tactic(auto, using(pr_head::proofs::Bounds::lowers_then))]
-fn read_slice<S: ByteSource>(
+pub(crate) fn read_slice<S: ByteSource>(
     alloc: Global,
     source: &mut S,
     place: &mut u64,
@@ -91,6 +93,7 @@ fn read_slice<S: ByteSource>(
     header: &FrameHeader,
     layout: &Layout,
     slice: &SlicePlace,
+    desk: &mut Desk,
 ) -> Result<CodedSlice, FrameFault>
     requires layout { IsLayoutOf layout.now header.now.width header.now.height layout.now.log2 header.now.interlace header.now.chroma }
     requires slice { IsSlice layout.now slice.now }
@@ -104,7 +107,16 @@ fn read_slice<S: ByteSource>(
     ensures cause { CountsFault (S.faults source.old) (S.faults source.new) (is_failed result) }
 {
     let head = slice_header(source, place, size, header.alpha)?;
-    read_components(alloc, source, place, &head, layout, header.alpha, slice)
+    read_components(
+        alloc,
+        source,
+        place,
+        &head,
+        layout,
+        header.alpha,
+        slice,
+        desk,
+    )
 }
 
 /// Reads the slices of a picture with this layout, which have these sizes. The layout is that of a frame with this header.
@@ -116,6 +128,7 @@ pub(crate) fn read_slices<S: ByteSource>(
     sizes: &[u16],
     header: &FrameHeader,
     layout: &Layout,
+    desk: &mut Desk,
 ) -> Result<CodedSlices, FrameFault>
     requires layout { IsLayoutOf layout.now header.now.width header.now.height layout.now.log2 header.now.interlace header.now.chroma }
     requires count { length sizes.now ≡ length (slices_of layout.now) }
@@ -131,7 +144,7 @@ pub(crate) fn read_slices<S: ByteSource>(
     let mut slices = Vec::new(alloc);
     for (number, size) in sizes.iter().enumerate() {
         let slice = layout.slice(number as u32);
-        let coded = read_slice(alloc, source, place, *size, header, layout, &slice)?;
+        let coded = read_slice(alloc, source, place, *size, header, layout, &slice, desk)?;
         slices.push(coded)?;
     }
     Ok(CodedSlices::from_vec(slices))
