@@ -1,11 +1,11 @@
 //! Blocks, from quantised values to samples.
 
-ghost use Rattle.std.specs.Prelude.{◌≡◌, ◌^◌, ◌≤◌, nat_abs, map};
+ghost use Rattle.std.specs.Prelude.{◌≡◌, ◌^◌, ◌<◌, ◌≤◌, ℕ, IsTrue, get_or, pos, nat_abs, map};
 ghost use Rattle.pr_dct.specs.Transform.{AreWithin};
 ghost use Rattle.pr_frame.specs.Shown.{products, samples_shown, shown_block};
 
 use pr_coeff::Block;
-use pr_dct::{inverse, sample_out};
+use pr_dct::{flat_sample, inverse, sample_out};
 use pr_quant::{dequantise, scale};
 use pw_planes::Depth;
 
@@ -35,11 +35,37 @@ fn samples_of(depth: Depth, values: &[i32; 64]) -> [u16; 64]
     samples
 }
 
+/// Whether all values of a block but the first are 0. The loop has no early way out, so that several values are looked at
+/// together.
+fn is_flat(block: &Block) -> bool
+    ensures { IsTrue result → (p : ℕ) → p < 64 → 0 < p → get_or block.now p (pos 0) ≡ pos 0 }
+{
+    let mut any = 0;
+    for place in 1..64 {
+        any |= block[place].unsigned_abs();
+    }
+    any == 0
+}
+
+/// The samples that a block shows whose values are all 0 but the first.
+fn flat_block(depth: Depth, weights: &[u8; 64], index: u8, block: &Block) -> [u16; 64]
+    requires least { 1 ≤ index }
+    requires most { index ≤ 224 }
+    requires flat { (p : ℕ) → p < 64 → 0 < p → get_or block.now p (pos 0) ≡ pos 0 }
+    ensures { result ≡ shown_block depth weights.now index block.now }
+{
+    let product = dequantise(block[0], u32::from(weights[0]) * scale(index));
+    [sample_out(depth, flat_sample(product)); 64]
+}
+
 /// The samples that a block shows.
 pub(crate) fn shown_block(depth: Depth, weights: &[u8; 64], index: u8, block: &Block) -> [u16; 64]
     requires least { 1 ≤ index }
     requires most { index ≤ 224 }
     ensures { result ≡ shown_block depth weights.now index block.now }
 {
+    if is_flat(block) {
+        return flat_block(depth, weights, index, block);
+    }
     samples_of(depth, &inverse(&products_of(weights, index, block)))
 }
