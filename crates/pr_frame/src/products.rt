@@ -2,6 +2,7 @@
 
 ghost use Rattle.std.specs.Prelude.{◌≡◌, ◌^◌, ◌<◌, ◌≤◌, ℕ, IsTrue, get_or, pos, nat_abs, map};
 ghost use Rattle.pr_dct.specs.Transform.{AreWithin};
+ghost use Rattle.pr_quant.specs.Quantised.{scale_of, dequantised};
 ghost use Rattle.pr_frame.specs.Shown.{products, samples_shown, shown_block};
 
 use pr_coeff::Block;
@@ -10,7 +11,7 @@ use pr_quant::{dequantise, scale};
 use pw_planes::Depth;
 
 /// The products of the quantised values of a block, each with its weight and the factor of the index.
-fn products_of(weights: &[u8; 64], index: u8, block: &Block) -> [i32; 64]
+fn wide_products(weights: &[u8; 64], index: u8, block: &Block) -> [i32; 64]
     requires least { 1 ≤ index }
     requires most { index ≤ 224 }
     ensures value { result ≡ products weights.now index block.now }
@@ -22,6 +23,43 @@ fn products_of(weights: &[u8; 64], index: u8, block: &Block) -> [i32; 64]
         products[place] = dequantise(block[place], u32::from(weights[place]) * factor);
     }
     products
+}
+
+/// What `dequantise` answers where the multiplier is below 2^16, in 32 bits.
+fn narrow_product(q: i16, m: u16) -> i32
+    ensures value { result ≡ dequantised q m }
+    ensures within { nat_abs result ≤ 2 ^ 19 }
+{
+    (i32::from(q) * i32::from(m)).clamp(-524_288, 524_287)
+}
+
+/// The products where no multiplier passes 16 bits, whatever the weights are: several are made together.
+fn narrow_products(weights: &[u8; 64], index: u8, block: &Block) -> [i32; 64]
+    requires least { 1 ≤ index }
+    requires small { scale_of index ≤ 257 }
+    ensures value { result ≡ products weights.now index block.now }
+    ensures within { AreWithin (2 ^ 19) result }
+{
+    let factor = scale(index) as u16;
+    let mut products = [0; 64];
+    for place in 0..64 {
+        products[place] = narrow_product(block[place], u16::from(weights[place]) * factor);
+    }
+    products
+}
+
+/// The products of the quantised values of a block, each with its weight and the factor of the index.
+fn products_of(weights: &[u8; 64], index: u8, block: &Block) -> [i32; 64]
+    requires least { 1 ≤ index }
+    requires most { index ≤ 224 }
+    ensures value { result ≡ products weights.now index block.now }
+    ensures within { AreWithin (2 ^ 19) result }
+{
+    if scale(index) <= 257 {
+        narrow_products(weights, index, block)
+    } else {
+        wide_products(weights, index, block)
+    }
 }
 
 /// Values of a block as samples of a depth.
