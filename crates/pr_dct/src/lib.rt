@@ -76,7 +76,7 @@ fn is_flat(products: &[i32; 64]) -> bool
 }
 
 /// The sample of a block in which only the first product is other than zero: it is the same at each place.
-fn flat_sample(product: i32) -> i32
+pub fn flat_sample(product: i32) -> i32
     requires { nat_abs product ≤ 2 ^ 19 }
     ensures { result ≡ rounded (flat product) }
 {

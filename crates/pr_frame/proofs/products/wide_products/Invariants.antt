@@ -1,6 +1,6 @@
 use Rattle.std.proofs.Common.{◌≡◌, ◌*◌, ◌<◌, ◌≤◌, ◌^◌, ℕ, length, get_or, pos, nat_abs}
 use Rattle.pr_quant.specs.Quantised.{scale_of, dequantised}
-use Rattle.pr_frame.proofs.products.products_of.Given as goal
+use Rattle.pr_frame.proofs.products.wide_products.Given as goal
 
 abbrev pub invariant-loop-place : goal.invariant-loop-place
 invariant-loop-place l = record {

@@ -1,7 +1,7 @@
 use Rattle.std.proofs.Common.{pos, get_or, ◌*◌, arith}
 use Rattle.std.proofs.lemmas.List.FromFn.{fill_by_all}
 use Rattle.pr_quant.specs.Quantised.{scale_of, dequantised}
-use Rattle.pr_frame.proofs.products.products_of.Goals as goal
+use Rattle.pr_frame.proofs.products.narrow_products.Goals as goal
 
 pub returns-clause-value : goal.returns-clause-value
 returns-clause-value c =
