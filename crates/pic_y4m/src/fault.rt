@@ -28,8 +28,6 @@ pub enum PictureKind {
     TooManyFrames,
     /// A frame has more slices than a picture may have.
     TooManySlices,
-    /// The form of the pictures is one that isn't encoded yet.
-    NotBuilt,
 }
 
 /// Why a call has no picture to give.

@@ -32,8 +32,6 @@ pub enum FrameKind {
     SizeLimit,
     /// An interlaced frame has an odd number of rows.
     OddInterlaced,
-    /// A form that isn't built yet.
-    NotBuilt,
     /// A picture header's size or its picture's size is wrong.
     PictureHeader,
     /// A picture has more than 65,535 slices.
