@@ -5,3 +5,7 @@ pub mod Once
 pub mod Orders
 pub mod Rewriting
 pub mod Reproofed
+pub mod Alike
+pub mod Parts
+pub mod Placed
+pub mod OnceWith

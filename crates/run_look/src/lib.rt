@@ -2,6 +2,8 @@
 #![tactic(auto)]
 
 mod checking;
+mod coded;
+mod comparing;
 mod end;
 mod laws;
 mod lines;
@@ -12,6 +14,6 @@ mod tests;
 
 pub use checking::check_proof_run;
 pub use end::LookEnd;
-pub use laws::checking_ends_once;
+pub use laws::{agreeing_is_done_once, checking_ends_once};
 pub use listing::list_run;
 pub use reproof::reproof_run;
