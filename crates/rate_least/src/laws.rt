@@ -1,6 +1,6 @@
 //! Laws over the definitions alone.
 
-ghost use Rattle.rate_least.specs.Laws.{GoodIsTrue, CertificateIsReadAgain};
+ghost use Rattle.rate_least.specs.Laws.{GoodIsTrue, CertificateIsReadAgain, CurveIsOne};
 
 /// What a good certificate says is true.
 pub fn good_is_true()
@@ -10,4 +10,9 @@ pub fn good_is_true()
 /// The certificate that was written is read again.
 pub fn certificate_is_read_again()
     ensures { CertificateIsReadAgain }
+{}
+
+/// The undominated pairs of some slices are one list.
+pub fn curve_is_one()
+    ensures { CurveIsOne }
 {}

@@ -21,7 +21,7 @@ mod writing;
 
 pub use check::check_least;
 pub use end::LeastEnd;
-pub use laws::{certificate_is_read_again, good_is_true};
+pub use laws::{certificate_is_read_again, curve_is_one, good_is_true};
 pub use outcome::{LeastOutcome, LeastProof, WidePair};
 pub use points::curve;
 pub use reading::read_least;
