@@ -82,12 +82,17 @@ other_chunk_at s = do
   rest ← passed_over (padded_size size.0) size.1
   Ok (met.Other, rest.1)
 
--- the next chunk; of the `data` the head alone
+-- a chunk of this kind, which was read; of the `data` the head alone
+abbrev pub kind_chunk_at : (kind : List ℕ) → (chunk : ℕ) → Option Format → Rest → Read SoundKind Met
+kind_chunk_at kind chunk form s =
+    if bytes_eq kind (codes "fmt ") then format_chunk_at chunk form s
+    else (if bytes_eq kind (codes "data") then data_chunk_at chunk form s else other_chunk_at s)
+
+-- the next chunk
 unfoldable pub chunk_at : Option Format → Rest → Read SoundKind Met
 chunk_at form s = do
   kind ← next_bytes 4 s
-  if bytes_eq kind.0 (codes "fmt ") then format_chunk_at s.place form kind.1
-  else (if bytes_eq kind.0 (codes "data") then data_chunk_at s.place form kind.1 else other_chunk_at kind.1)
+  kind_chunk_at kind.0 s.place form kind.1
 
 -- goes on behind a chunk, up to the sound
 abbrev pub going_on : Option Format → Met × Rest → (Option Format → Rest → Read SoundKind Pcm) → Read SoundKind Pcm
