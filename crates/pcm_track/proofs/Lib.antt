@@ -1,3 +1,3 @@
 pub mod Sinks
 pub mod Passing
-pub mod Copying
+pub mod Pieces

@@ -29,7 +29,7 @@ impl From<Failed> for CopyFault {
 }
 
 /// Copies at most `PIECE` bytes.
-#[tactic(auto, unfolding(crate::specs::Wav::passed_over, pw_outside::specs::Reading::bind), using(crate::proofs::Copying::front_none))]
+#[tactic(auto, unfolding(crate::specs::Wav::passed_over, pw_outside::specs::Reading::bind), using(crate::proofs::Pieces::front_none))]
 fn copy_piece<S: ByteSource, K: ByteSink>(
     source: &mut S,
     place: &mut u64,

@@ -1,6 +1,6 @@
 -- Bytes that are copied piece by piece.
 use Rattle.std.proofs.Common.{◌≡◌, refl, ℕ, zero, suc, ◌+◌, ◌-◌, ◌<◌, ◌≤◌, List, [], ◌∷◌, ◌++◌, length, take, drop, Option, None, Some, Result, Ok, Err, arith, sym, ap, subst, ◌∙◌}
-use Rattle.std.specs.Prelude.{IsSome, IfSome, replicate}
+use Rattle.std.specs.Prelude.{IsSome, IfSome, OnErr, replicate}
 use Rattle.std.proofs.lemmas.List.{drop-drop, length-drop, length-append, take-append-drop}
 use lib.Seq.{take-add}
 use Rattle.pw_outside.specs.Ports.{last}
@@ -125,3 +125,11 @@ front_of_more {told} {m} n h p = record {
   same = more-same told m n p.bytes h p.same;
   front = front_more (drop m (first_bytes n (bytes_of told))) p.front;
 }
+
+pub any_err : {X E : Type 0} (r : Result X E) {P : Type 0} → P → OnErr r P
+any_err (Ok x) p = tt
+any_err (Err e) p = p
+
+-- so many fewer are left, so many more were copied
+pub counted : (count left n m : ℕ) → left ≤ count → n ≤ left → m ≡ left - n → (count - left) + n ≡ count - m
+counted count left n m p q e = omega (arith, p, q, e)
