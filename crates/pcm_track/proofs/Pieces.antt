@@ -4,7 +4,7 @@ use Rattle.std.specs.Prelude.{IsSome, IfSome, OnErr, replicate}
 use Rattle.std.proofs.lemmas.List.{drop-drop, length-drop, length-append, take-append-drop}
 use lib.Seq.{take-add}
 use Rattle.pw_outside.specs.Ports.{last}
-use Rattle.pw_outside.specs.Reading.{Rest, rest_of, bytes_of}
+use Rattle.pw_outside.specs.Reading.{Rest, rest_of, bytes_of, Told}
 use Rattle.pw_outside.specs.Writing.{SinkState, Puts, PutsFront}
 use Rattle.pw_outside.proofs.Puts.{puts_none, puts_then, puts_front, then_front, front_more}
 use Rattle.pcm_track.specs.Wav.{passed_over}
@@ -133,3 +133,14 @@ any_err (Err e) p = p
 -- so many fewer are left, so many more were copied
 pub counted : (count left n m : ℕ) → left ≤ count → n ≤ left → m ≡ left - n → (count - left) + n ≡ count - m
 counted count left n m p q e = omega (arith, p, q, e)
+
+pub front_resized : {told : Option (List ℕ)} {m n : ℕ} {a b : SinkState} → CopiedFront told m a b → m ≡ n → CopiedFront told n a b
+front_resized {told} {m} {n} {a} {b} p e = subst (λ k. CopiedFront told k a b) e p
+
+pub copied_resized : {told : Option (List ℕ)} {m n : ℕ} {a b : SinkState} → Copied told m a b → m ≡ n → Copied told n a b
+copied_resized {told} {m} {n} {a} {b} p e = subst (λ k. Copied told k a b) e p
+
+-- some of the bytes that a store has
+pub within-stored : (told : Option (List ℕ)) (place size n : ℕ) → Told told (λ file. place + size ≤ length file) → n ≤ size → IfSome told (λ xs. place + n ≤ length xs)
+within-stored None place size n h le = tt
+within-stored (Some xs) place size n h le = omega (arith, h refl, le)

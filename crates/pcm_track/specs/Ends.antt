@@ -1,5 +1,5 @@
 -- How runs end that put sound beside pictures, or take it out. Our own definitions.
-use Rattle.std.specs.Prelude.{◌≡◌, ◌≤◌, ◌⊎◌, ℕ, Bool, true, false, List}
+use Rattle.std.specs.Prelude.{◌≡◌, ◌≤◌, ◌⊎◌, ℕ, Bool, true, false, List, Result, Ok, Err}
 use Rattle.std.specs.Bool.{OnTrue, OnFalse}
 use Rattle.pw_outside.specs.Ports.{Rose}
 use Rattle.pw_outside.specs.Writing.{SinkState, Puts, PutsFront}
@@ -24,6 +24,11 @@ AnswersUnlessOutside ends.NoMemory end = Unit {0}
 AnswersUnlessOutside ends.ReadFault end = Unit {0}
 AnswersUnlessOutside ends.WriteFault end = Unit {0}
 AnswersUnlessOutside answer end = answer ≡ end
+
+-- how a part of a run ended
+abbrev pub end_of : {X : Type 0} → Result X SoundEnd → SoundEnd
+end_of (Ok x) = ends.Done
+end_of (Err end) = end
 
 -- how a run ends where no port fails and memory lasts, and what it writes where it is done
 pub record Outcome : Type 0 where

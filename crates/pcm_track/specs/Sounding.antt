@@ -17,6 +17,10 @@ use Rattle.pcm_track.specs.Ends.{Outcome}
 abbrev pub chunk_bytes : List ℕ → (channels : ℕ) → Chunk → List ℕ
 chunk_bytes file channels c = first_bytes (sound_size channels c.samples) (drop c.at file)
 
+-- the end at a chunk: it is passed, unless it passes the end of the file
+abbrev pub chunk_end : List ℕ → (channels : ℕ) → Chunk → SoundEnd
+chunk_end file channels c = if nat_lt (length file) (c.at + sound_size channels c.samples) then ends.BadMovie SampleOutside c.at else ends.Done
+
 -- the end at the first chunk that passes the end of the file, if one does
 abbrev pub chunks_end : List ℕ → (channels : ℕ) → List Chunk → SoundEnd
 chunks_end file channels [] = ends.Done

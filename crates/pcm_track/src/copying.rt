@@ -20,7 +20,8 @@ pub(crate) enum Stop {
     Short,
 }
 
-/// Copies so many bytes of a store from a place on, at most as many as the piece has.
+/// Copies as many bytes of a store from a place on as the piece has.
+#[tactic(auto, using(crate::proofs::Pieces::front_none))]
 fn copy_some<M: ByteStore, K: ByteSink>(
     store: &mut M,
     place: u64,
