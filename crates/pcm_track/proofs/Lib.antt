@@ -5,3 +5,4 @@ pub mod ChunkWalk
 pub mod SoundTracks
 pub mod HeldFrames
 pub mod ChunkByChunk
+pub mod SoundedRuns
