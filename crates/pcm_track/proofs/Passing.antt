@@ -40,9 +40,9 @@ passed-cut n s h = let e : nat_lt (length s.bytes) n ≡ true = lt-ltb _ _ h in 
 -- what was passed over was there
 pub passed-there : (n : ℕ) (s t : Rest) → passed_over n s ≡ Ok (tt, t) → n ≤ length s.bytes
 passed-there n s t e = elim (cases_lt (length s.bytes) n) [
-    | inl lt ↦ absurd (not-both (sym (passed-cut n s lt) ∙ e))
-    | inr le ↦ le
-  ]
+  | inl lt ↦ absurd (not-both (sym (passed-cut n s lt) ∙ e))
+  | inr le ↦ le
+]
   where
     not-both : {f : Fault SoundKind} {x : Unit {0} × Rest} → err f ≡ Ok x → ⊥
     not-both e = absurd cc
@@ -62,6 +62,7 @@ passed-step a n s t le e =
   where
     same : (s : Rest) → a ≤ length s.bytes → cut s ≡ cut (behind a s)
     same s there = ap cut_at (let e : s.place + length s.bytes ≡ (s.place + a) + length (drop a s.bytes) = omega (arith, there, length-drop a s.bytes) in e)
+
     whole : (s : Rest) → behind n s ≡ behind (n - a) (behind a s)
     whole s =
         let split : n ≡ a + (n - a) = omega (arith, le) in
@@ -72,9 +73,9 @@ passed-step a n s t le e =
 -- where some can't be passed over, more can't
 pub passed-err : (a n : ℕ) (s : Rest) (f : Fault SoundKind) → a ≤ n → passed_over a s ≡ Err f → passed_over n s ≡ Err f
 passed-err a n s f le e = elim (cases_lt (length s.bytes) a) [
-    | inl lt ↦ passed-cut n s (omega (arith, lt, le)) ∙ sym (passed-cut a s lt) ∙ e
-    | inr le' ↦ absurd (not-both (sym (passed-ok a s le') ∙ e))
-  ]
+  | inl lt ↦ passed-cut n s (omega (arith, lt, le)) ∙ sym (passed-cut a s lt) ∙ e
+  | inr le' ↦ absurd (not-both (sym (passed-ok a s le') ∙ e))
+]
   where
     not-both : {f : Fault SoundKind} {x : Unit {0} × Rest} → ok x ≡ Err f → ⊥
     not-both e = absurd cc

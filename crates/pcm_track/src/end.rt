@@ -15,13 +15,7 @@ pub enum SoundEnd {
     /// A port that the run writes failed.
     WriteFault,
     /// The movie has this first fault, at this byte.
-    BadMovie {
-        kind: MovieKind,
-        place: u64,
-    },
+    BadMovie { kind: MovieKind, place: u64 },
     /// The WAV has this first fault, at this byte.
-    BadSound {
-        kind: SoundKind,
-        place: u64,
-    },
+    BadSound { kind: SoundKind, place: u64 },
 }

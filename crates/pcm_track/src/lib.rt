@@ -1,7 +1,6 @@
 //! Sound in plain PCM beside the pictures of a movie: WAVs read, sound put into a movie, and taken out of one.
 #![tactic(auto)]
 
-mod adding;
 mod copying;
 mod end;
 mod fault;
@@ -11,7 +10,6 @@ mod sounding;
 mod track;
 mod wav;
 
-pub use adding::add_run;
 pub use end::SoundEnd;
 pub use fault::{CopyFault, SoundFault, SoundKind};
 pub use form::{Format, Pcm};

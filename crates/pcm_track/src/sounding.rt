@@ -204,7 +204,14 @@ fn write_wav<M: ByteStore, K: ByteSink>(
         return Err(SoundEnd::NoMemory);
     };
     match put_all(out, head.held()) {
-        Ok(()) => write_chunks(movie, end, sound.format.channels, &sound.tables, out, &mut piece),
+        Ok(()) => write_chunks(
+            movie,
+            end,
+            sound.format.channels,
+            &sound.tables,
+            out,
+            &mut piece,
+        ),
         Err(_) => Err(SoundEnd::WriteFault),
     }
 }

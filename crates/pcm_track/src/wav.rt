@@ -66,11 +66,7 @@ fn next_u32<S: ByteSource>(source: &mut S, place: &mut u64) -> Result<u32, Sound
 
 /// Passes over at most `PIECE` bytes.
 #[tactic(auto, unfolding(crate::specs::Wav::passed_over, pw_outside::specs::Reading::bind))]
-fn pass_piece<S: ByteSource>(
-    source: &mut S,
-    place: &mut u64,
-    count: u64,
-) -> Result<(), SoundFault>
+fn pass_piece<S: ByteSource>(source: &mut S, place: &mut u64, count: u64) -> Result<(), SoundFault>
     requires few { count ≤ PIECE }
     requires room { place.old + count < 2 ^ 64 }
     ensures bytes { Gives told_fault (λ x. tt) (S.left source.old) (S.left source.new) place.old place.new result (passed_over count) }
@@ -87,11 +83,7 @@ fn pass_piece<S: ByteSource>(
 }
 
 /// Passes over so many bytes.
-fn pass_over<S: ByteSource>(
-    source: &mut S,
-    place: &mut u64,
-    count: u64,
-) -> Result<(), SoundFault>
+fn pass_over<S: ByteSource>(source: &mut S, place: &mut u64, count: u64) -> Result<(), SoundFault>
     requires { place.old + count < 2 ^ 64 }
     ensures bytes { Gives told_fault (λ x. tt) (S.left source.old) (S.left source.new) place.old place.new result (passed_over count) }
     ensures place { place.new ≤ place.old + count }

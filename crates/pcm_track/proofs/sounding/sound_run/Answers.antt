@@ -26,16 +26,16 @@ returns-in-Ok-write_wav-clause-out g c h =
     let there = rw c.in-Ok-sound_of.ensures.bytes at c.in-Ok-write_wav.ensures.ok in
     let ok = rw c.in-Ok.ensures.bytes at there in
     subst (λ l. PutsUntil c.finish.result l (sink_state (g.K.ByteSink.held c.args.out.now) (g.K.ByteSink.taken c.args.out.now)) (sink_state (g.K.ByteSink.held c.finish.new.out) (g.K.ByteSink.taken c.finish.new.out)))
-        (sounded-out _ _ c.in-Ok-sound_of.sound.frames (value h) c.in-Ok-sound_of.ensures.frames)
-        (puts_until c.finish.result _ _ _ (puts_more_none _ _ _ _ (ok h) c.finish.ensures.out))
+    (sounded-out _ _ c.in-Ok-sound_of.sound.frames (value h) c.in-Ok-sound_of.ensures.frames)
+    (puts_until c.finish.result _ _ _ (puts_more_none _ _ _ _ (ok h) c.finish.ensures.out))
 
 pub returns-in-Ok-write_wav-clause-text : goal.returns-in-Ok-write_wav-clause-text
 returns-in-Ok-write_wav-clause-text g c h =
     let value = rw c.in-Ok.ensures.bytes at c.in-Ok-sound_of.ensures.value in
     let line : c.deref.result.now ≡ sound_line c.in-Ok-sound_of.sound.format c.in-Ok-sound_of.sound.frames = search rules in
     subst (λ l. PutsUntil c.finish.result l (sink_state (g.K.ByteSink.held c.args.text.now) (g.K.ByteSink.taken c.args.text.now)) (sink_state (g.K.ByteSink.held c.finish.new.text) (g.K.ByteSink.taken c.finish.new.text)))
-        (line ∙ sounded-text _ _ c.in-Ok-sound_of.sound.frames (value h) c.in-Ok-sound_of.ensures.frames)
-        c.finish.ensures.text
+    (line ∙ sounded-text _ _ c.in-Ok-sound_of.sound.frames (value h) c.in-Ok-sound_of.ensures.frames)
+    c.finish.ensures.text
 
 pub returns-clause-answer : goal.returns-clause-answer
 returns-clause-answer g c h =
@@ -50,8 +50,8 @@ returns-clause-out g c h =
     let there = rw c.in-Ok-sound_of.ensures.bytes at c.in-Err.ensures.err in
     let front = rw c.in-Ok.ensures.bytes at there in
     subst (λ l. PutsUntil c.in-Err.end l (sink_state (g.K.ByteSink.held c.args.out.now) (g.K.ByteSink.taken c.args.out.now)) (sink_state (g.K.ByteSink.held c.write_wav.new.out) (g.K.ByteSink.taken c.write_wav.new.out)))
-        (sounded-out _ _ c.in-Ok-sound_of.sound.frames (value h) c.in-Ok-sound_of.ensures.frames)
-        (front_until c.in-Err.end _ _ _ c.in-Err.ensures.not_done (front h))
+    (sounded-out _ _ c.in-Ok-sound_of.sound.frames (value h) c.in-Ok-sound_of.ensures.frames)
+    (front_until c.in-Err.end _ _ _ c.in-Err.ensures.not_done (front h))
 
 pub returns-clause-text : goal.returns-clause-text
 returns-clause-text g c h =

@@ -9,14 +9,14 @@ pub returns-in-Ok-put_all-clause-ok : goal.returns-in-Ok-put_all-clause-ok
 returns-in-Ok-put_all-clause-ok g c h =
     let piece : c.held.result.now ≡ wav_head c.args.sound.now.format c.args.sound.now.frames = search rules in
     let first = subst (λ l. Puts (sink_state (g.K.ByteSink.held c.args.out.now) (g.K.ByteSink.taken c.args.out.now)) (sink_state (g.K.ByteSink.held c.put_all.new.sink) (g.K.ByteSink.taken c.put_all.new.sink)) l)
-        piece c.in-Ok-put_all.ensures.ok in
+    piece c.in-Ok-put_all.ensures.ok in
     on_ok_weaker c.write_chunks.result (λ p. puts_then first p) (c.write_chunks.ensures.ok h)
 
 pub returns-in-Ok-put_all-clause-err : goal.returns-in-Ok-put_all-clause-err
 returns-in-Ok-put_all-clause-err g c h =
     let piece : c.held.result.now ≡ wav_head c.args.sound.now.format c.args.sound.now.frames = search rules in
     let first = subst (λ l. Puts (sink_state (g.K.ByteSink.held c.args.out.now) (g.K.ByteSink.taken c.args.out.now)) (sink_state (g.K.ByteSink.held c.put_all.new.sink) (g.K.ByteSink.taken c.put_all.new.sink)) l)
-        piece c.in-Ok-put_all.ensures.ok in
+    piece c.in-Ok-put_all.ensures.ok in
     on_err_weaker c.write_chunks.result (λ p. then_front first p) (c.write_chunks.ensures.err h)
 
 pub returns-in-Ok-put_all-clause-extends : goal.returns-in-Ok-put_all-clause-extends

@@ -35,19 +35,19 @@ loop-preserved g c =
     let rest = rest_of c.read_chunk.new.place (g.S.ByteSource.left c.read_chunk.new.source) in
     elim c.match-branch-2.branch [
       | in-Format w ↦ rw w.known-is (record {
-          known = subst IsMet w.in-Format.is c.in_ok-format.ensures.met;
-          place = omega (arith, c.in_ok-format.ensures.place, c.loop.invariant.place);
-          told = λ h. answer.told (c.loop.invariant.told h);
-          same = λ h. c.loop.invariant.same h ∙ chunk-format (1000 - n) (1000 - (n + 1)) c.loop.known _ _ w.in-Format.format count (answer.answer (c.loop.invariant.told h) ∙ ap (λ m. Ok (m, rest)) w.in-Format.is);
-          cause = search rules;
-        })
+        known = subst IsMet w.in-Format.is c.in_ok-format.ensures.met;
+        place = omega (arith, c.in_ok-format.ensures.place, c.loop.invariant.place);
+        told = λ h. answer.told (c.loop.invariant.told h);
+        same = λ h. c.loop.invariant.same h ∙ chunk-format (1000 - n) (1000 - (n + 1)) c.loop.known _ _ w.in-Format.format count (answer.answer (c.loop.invariant.told h) ∙ ap (λ m. Ok (m, rest)) w.in-Format.is);
+        cause = search rules;
+      })
       | in-Other w ↦ rw w.known-is (record {
-          known = c.loop.invariant.known;
-          place = omega (arith, c.in_ok-format.ensures.place, c.loop.invariant.place);
-          told = λ h. answer.told (c.loop.invariant.told h);
-          same = λ h. c.loop.invariant.same h ∙ chunk-other (1000 - n) (1000 - (n + 1)) c.loop.known _ _ count (answer.answer (c.loop.invariant.told h) ∙ ap (λ m. Ok (m, rest)) w.in-Other.is);
-          cause = search rules;
-        })
+        known = c.loop.invariant.known;
+        place = omega (arith, c.in_ok-format.ensures.place, c.loop.invariant.place);
+        told = λ h. answer.told (c.loop.invariant.told h);
+        same = λ h. c.loop.invariant.same h ∙ chunk-other (1000 - n) (1000 - (n + 1)) c.loop.known _ _ count (answer.answer (c.loop.invariant.told h) ∙ ap (λ m. Ok (m, rest)) w.in-Other.is);
+        cause = search rules;
+      })
     ]
 
 pub returns-in_err-_kind-clause-bytes : goal.returns-in_err-_kind-clause-bytes
