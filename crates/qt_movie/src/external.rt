@@ -83,7 +83,7 @@ fn references_from<M: ByteStore>(
 
 /// The entries of a `dref`.
 #[tactic(auto, unfolding(crate::specs::Movie::references_of))]
-fn references_of<M: ByteStore>(
+pub fn references_of<M: ByteStore>(
     alloc: Global,
     store: &mut M,
     dref: &Atom,
@@ -103,7 +103,7 @@ fn references_of<M: ByteStore>(
 
 /// The `dref` of a track, where there is one.
 #[tactic(auto, unfolding(crate::specs::Movie::dref_in, pw_outside::specs::Reading::bind))]
-fn dref_of<M: ByteStore>(store: &mut M, minf: &Atom) -> Result<Option<Atom>, MovieFault>
+pub fn dref_of<M: ByteStore>(store: &mut M, minf: &Atom) -> Result<Option<Atom>, MovieFault>
     requires order { minf.now.body ≤ minf.now.end }
     requires inside { Told (M.bytes store.old) (λ file. minf.now.end ≤ length file) }
     ensures value { Told (M.bytes store.old) (λ file. Answers told_fault (λ x. x) result (dref_in file minf.now)) }
@@ -118,7 +118,7 @@ fn dref_of<M: ByteStore>(store: &mut M, minf: &Atom) -> Result<Option<Atom>, Mov
 }
 
 /// Whether the data of a description lies in the same file, by these entries.
-fn lies_here(references: &[bool], reference: u16) -> bool
+pub fn lies_here(references: &[bool], reference: u16) -> bool
     ensures { result ≡ lies_here references.now reference }
 {
     if reference == 0 {

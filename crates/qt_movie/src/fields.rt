@@ -18,7 +18,7 @@ pub(crate) fn bad(kind: MovieKind, place: u64) -> MovieFault
 }
 
 /// The `N` bytes at a place, which the store has. A store that doesn't tell its bytes may have fewer: `TableShape` at `table`.
-pub(crate) fn bytes_of<M: ByteStore, const N: usize>(
+pub fn bytes_of<M: ByteStore, const N: usize>(
     store: &mut M,
     place: u64,
     table: u64,
@@ -38,7 +38,7 @@ pub(crate) fn bytes_of<M: ByteStore, const N: usize>(
 }
 
 /// The number of 16 bits at a place, as `bytes_of`.
-pub(crate) fn u16_of<M: ByteStore>(store: &mut M, place: u64, table: u64) -> Result<u16, MovieFault>
+pub fn u16_of<M: ByteStore>(store: &mut M, place: u64, table: u64) -> Result<u16, MovieFault>
     requires inside { Told (M.bytes store.old) (λ file. place + 2 ≤ length file) }
     requires room { place + 2 < 2 ^ 64 }
     ensures value { Told (M.bytes store.old) (λ file. Answers told_fault (λ x. x) result (Ok (number_in w16 file place))) }
@@ -50,7 +50,7 @@ pub(crate) fn u16_of<M: ByteStore>(store: &mut M, place: u64, table: u64) -> Res
 }
 
 /// The number of 32 bits at a place, as `bytes_of`.
-pub(crate) fn u32_of<M: ByteStore>(store: &mut M, place: u64, table: u64) -> Result<u32, MovieFault>
+pub fn u32_of<M: ByteStore>(store: &mut M, place: u64, table: u64) -> Result<u32, MovieFault>
     requires inside { Told (M.bytes store.old) (λ file. place + 4 ≤ length file) }
     requires room { place + 4 < 2 ^ 64 }
     ensures value { Told (M.bytes store.old) (λ file. Answers told_fault (λ x. x) result (Ok (number_in w32 file place))) }

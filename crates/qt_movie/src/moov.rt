@@ -48,7 +48,7 @@ fn met_moov(moov: Option<Atom>) -> Result<Atom, MovieFault>
 }
 
 /// The first `moov` of a file of so many bytes. The top level is walked once.
-pub(crate) fn moov_of<M: ByteStore>(store: &mut M, end: u64) -> Result<Atom, MovieFault>
+pub fn moov_of<M: ByteStore>(store: &mut M, end: u64) -> Result<Atom, MovieFault>
     requires end { Told (M.bytes store.old) (λ file. end ≡ length file) }
     ensures value { Told (M.bytes store.old) (λ file. Answers told_fault (λ x. x) result (moov_in file)) }
     ensures lies { IfOk result (LiesIn 0 end) }
@@ -83,7 +83,7 @@ fn kind_of(other: &Atom) -> MovieKind
 
 /// Judges the children of a `moov`: none is a `cmov`, an `mvex`, or of a bad size.
 #[tactic(auto, unfolding(crate::specs::Movie::whole_in, pw_outside::specs::Reading::bind), using(qt_atoms::proofs::Walks::none_is_whole))]
-pub(crate) fn judge_children<M: ByteStore>(store: &mut M, moov: &Atom) -> Result<(), MovieFault>
+pub fn judge_children<M: ByteStore>(store: &mut M, moov: &Atom) -> Result<(), MovieFault>
     requires order { moov.now.body ≤ moov.now.end }
     requires inside { Told (M.bytes store.old) (λ file. moov.now.end ≤ length file) }
     ensures value { Told (M.bytes store.old) (λ file. Answers told_fault (λ x. x) result (whole_in file moov.now)) }

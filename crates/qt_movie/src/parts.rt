@@ -23,7 +23,7 @@ pub struct Parts {
 
 /// The atoms of a track that tell its pictures; `None` where one is wanting.
 #[tactic(auto, unfolding(crate::specs::Movie::parts_in, pw_outside::specs::Reading::bind))]
-pub(crate) fn parts_of<M: ByteStore>(
+pub fn parts_of<M: ByteStore>(
     store: &mut M,
     trak: &Atom,
 ) -> Result<Option<Parts>, MovieFault>

@@ -8,3 +8,4 @@ pub mod Wrapping
 pub mod Again
 pub mod Reread
 pub mod Assembled
+pub mod ToldChunks

@@ -55,6 +55,13 @@ chunks_from runs number (offset ∷ offsets) = chunk_of offset (run_of runs numb
 abbrev pub chunks : List ChunkRun → (offsets : List ℕ) → List Chunk
 chunks runs offsets = chunks_from runs 1 offsets
 
+-- the tables that tell the chunks of a track
+pub record ChunkLists : Type 0 where
+  -- runs of chunks with one number of samples and one description
+  pub runs : List ChunkRun
+  -- the place of each chunk
+  pub offsets : List ℕ
+
 -- how many samples some chunks hold
 abbrev pub held_by : List Chunk → ℕ
 held_by cs = sum_by (λ c. c.samples) cs

@@ -10,7 +10,7 @@ use Rattle.qt_tables.specs.declared.fault.MovieKind.TheVariants.{MissingTable, T
 use Rattle.qt_tables.specs.Faults.{Found, some_or, sized}
 use Rattle.qt_tables.specs.declared.runs.TimeRun.{TimeRun}
 use Rattle.qt_tables.specs.declared.runs.ChunkRun.{ChunkRun}
-use Rattle.qt_tables.specs.Samples.{Tables, chunks, held_by}
+use Rattle.qt_tables.specs.Samples.{Tables, ChunkLists, chunks, held_by}
 
 abbrev pub body_length : Atom → ℕ
 body_length a = a.end - a.body
@@ -103,6 +103,16 @@ offsets_table_in file stbl = do
   found ← sized (child_of file stbl (codes "stco" ∷ codes "co64" ∷ []))
   some_or found MissingTable stbl.at
 
+-- The chunks of a track, or the first fault of the two tables that tell them.
+unfoldable pub chunk_tables_in : List ℕ → (stbl : Atom) → Found ChunkLists
+chunk_tables_in file stbl = do
+  stsc ← table_in file stbl (codes "stsc")
+  stsd ← sized (child file stbl (codes "stsd"))
+  runs ← runs_in file stsc (descriptions_of file stsd)
+  table ← offsets_table_in file stbl
+  offsets ← offsets_in file table
+  Ok (record { runs = runs; offsets = offsets })
+
 -- The tables of a track, or the first fault: each table is found and judged before the next is looked for.
 unfoldable pub tables_in : List ℕ → (stbl mdia : Atom) → Found Tables
 tables_in file stbl mdia = do
@@ -138,3 +148,10 @@ pub record AreTables (t : Tables) : Type 0 where
   pub runs : AreRuns t.runs
   pub timed : sum_by (λ r. r.count) t.times ≡ length t.sizes
   pub chunked : held_by (chunks t.runs t.offsets) ≡ length t.sizes
+
+-- Chunks within the limits.
+pub record AreChunkLists (t : ChunkLists) : Type 0 where
+  pub few_runs : length t.runs ≤ 1000000
+  pub few_chunks : length t.offsets ≤ 1000000
+  pub near : All (λ offset. offset < 2 ^ 62) t.offsets
+  pub runs : AreRuns t.runs

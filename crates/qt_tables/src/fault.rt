@@ -34,6 +34,14 @@ pub enum MovieKind {
     TooManySamples,
     /// A sample passes the end of the file.
     SampleOutside,
+    /// No track of plain PCM sound.
+    NoSound,
+    /// The description of the sound is too short, or says a form other than 16 bits and one channel or two.
+    SoundForm,
+    /// The chunks of the sound hold more than 4,294,967,250 bytes.
+    SoundLong,
+    /// A sample is too large for the head of a data atom of 32 bits.
+    SampleLarge,
 }
 
 /// Why a call has nothing of a movie to give.

@@ -1,6 +1,7 @@
 //! The sample tables of a QuickTime track, read and written.
 #![tactic(auto)]
 
+mod chunk_tables;
 mod fault;
 mod finding;
 mod judging;
@@ -14,6 +15,7 @@ mod tests;
 mod window;
 mod writer;
 
+pub use chunk_tables::{Chunk, ChunkTables};
 pub use fault::{MovieFault, MovieKind};
 pub use laws::{samples_are_counted, written_samples_are_given, written_tables_are_read};
 pub use runs::{ChunkRun, Sample, TimeRun};

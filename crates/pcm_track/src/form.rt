@@ -1,0 +1,29 @@
+//! The form of sound.
+
+/// Plain PCM sound, 16 bits a sample: the number of channels, and how many frames there are in a second.
+#[derive(Clone, Copy, Debug, PartialEq, Eq)]
+pub struct Format {
+    /// 1 or 2.
+    pub channels: u8,
+    /// From 1 to 65,535.
+    pub rate: u16,
+}
+
+/// The form of a WAV: its format, and the number of its frames.
+#[derive(Clone, Copy, Debug, PartialEq, Eq)]
+pub struct Pcm {
+    /// 1 or 2.
+    pub channels: u8,
+    /// Frames in a second, from 1 to 65,535.
+    pub rate: u16,
+    /// A frame has a sample for each channel. All of them have at most 4,294,967,250 bytes.
+    pub frames: u32,
+}
+
+/// A chunk that was read: a format, one that is passed over, or the head of the sound.
+#[derive(Clone, Copy, Debug, PartialEq, Eq)]
+pub(crate) enum Met {
+    Format(Format),
+    Other,
+    Data(Pcm),
+}

@@ -1,0 +1,17 @@
+//! Sound in plain PCM beside the pictures of a movie: WAVs read, sound put into a movie, and taken out of one.
+#![tactic(auto)]
+
+mod copying;
+mod end;
+mod fault;
+mod form;
+mod reader;
+mod sounding;
+mod track;
+mod wav;
+
+pub use end::SoundEnd;
+pub use fault::{CopyFault, SoundFault, SoundKind};
+pub use form::{Format, Pcm};
+pub use reader::WavReader;
+pub use sounding::sound_run;

@@ -1,0 +1,132 @@
+-- A track as it is written, by its values and tables: one of pictures, or one of plain PCM sound. Atoms and fields by the QuickTime File Format;
+-- which atoms there are, and their order, are our own.
+use Rattle.std.specs.Prelude.{ℕ, ◌+◌, ◌*◌, ◌^◌, ◌==◌, nat_lt, Bool, List, [], ◌∷◌, ◌++◌, length, codes, if◌then◌else◌}
+use Rattle.std.specs.List.{flat_map, list_all}
+use Rattle.std.specs.Int.{w64, to_be_bytes}
+use Rattle.qt_atoms.specs.Written.{Node}
+use Rattle.qt_tables.specs.Writing.{numbers_bytes}
+use Rattle.qt_movie.specs.declared.trak.Media.{Media}
+use Rattle.qt_movie.specs.declared.trak.Media.TheVariants as media
+use Rattle.qt_movie.specs.MovieBytes.{be16, be32, zeros, node, nodes_bytes, unit_matrix, mdhd_body, hdlr_body, vmhd_body, dinf_nodes}
+
+-- what a track is written by
+pub record TrakValues : Type 0 where
+  pub number : ℕ
+  -- in the units of the movie
+  pub movie_duration : ℕ
+  pub timescale : ℕ
+  -- in the units of the media
+  pub duration : ℕ
+  pub media : Media
+  -- runs of samples: how many, and the duration of each
+  pub stts : List (ℕ × ℕ)
+  -- runs of chunks: the first chunk, its samples, and their description
+  pub stsc : List (ℕ × ℕ × ℕ)
+  -- one size for all samples, or 0
+  pub common : ℕ
+  pub count : ℕ
+  pub sizes : List ℕ
+  -- the places of the chunks
+  pub offsets : List ℕ
+
+-- ---- the media
+
+abbrev pub subtype_of : Media → List ℕ
+subtype_of (media.Video kind width height depth) = codes "vide"
+subtype_of (media.Sound channels rate) = codes "soun"
+
+-- volume 1 of sound
+abbrev pub volume_of : Media → ℕ
+volume_of (media.Video kind width height depth) = 0
+volume_of (media.Sound channels rate) = 256
+
+abbrev pub width_of : Media → ℕ
+width_of (media.Video kind width height depth) = width
+width_of (media.Sound channels rate) = 0
+
+abbrev pub height_of : Media → ℕ
+height_of (media.Video kind width height depth) = height
+height_of (media.Sound channels rate) = 0
+
+-- version and flags, balance and reserved
+unfoldable pub smhd_body : List ℕ
+smhd_body = zeros 8
+
+-- the head of the information on the media
+abbrev pub media_node : Media → Node
+media_node (media.Video kind width height depth) = node (codes "vmhd") vmhd_body
+media_node (media.Sound channels rate) = node (codes "smhd") smhd_body
+
+-- A description of pictures has 86 bytes: kind, 6 reserved bytes, data reference 1, version and revision 0, vendor, qualities 0, width and height,
+-- 72 dots to the inch twice, data size 0, one frame a sample, an empty name, depth, no colour table. One of sound has 36: `sowt`, 6 reserved bytes,
+-- data reference 1, version and revision 0, vendor 0, channels, 16 bits a sample, compression and packet size 0, the rate with 16 bits behind the point.
+unfoldable pub described_bytes : Media → List ℕ
+described_bytes (media.Video kind width height depth) = be32 86 ++ kind ++ zeros 6 ++ be16 1 ++ be16 0 ++ be16 0 ++ codes "pwk0" ++ be32 0 ++ be32 0 ++ be16 width ++ be16 height
+    ++ be32 4718592 ++ be32 4718592 ++ be32 0 ++ be16 1 ++ zeros 32 ++ be16 depth ++ be16 65535
+described_bytes (media.Sound channels rate) = be32 36 ++ codes "sowt" ++ zeros 6 ++ be16 1 ++ be16 0 ++ be16 0 ++ be32 0 ++ be16 channels ++ be16 16 ++ be16 0 ++ be16 0 ++ be32 (rate * 65536)
+
+-- version and flags, one description
+unfoldable pub media_stsd_body : Media → List ℕ
+media_stsd_body m = be32 0 ++ be32 1 ++ described_bytes m
+
+-- ---- the tables
+
+-- `stts`: version and flags, how many runs, and the runs
+unfoldable pub stts_body : List (ℕ × ℕ) → List ℕ
+stts_body runs = be32 0 ++ be32 (length runs) ++ flat_map (λ r. be32 r.0 ++ be32 r.1) runs
+
+-- `stsc`: version and flags, how many runs, and the runs
+unfoldable pub stsc_body : List (ℕ × ℕ × ℕ) → List ℕ
+stsc_body runs = be32 0 ++ be32 (length runs) ++ flat_map (λ r. be32 r.0 ++ be32 r.1 ++ be32 r.2) runs
+
+-- `stsz`: version and flags, the common size, how many samples, and their sizes where there is none
+unfoldable pub stsz_body : (common count : ℕ) → List ℕ → List ℕ
+stsz_body common count sizes = be32 0 ++ be32 common ++ be32 count ++ numbers_bytes sizes
+
+-- whether each place has at most 32 bits
+abbrev pub are_near : List ℕ → Bool
+are_near offsets = list_all (λ at. nat_lt at (2 ^ 32)) offsets
+
+-- `stco`, or `co64` where a place has more than 32 bits
+abbrev pub offsets_node : List ℕ → Node
+offsets_node offsets =
+    if are_near offsets then node (codes "stco") (be32 0 ++ be32 (length offsets) ++ numbers_bytes offsets)
+    else node (codes "co64") (be32 0 ++ be32 (length offsets) ++ flat_map (to_be_bytes w64) offsets)
+
+-- ---- the track
+
+-- version and flags (enabled, in movie, preview and poster), two times, the number, reserved, duration, 8 reserved bytes, layer, group, volume and reserved,
+-- matrix, width and height with 16 bits behind the point
+unfoldable pub numbered_tkhd_body : TrakValues → List ℕ
+numbered_tkhd_body t = be32 15 ++ be32 0 ++ be32 0 ++ be32 t.number ++ be32 0 ++ be32 t.movie_duration ++ zeros 8 ++ be16 0 ++ be16 0 ++ be16 (volume_of t.media) ++ be16 0
+    ++ unit_matrix ++ be32 (width_of t.media * 65536) ++ be32 (height_of t.media * 65536)
+
+abbrev pub trak_stbl_nodes : TrakValues → List Node
+trak_stbl_nodes t =
+    node (codes "stsd") (media_stsd_body t.media)
+    ∷ node (codes "stts") (stts_body t.stts)
+    ∷ node (codes "stsc") (stsc_body t.stsc)
+    ∷ node (codes "stsz") (stsz_body t.common t.count t.sizes)
+    ∷ offsets_node t.offsets ∷ []
+
+abbrev pub trak_minf_nodes : TrakValues → List Node
+trak_minf_nodes t =
+    media_node t.media
+    ∷ node (codes "hdlr") (hdlr_body (codes "dhlr") (codes "alis"))
+    ∷ node (codes "dinf") (nodes_bytes dinf_nodes)
+    ∷ node (codes "stbl") (nodes_bytes (trak_stbl_nodes t)) ∷ []
+
+abbrev pub trak_mdia_nodes : TrakValues → List Node
+trak_mdia_nodes t =
+    node (codes "mdhd") (mdhd_body t.timescale t.duration)
+    ∷ node (codes "hdlr") (hdlr_body (codes "mhlr") (subtype_of t.media))
+    ∷ node (codes "minf") (nodes_bytes (trak_minf_nodes t)) ∷ []
+
+abbrev pub trak_nodes_of : TrakValues → List Node
+trak_nodes_of t =
+    node (codes "tkhd") (numbered_tkhd_body t)
+    ∷ node (codes "mdia") (nodes_bytes (trak_mdia_nodes t)) ∷ []
+
+-- the track
+abbrev pub trak_node : TrakValues → Node
+trak_node t = node (codes "trak") (nodes_bytes (trak_nodes_of t))
