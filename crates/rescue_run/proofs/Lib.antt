@@ -1,1 +1,4 @@
-
+pub mod Marks
+pub mod Following
+pub mod Copying
+pub mod Turning

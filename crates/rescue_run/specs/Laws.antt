@@ -20,7 +20,7 @@ pub record Goes (file : List ℕ) (ts : List Taken) : Type 0 where
 
 -- The law that rescuing always gives frames and an answer, and that the first frames of a file begin them.
 abbrev pub RescuingGoesOn : Type 0
-RescuingGoesOn = (file : List ℕ) (ts : List Taken) (to : ℕ) → TakesFirst file ts to → length ts ≤ 1000000 → Goes file ts
+RescuingGoesOn = (file : List ℕ) (ts : List Taken) (to : ℕ) → to ≤ length file → TakesFirst file ts to → length ts ≤ 1000000 → Goes file ts
 
 -- The law that rescuing gives one list of frames and one answer.
 abbrev pub RescuingIsOne : Type 0

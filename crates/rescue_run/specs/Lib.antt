@@ -1,3 +1,5 @@
 pub mod Chain
+pub mod Windows
 pub mod Rescuing
+pub mod Steps
 pub mod Laws

@@ -122,6 +122,7 @@ pub record Refused (file : List ℕ) (end : RescueEnd) (before after : World) : 
 pub record Stopped (file : List ℕ) (before after : World) : Type 0 where
   pub frames : List Taken
   pub to : ℕ
+  pub within : to ≤ length file
   pub takes : TakesFirst file frames to
   pub few : length frames ≤ 1000000
   pub out : PutsFront before.out after.out (opening_bytes (frames_of file frames))

@@ -3,7 +3,11 @@
 
 mod end;
 mod form;
+mod gathering;
+mod judging;
 mod run;
+mod search;
+mod window;
 
 pub use end::RescueEnd;
 pub use run::rescue_run;
