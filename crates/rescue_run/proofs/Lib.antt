@@ -2,3 +2,4 @@ pub mod Marks
 pub mod Following
 pub mod Copying
 pub mod Turning
+pub mod Ending

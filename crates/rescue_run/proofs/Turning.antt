@@ -1,7 +1,8 @@
 -- One turn: a frame more, a place more, or the end.
-use Rattle.std.proofs.Common.{rules, ◌≡◌, refl, ℕ, ◌+◌, ◌-◌, ◌≤◌, ◌<◌, List, [], ◌∷◌, ◌++◌, map, length, length-append, length-map, append-nil, append_assoc, arith, ap, sym, subst, ◌∙◌, inl, inr}
+use Rattle.std.proofs.Common.{rules, ◌≡◌, refl, ℕ, ◌+◌, ◌-◌, ◌≤◌, ◌<◌, List, [], ◌∷◌, ◌++◌, map, length, length-append, append-nil, append_assoc, arith, ap, sym, subst, ◌∙◌, inl, inr}
 use Rattle.std.specs.Prelude.{◌⊎◌, Option, Some, None, Result, Ok, Err}
 use Rattle.std.specs.List.{flat_map}
+use Rattle.rescue_run.proofs.Copying.{length_map}
 use Rattle.pw_outside.specs.Ports.{last}
 use Rattle.pw_outside.specs.Writing.{SinkState, Puts, PutsFront}
 use Rattle.pw_outside.proofs.Puts.{puts_none, puts_then, puts_front, then_front}
@@ -18,7 +19,7 @@ use Rattle.rescue_run.specs.declared.gathering.Gathering.{Gathering}
 use Rattle.rescue_run.specs.Chain.{HoldsFrame, IsLike, form_of, form_behind, Taken, TakesFirst, size_at, behind}
 use Rattle.rescue_run.specs.Windows.{NoMark}
 use Rattle.rescue_run.specs.Rescuing.{frames_of, opening_bytes, extents_of, extent_of, bytes_of_frame, Refused, Stopped}
-use Rattle.rescue_run.specs.Steps.{HoldsLike, HoldsNone, form_in, extents_in, first_or, step_bytes, TakingIs, form_after, GatheredUpTo, with_text, Halts}
+use Rattle.rescue_run.specs.Steps.{HoldsLike, HoldsNone, form_in, extents_in, first_or, step_bytes, TakingIs, form_after, GatheredUpTo, with_text, Halts, IsReadersEnd}
 use Rattle.rescue_run.proofs.Following.{none_taken, no_mark_held, one_none, none_more, take_more, form_more}
 
 map_more : {A B : Type 0} (f : A → B) (xs : List A) (x : A) → map f (xs ++ x ∷ []) ≡ map f xs ++ f x ∷ []
@@ -61,25 +62,21 @@ gathered_none file p g a b none h = record {
 }
 
 module _ (file : List ℕ) (p size : ℕ) (g : Option Gathering) (a b c : SinkState) (form : FrameForm) (at_size : size ≡ size_at file p) (holds : HoldsLike file p (form_in g) form) (h : GatheredUpTo file p g a b) where
-  taken : Taken
-  unfolding taken
+  abbrev taken : Taken
   taken = record { at = p; frame = holds.frame }
 
   takes_one : TakesFirst file (h.frames ++ taken ∷ []) (behind file taken)
-  unfolding taken
   takes_one = take_more file None 0 h.frames taken h.takes holds.holds (subst (λ f. IsLike f holds.frame) h.form holds.like)
 
   bytes_one : step_bytes (extents_in g) (bytes_in size file p) ≡ step_bytes (extents_of file h.frames) (bytes_of_frame file taken)
-  unfolding taken
   bytes_one = ap (λ es. step_bytes es (bytes_in size file p)) h.extents ∙ ap (λ n. step_bytes (extents_of file h.frames) (bytes_in n file p)) at_size
 
   count_one : length (extents_in g) ≡ length h.frames
-  count_one = ap length h.extents ∙ length-map (extent_of file) h.frames
+  count_one = ap length h.extents ∙ length_map (extent_of file) h.frames
 
   -- the frame was taken
   pub gathered_one : (g' : Option Gathering) → form_in g' ≡ first_or (form_in g) form → extents_in g' ≡ extents_in g ++ record { at = p; size = size } ∷ [] → Puts b c (step_bytes (extents_in g) (bytes_in size file p)) → length (extents_in g) < 1000000
       → GatheredUpTo file (p + size) g' a c
-  unfolding taken
   gathered_one g' f e puts few = record {
     frames = h.frames ++ taken ∷ [];
     takes = subst (TakesFirst file (h.frames ++ taken ∷ [])) (ap (λ n. p + n) (sym at_size)) takes_one;
@@ -91,7 +88,6 @@ module _ (file : List ℕ) (p size : ℕ) (g : Option Gathering) (a b c : SinkSt
 
   -- a front of it was written
   pub stopped_one : p + size ≤ length file → PutsFront b c (step_bytes (extents_in g) (bytes_in size file p)) → length (extents_in g) < 1000000 → (text : SinkState) → text.taken ≤ last → Stopped file (with_text text a) (with_text text c)
-  unfolding taken
   stopped_one inside front few text k = record {
     frames = h.frames ++ taken ∷ [];
     to = behind file taken;
@@ -104,7 +100,6 @@ module _ (file : List ℕ) (p size : ℕ) (g : Option Gathering) (a b c : SinkSt
 
   -- there are too many
   pub refused_one : length (extents_in g) ≡ 1000000 → Puts b c [] → (text : SinkState) → text.taken ≤ last → Refused file (ends.BadMovie TooManySamples p) (with_text text a) (with_text text c)
-  unfolding taken
   refused_one many puts text k = record {
     frames = h.frames;
     rescues = inr (refl, sym count_one ∙ many, record { next = taken; at = refl; takes = takes_one });
@@ -115,3 +110,22 @@ module _ (file : List ℕ) (p size : ℕ) (g : Option Gathering) (a b c : SinkSt
 -- reading stopped behind these frames
 pub stopped_here : (file : List ℕ) (p : ℕ) (g : Option Gathering) (a b : SinkState) → p ≤ length file → GatheredUpTo file p g a b → (text : SinkState) → text.taken ≤ last → Stopped file (with_text text a) (with_text text b)
 stopped_here file p g a b le h text k = record { frames = h.frames; to = p; within = le; takes = h.takes; few = h.few; out = puts_front h.out; text = puts_none text k }
+
+-- reading failed, or found no memory
+pub halted_reading : (file : List ℕ) (p : ℕ) (g : Option Gathering) (a b : SinkState) (end : RescueEnd) → IsReadersEnd end → p ≤ length file → GatheredUpTo file p g a b → Halts file end a b
+halted_reading file p g a b ends.NoMemory e le h = stopped_here file p g a b le h
+halted_reading file p g a b ends.ReadFault e le h = stopped_here file p g a b le h
+halted_reading file p g a b ends.WriteFault e le h = absurd e
+halted_reading file p g a b ends.Done e le h = absurd e
+halted_reading file p g a b (ends.BadMovie kind place) e le h = absurd e
+
+-- taking a frame didn't go on
+pub halted_taking : (file : List ℕ) (p size : ℕ) (g : Option Gathering) (a b c : SinkState) (form : FrameForm) → size ≡ size_at file p → HoldsLike file p (form_in g) form → GatheredUpTo file p g a b → p + size ≤ length file
+    → (end : RescueEnd) → TakingIs (bytes_in size file p) p (extents_in g) (Err end) b c → Halts file end a c
+halted_taking file p size g a b c form s l h inside ends.NoMemory t = stopped_one file p size g a b c form s l h inside t.0 t.1
+halted_taking file p size g a b c form s l h inside ends.ReadFault t = stopped_one file p size g a b c form s l h inside t.0 t.1
+halted_taking file p size g a b c form s l h inside ends.WriteFault t = stopped_one file p size g a b c form s l h inside t.0 t.1
+halted_taking file p size g a b c form s l h inside ends.Done t = absurd t
+halted_taking file p size g a b c form s l h inside (ends.BadMovie kind place) t = λ text k.
+    subst (λ x. Refused file (ends.BadMovie x place) (with_text text a) (with_text text c)) (sym t.0)
+    (subst (λ x. Refused file (ends.BadMovie TooManySamples x) (with_text text a) (with_text text c)) (sym t.1) (refused_one file p size g a b c form s l h t.2 t.3 text k))

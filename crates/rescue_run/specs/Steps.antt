@@ -4,6 +4,7 @@ use Rattle.pw_outside.specs.Ports.{last}
 use Rattle.pw_outside.specs.Writing.{SinkState, Puts, PutsFront}
 use Rattle.pw_planes.specs.declared.plane.TheConstants.{MAX_WIDTH, MAX_HEIGHT}
 use Rattle.pr_geom.specs.Slices.{pictures_of}
+use Rattle.pic_y4m.specs.declared.writer.WriteEnd.{WriteEnd}
 use Rattle.qt_atoms.specs.Atoms.{bytes_in}
 use Rattle.qt_tables.specs.declared.writer.Extent.{Extent}
 use Rattle.qt_tables.specs.declared.fault.MovieKind.{MovieKind}
@@ -17,7 +18,7 @@ use Rattle.rescue_run.specs.declared.end.RescueEnd.{RescueEnd}
 use Rattle.rescue_run.specs.declared.end.RescueEnd.TheVariants as ends
 use Rattle.rescue_run.specs.declared.gathering.Gathering.{Gathering}
 use Rattle.rescue_run.specs.Chain.{HoldsFrame, IsLike, form_of, form_behind, Taken, TakesFirst}
-use Rattle.rescue_run.specs.Rescuing.{head_of, frames_of, opening_bytes, extents_of, Refused, Stopped, World, rescue_text}
+use Rattle.rescue_run.specs.Rescuing.{head_of, frames_of, opening_bytes, extents_of, Refused, Stopped, World, EndsWithin}
 
 -- ---- the answer of a step
 
@@ -164,3 +165,28 @@ Halts file ends.NoMemory a b = (text : SinkState) → text.taken ≤ last → St
 Halts file ends.ReadFault a b = (text : SinkState) → text.taken ≤ last → Stopped file (with_text text a) (with_text text b)
 Halts file ends.WriteFault a b = (text : SinkState) → text.taken ≤ last → Stopped file (with_text text a) (with_text text b)
 Halts file ends.Done a b = ⊥
+
+-- What a turn did: the frames up to where one goes on were gathered, or the run halts.
+abbrev pub GoesFrom : List ℕ → Result ℕ RescueEnd → Option Gathering → SinkState → SinkState → Type 0
+GoesFrom file (Ok next) g a b = GatheredUpTo file next g a b
+GoesFrom file (Err end) g a b = Halts file end a b
+
+-- What became of all frames: all were gathered, or the run halts.
+abbrev pub GathersAll : List ℕ → Result (Option Gathering) RescueEnd → SinkState → SinkState → Type 0
+GathersAll file (Ok g) a b = GatheredUpTo file (length file) g a b
+GathersAll file (Err end) a b = Halts file end a b
+
+-- ---- the end
+
+-- All was written, or else a front of it.
+abbrev pub TextIs : {X : Type 0} → Result X WriteEnd → List ℕ → SinkState → SinkState → Type 0
+TextIs (Ok _) bytes a b = Puts a b bytes
+TextIs (Err _) bytes a b = PutsFront a b bytes
+
+-- What the end of a run did, which writes this behind the frames and this text.
+abbrev pub FinishIs : RescueEnd → (movie text : List ℕ) → World → World → Type 0
+FinishIs ends.Done movie text before after = Puts before.out after.out movie × Puts before.text after.text text
+FinishIs ends.NoMemory movie text before after = EndsWithin movie text before after
+FinishIs ends.WriteFault movie text before after = EndsWithin movie text before after
+FinishIs ends.ReadFault movie text before after = ⊥
+FinishIs (ends.BadMovie kind place) movie text before after = ⊥

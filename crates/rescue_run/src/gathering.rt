@@ -162,6 +162,43 @@ fn open<K: ByteSink>(
     }
 }
 
+/// Takes the first frame: begins a movie of its form, gathers it and writes it.
+fn take_first<M: ByteStore, K: ByteSink>(
+    alloc: Global,
+    movie: &mut M,
+    window: &mut Window,
+    total: u64,
+    rate: &Rate,
+    found: &Extent,
+    form: &FrameForm,
+    out: &mut K,
+) -> Result<Gathering, RescueEnd>
+    requires rate { IsRate rate.now }
+    requires form { IsForm form.now }
+    requires shows { Shows (M.bytes movie.old) total window.old }
+    requires inside { found.now.at + found.now.size ≤ total }
+    requires small { found.now.size ≤ 4294967286 }
+    requires whole { Told (M.bytes movie.old) (λ file. total ≡ length file) }
+    ensures shows { OnOk result (Shows (M.bytes movie.old) total window.new) }
+    ensures kept { IfOk result (IsKept rate.now) }
+    ensures form { IfOk result (λ g. g.form ≡ form.now) }
+    ensures extents { IfOk result (λ g. g.extents.items ≡ found.now ∷ []) }
+    ensures ok { Told (M.bytes movie.old) (λ file. OnOk result (Puts (sink_state (K.held out.old) (K.taken out.old)) (sink_state (K.held out.new) (K.taken out.new)) (ftyp_bytes ++ frame_bytes (bytes_in found.now.size file found.now.at)))) }
+    ensures err { Told (M.bytes movie.old) (λ file. OnErr result (PutsFront (sink_state (K.held out.old) (K.taken out.old)) (sink_state (K.held out.new) (K.taken out.new)) (ftyp_bytes ++ frame_bytes (bytes_in found.now.size file found.now.at)))) }
+    ensures end { IfErr result IsCopyEnd }
+    ensures told_end { Told (M.bytes movie.old) (λ file. IfErr result IsPortsEnd) }
+    ensures extends { Extends (sink_state (K.held out.old) (K.taken out.old)) (sink_state (K.held out.new) (K.taken out.new)) }
+    ensures bytes { M.bytes movie.new ≡ M.bytes movie.old }
+    ensures read { CountsFault (M.faults movie.old) (M.faults movie.new) (is_read_end result) }
+    ensures write { CountsFault (K.faults out.old) (K.faults out.new) (is_write_end result) }
+{
+    let mut gathered = open(alloc, rate, form, out)?;
+    match add(movie, window, total, found, &mut gathered, out) {
+        Ok(()) => Ok(gathered),
+        Err(end) => Err(end),
+    }
+}
+
 /// Takes a frame of a form that was found: gathers it and writes it. The first opens the movie.
 pub(crate) fn take_frame<M: ByteStore, K: ByteSink>(
     alloc: Global,
@@ -204,9 +241,9 @@ pub(crate) fn take_frame<M: ByteStore, K: ByteSink>(
             add(movie, window, total, found, gathered, out)
         }
         None => {
-            let mut gathered = open(alloc, rate, form, out)?;
-            add(movie, window, total, found, &mut gathered, out)?;
-            *gathering = Some(gathered);
+            *gathering = Some(take_first(
+                alloc, movie, window, total, rate, found, form, out,
+            )?);
             Ok(())
         }
     }
