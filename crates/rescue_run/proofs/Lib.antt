@@ -3,3 +3,4 @@ pub mod Following
 pub mod Copying
 pub mod Turning
 pub mod Ending
+pub mod Taking

@@ -19,7 +19,7 @@ use Rattle.rescue_run.specs.declared.gathering.Gathering.{Gathering}
 use Rattle.rescue_run.specs.Chain.{HoldsFrame, IsLike, form_of, form_behind, Taken, TakesFirst, size_at, behind}
 use Rattle.rescue_run.specs.Windows.{NoMark}
 use Rattle.rescue_run.specs.Rescuing.{frames_of, opening_bytes, extents_of, extent_of, bytes_of_frame, Refused, Stopped}
-use Rattle.rescue_run.specs.Steps.{HoldsLike, HoldsNone, form_in, extents_in, first_or, step_bytes, TakingIs, form_after, GatheredUpTo, with_text, Halts, IsReadersEnd}
+use Rattle.rescue_run.specs.Steps.{HoldsLike, HoldsNone, form_in, extents_in, first_or, step_bytes, TakingIs, form_after, GatheredUpTo, with_text, Halts, IsReadersEnd, IsJudged, GoesFrom}
 use Rattle.rescue_run.proofs.Following.{none_taken, no_mark_held, one_none, none_more, take_more, form_more}
 
 map_more : {A B : Type 0} (f : A → B) (xs : List A) (x : A) → map f (xs ++ x ∷ []) ≡ map f xs ++ f x ∷ []
@@ -129,3 +129,14 @@ halted_taking file p size g a b c form s l h inside ends.Done t = absurd t
 halted_taking file p size g a b c form s l h inside (ends.BadMovie kind place) t = λ text k.
     subst (λ x. Refused file (ends.BadMovie x place) (with_text text a) (with_text text c)) (sym t.0)
     (subst (λ x. Refused file (ends.BadMovie TooManySamples x) (with_text text a) (with_text text c)) (sym t.1) (refused_one file p size g a b c form s l h t.2 t.3 text k))
+
+-- ---- a turn
+
+pub goes_err : (file : List ℕ) (r : Result ℕ RescueEnd) (end : RescueEnd) (g : Option Gathering) (a b : SinkState) → r ≡ Err end → Halts file end a b → GoesFrom file r g a b
+goes_err file r end g a b e h = subst (λ x. GoesFrom file x g a b) (sym e) h
+
+pub judged_some : (file : List ℕ) (place : ℕ) (first r : Option FrameForm) (g : Option Gathering) (form : FrameForm) → first ≡ form_in g → r ≡ Some form → IsJudged file place first r → HoldsLike file place (form_in g) form
+judged_some file place first r g form e n h = subst (λ f. HoldsLike file place f form) e (subst (IsJudged file place first) n h)
+
+pub judged_none : (file : List ℕ) (place : ℕ) (first r : Option FrameForm) (g : Option Gathering) → first ≡ form_in g → r ≡ None → IsJudged file place first r → HoldsNone file place (form_in g)
+judged_none file place first r g e n h = subst (λ f. HoldsNone file place f) e (subst (IsJudged file place first) n h)

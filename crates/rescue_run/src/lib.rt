@@ -3,11 +3,10 @@
 
 mod end;
 mod form;
+mod gather;
 mod gathering;
 mod judging;
-mod run;
 mod search;
 mod window;
 
 pub use end::RescueEnd;
-pub use run::rescue_run;
