@@ -4,3 +4,4 @@ pub mod Copying
 pub mod Turning
 pub mod Ending
 pub mod Taking
+pub mod Lines
