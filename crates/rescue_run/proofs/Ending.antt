@@ -14,8 +14,8 @@ use Rattle.rescue_run.specs.declared.end.RescueEnd.{RescueEnd}
 use Rattle.rescue_run.specs.declared.end.RescueEnd.TheVariants as ends
 use Rattle.rescue_run.specs.declared.gathering.Gathering.{Gathering}
 use Rattle.rescue_run.specs.Chain.{Taken, size_at, form_of, form_behind, behind, Takes, IsChain}
-use Rattle.rescue_run.specs.Rescuing.{World, EndsWithin, Ran, Finished, Cut, head_of, rescued_bytes, rescue_text, extents_of, extent_of, frames_of, bytes_of_frame, opening_bytes, Rescues}
-use Rattle.rescue_run.proofs.Copying.{bytes_there, length_map}
+use Rattle.rescue_run.specs.Rescuing.{World, EndsWithin, Ran, Finished, Cut, head_of, rescued_bytes, rescue_text, extents_of, extent_of, frames_of, bytes_of_frame, opening_bytes, Rescues, Extends}
+use Rattle.rescue_run.proofs.Copying.{bytes_there, length_map, front_extends}
 use Rattle.rescue_run.specs.Steps.{FinishIs, form_in, extents_in, form_after, sizes_of, GatheredUpTo, with_text, IsKept, Halts}
 
 -- sinks that were flushed
@@ -118,3 +118,23 @@ ran_halted rate file ends.NoMemory a b text k h = inl (h text k)
 ran_halted rate file ends.WriteFault a b text k h = inl (h text k)
 ran_halted rate file ends.ReadFault a b text k h = h text k
 ran_halted rate file (ends.BadMovie kind place) a b text k h = h text k
+
+-- ---- what each sink held has grown
+
+pub finish_out : (end : RescueEnd) (movie text : List ℕ) (x y : World) → FinishIs end movie text x y → Extends x.out y.out
+finish_out ends.Done movie text x y h = (movie, h.0)
+finish_out ends.NoMemory movie text x y (inl h) = front_extends x.out y.out movie h.0
+finish_out ends.NoMemory movie text x y (inr h) = (movie, h.0)
+finish_out ends.WriteFault movie text x y (inl h) = front_extends x.out y.out movie h.0
+finish_out ends.WriteFault movie text x y (inr h) = (movie, h.0)
+finish_out ends.ReadFault movie text x y h = absurd h
+finish_out (ends.BadMovie kind place) movie text x y h = absurd h
+
+pub finish_text : (end : RescueEnd) (movie text : List ℕ) (x y : World) → FinishIs end movie text x y → Extends x.text y.text
+finish_text ends.Done movie text x y h = (text, h.1)
+finish_text ends.NoMemory movie text x y (inl h) = ([], h.1)
+finish_text ends.NoMemory movie text x y (inr h) = front_extends x.text y.text text h.1
+finish_text ends.WriteFault movie text x y (inl h) = ([], h.1)
+finish_text ends.WriteFault movie text x y (inr h) = front_extends x.text y.text text h.1
+finish_text ends.ReadFault movie text x y h = absurd h
+finish_text (ends.BadMovie kind place) movie text x y h = absurd h

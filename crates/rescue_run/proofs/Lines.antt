@@ -8,7 +8,9 @@ use lib.Seq.{take-add}
 use Rattle.pw_outside.specs.Writing.{SinkState, Puts, PutsFront}
 use Rattle.pw_outside.proofs.Puts.{puts_then, puts_front, front_more, then_front}
 use Rattle.qt_tables.specs.declared.writer.Extent.{Extent}
+use Rattle.pic_y4m.specs.declared.writer.WriteEnd.{WriteEnd}
 use Rattle.rescue_run.specs.Rescuing.{frame_line, frame_lines}
+use Rattle.rescue_run.specs.Steps.{TextIs}
 
 -- the lines of two lists of frames
 pub lines_of_both : (number : ℕ) (xs ys : List Extent) → frame_lines number (xs ++ ys) ≡ frame_lines number xs ++ frame_lines (number + length xs) ys
@@ -74,3 +76,18 @@ front_further {a} {b} {c} ss next end le there p q =
 
 pub at_last : {a b : SinkState} (ss : List Extent) (next : ℕ) → length ss ≤ next → Puts a b (frame_lines 0 (take next ss)) → Puts a b (frame_lines 0 ss)
 at_last {a} {b} ss next past p = subst (λ l. Puts a b (frame_lines 0 l)) (take_all next ss past) p
+
+pub text_err : {X : Type 0} (r : Result X WriteEnd) (e : WriteEnd) (bytes : List ℕ) (a b : SinkState) → r ≡ Err e → PutsFront a b bytes → TextIs r bytes a b
+text_err r e bytes a b is p = subst (λ x. TextIs x bytes a b) (sym is) p
+
+-- lines, and then more
+pub text_then : {X : Type 0} (r : Result X WriteEnd) (xs ys : List ℕ) (a b c : SinkState) → Puts a b xs → TextIs r ys b c → TextIs r (xs ++ ys) a c
+text_then (Ok x) xs ys a b c p q = puts_then p q
+text_then (Err e) xs ys a b c p q = then_front p q
+
+pub text_cut : {X : Type 0} (r : Result X WriteEnd) (e : WriteEnd) (xs ys : List ℕ) (a b : SinkState) → r ≡ Err e → PutsFront a b xs → TextIs r (xs ++ ys) a b
+text_cut r e xs ys a b is p = text_err r e (xs ++ ys) a b is (front_more ys p)
+
+-- a whole text, and flushes
+pub settled_front : (a b c : SinkState) (text : List ℕ) → Puts a b text → Puts b c [] → PutsFront a c text
+settled_front a b c text p q = puts_front (subst (Puts a c) (append-nil text) (puts_then p q))

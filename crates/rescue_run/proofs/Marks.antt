@@ -2,11 +2,12 @@
 use Rattle.std.proofs.Common.{◌≡◌, refl, ℕ, ◌+◌, ◌-◌, ◌≤◌, ◌<◌, List, [], ◌∷◌, take, drop, length, length-take, length-drop, arith, ap, sym, subst, ◌∙◌}
 use Rattle.std.proofs.lemmas.List.{drop-take, take-take, drop-drop}
 use Rattle.std.specs.Prelude.{codes, Option, Some, None, IfSome}
+use Rattle.pw_outside.specs.Reading.{bytes_of}
 use Rattle.memchr.specs.Find.{OccursAt, FindsNeedle}
 use Rattle.memchr.proofs.lemmas.MatchLemmas.{OccursAt-part, OccursAt-from_part}
 use Rattle.rescue_run.specs.declared.window.Window.{Window}
 use Rattle.rescue_run.specs.Chain.{HasMark}
-use Rattle.rescue_run.specs.Windows.{NoMark, IsFirstMark, IsPart, MarkIn, FindsMark}
+use Rattle.rescue_run.specs.Windows.{NoMark, IsFirstMark, IsPart, Shows, MarkIn, FindsMark}
 
 -- four bytes that are there
 four_there : (l : List ℕ) (n : ℕ) → length (take 4 (drop n l)) ≡ 4 → n + 4 ≤ length l
@@ -102,3 +103,12 @@ mark_of piece file held wfrom from (Some k) room same le fits h (Some s) e =
 -- behind the last place with room for a size and the letters none stand
 pub at_end : (file : List ℕ) (from place total : ℕ) → total ≡ length file → total - place < 8 → NoMark file from place → NoMark file from (length file)
 at_end file from place total e short none = λ p ge lt mark. let f = mark_fits file p mark in none p ge (omega (arith, f, e, short)) mark
+
+-- a window that shows nothing yet
+pub empty_shows : (told : Option (List ℕ)) (total : ℕ) (w : Window) → 8 ≤ length w.piece.items → w.from ≡ 0 → w.held ≡ 0 → Shows told total w
+empty_shows told total w room from held = record {
+  room = room;
+  held = omega (arith, held);
+  within = omega (arith, from, held);
+  same = λ _. ap (λ n. take n w.piece.items) held ∙ sym (ap (λ n. take n (drop w.from (bytes_of told))) held);
+}

@@ -2,10 +2,12 @@
 #![tactic(auto)]
 
 mod end;
+mod finish;
 mod form;
 mod gather;
 mod gathering;
 mod judging;
+mod run;
 mod search;
 mod window;
 

@@ -1,0 +1,8 @@
+use Rattle.std.proofs.Common.{inr, append-nil, subst}
+use Rattle.pw_outside.specs.Writing.{Puts}
+use Rattle.pw_outside.proofs.Puts.{puts_then, puts_front}
+use Rattle.rescue_run.proofs.Lines.{settled_front}
+use Rattle.rescue_run.proofs.finish.print.Goals as goal
+
+pub returns-in-Err-clause-finish : goal.returns-in-Err-clause-finish
+returns-in-Err-clause-finish g c = inr (c.settle.ensures.out, settled_front _ _ _ _ c.in-Ok.ensures.bytes c.settle.ensures.text)
