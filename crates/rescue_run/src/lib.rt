@@ -9,6 +9,9 @@ mod gathering;
 mod judging;
 mod run;
 mod search;
+#[cfg(test)]
+mod tests;
 mod window;
 
 pub use end::RescueEnd;
+pub use run::rescue_run;
