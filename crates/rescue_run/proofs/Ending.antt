@@ -1,11 +1,10 @@
 -- The end of a run.
-use Rattle.std.proofs.Common.{◌≡◌, refl, ℕ, ◌≤◌, ◌+◌, ◌-◌, ◌<◌, List, [], ◌∷◌, ◌++◌, map, length, append-nil, append_assoc, take, drop, arith, ap, sym, subst, ◌∙◌, inl, inr}
-use Rattle.std.specs.Prelude.{◌⊎◌, Option, Some, None, Result, Ok, Err}
+use Rattle.std.proofs.Common.{◌≡◌, refl, ℕ, ◌≤◌, List, [], ◌∷◌, ◌++◌, map, length, append-nil, arith, ap, sym, subst, ◌∙◌, inl, inr}
+use Rattle.std.specs.Prelude.{Option, Some, None}
 use Rattle.std.specs.List.{flat_map}
 use Rattle.pw_outside.specs.Ports.{last}
-use Rattle.pw_outside.specs.Writing.{SinkState, Puts, PutsFront, PutsPart}
-use Rattle.pw_outside.proofs.Puts.{puts_none, puts_then, puts_front, then_front, part_front, front_more}
-use Rattle.qt_tables.specs.declared.writer.Extent.{Extent}
+use Rattle.pw_outside.specs.Writing.{SinkState, Puts, PutsFront}
+use Rattle.pw_outside.proofs.Puts.{puts_none, puts_then, then_front}
 use Rattle.qt_movie.specs.MovieBytes.{ftyp_bytes, frame_bytes, moov_bytes, extents}
 use Rattle.qt_tables.specs.declared.fault.MovieKind.TheVariants.{NoFrames}
 use Rattle.rescue_run.specs.declared.form.Rate.{Rate}
@@ -13,10 +12,10 @@ use Rattle.rescue_run.specs.declared.form.FrameForm.{FrameForm}
 use Rattle.rescue_run.specs.declared.end.RescueEnd.{RescueEnd}
 use Rattle.rescue_run.specs.declared.end.RescueEnd.TheVariants as ends
 use Rattle.rescue_run.specs.declared.gathering.Gathering.{Gathering}
-use Rattle.rescue_run.specs.Chain.{Taken, size_at, form_of, form_behind, behind, Takes, IsChain}
-use Rattle.rescue_run.specs.Rescuing.{World, EndsWithin, Ran, Finished, Cut, head_of, rescued_bytes, rescue_text, extents_of, extent_of, frames_of, bytes_of_frame, opening_bytes, Rescues, Extends}
+use Rattle.rescue_run.specs.Chain.{Taken, size_at, form_of, form_behind, behind, Takes}
+use Rattle.rescue_run.specs.Rescuing.{World, EndsWithin, Ran, Cut, head_of, rescued_bytes, rescue_text, extents_of, extent_of, frames_of, opening_bytes, Rescues, Extends}
 use Rattle.rescue_run.proofs.Copying.{bytes_there, length_map, front_extends}
-use Rattle.rescue_run.specs.Steps.{FinishIs, form_in, extents_in, form_after, sizes_of, GatheredUpTo, with_text, IsKept, Halts}
+use Rattle.rescue_run.specs.Steps.{FinishIs, form_after, sizes_of, GatheredUpTo, with_text, IsKept, Halts}
 
 -- sinks that were flushed
 flushed_within : (a b c : World) (movie text : List ℕ) → EndsWithin movie text b c → Puts a.text b.text [] → Puts a.out b.out [] → EndsWithin movie text a c
@@ -46,9 +45,11 @@ whole_movie rate file (t ∷ ts) form e some =
   where
     some_is : (f g : FrameForm) → Some f ≡ Some g → f ≡ g
     some_is f g e = cc
+
     stays : (f : FrameForm) (ts : List Taken) → form_after (Some f) ts ≡ Some f
     stays f [] = refl
     stays f (t ∷ ts) = stays f ts
+
     first_is : (t : Taken) (ts : List Taken) (form : FrameForm) → Some form ≡ form_after None (t ∷ ts) → form ≡ form_of t.frame.header
     first_is t ts form e = some_is form (form_of t.frame.header) (e ∙ stays (form_of t.frame.header) ts)
 
@@ -62,8 +63,12 @@ sizes_same file first from (t ∷ ts) to h =
 -- what stands behind a gathering
 module _ (rate : Rate) (file : List ℕ) (g : Gathering) (kept : IsKept rate g) (some : 1 ≤ length g.extents.items) (a b : SinkState) (h : GatheredUpTo file (length file) (Some g) a b) where
   rescues_all : Rescues file h.frames ends.Done
-  rescues_all = (h.takes, let e : length (extents_of file h.frames) ≡ length h.frames = length_map (extent_of file) h.frames in
-    let f : length g.extents.items ≡ length (extents_of file h.frames) = ap length h.extents in omega (arith, some, e, f), h.few)
+  rescues_all = (
+    h.takes,
+    let e : length (extents_of file h.frames) ≡ length h.frames = length_map (extent_of file) h.frames in
+        let f : length g.extents.items ≡ length (extents_of file h.frames) = ap length h.extents in omega (arith, some, e, f),
+    h.few,
+  )
 
   moov_same : moov_bytes g.writer.head (extents g.writer.sizes) ≡ moov_bytes (head_of rate g.form) (extents (map length (frames_of file h.frames)))
   moov_same = ap (λ x. moov_bytes x (extents g.writer.sizes)) kept.head
@@ -77,17 +82,20 @@ module _ (rate : Rate) (file : List ℕ) (g : Gathering) (kept : IsKept rate g) 
 
   within_all : (x y : World) → x.out ≡ b → EndsWithin (moov_bytes g.writer.head (extents g.writer.sizes)) (rescue_text g.extents.items) x y → Cut rate file (with_text x.text a) y
   within_all x y e (inl w) = record {
-    frames = h.frames; rescues = rescues_all;
+    frames = h.frames;
+    rescues = rescues_all;
     written = inl (subst (PutsFront a y.out) movie_same (then_front h.out (subst (λ s. PutsFront s y.out (moov_bytes g.writer.head (extents g.writer.sizes))) e w.0)), w.1);
   }
   within_all x y e (inr w) = record {
-    frames = h.frames; rescues = rescues_all;
+    frames = h.frames;
+    rescues = rescues_all;
     written = inr (subst (Puts a y.out) movie_same (puts_then h.out (subst (λ s. Puts s y.out (moov_bytes g.writer.head (extents g.writer.sizes))) e w.0)), subst (PutsFront x.text y.text) text_same w.1);
   }
 
   pub ran_finished : (end : RescueEnd) (x y : World) → x.out ≡ b → FinishIs end (moov_bytes g.writer.head (extents g.writer.sizes)) (rescue_text g.extents.items) x y → Ran rate file end (with_text x.text a) y
   ran_finished ends.Done x y e w = record {
-    frames = h.frames; rescues = rescues_all;
+    frames = h.frames;
+    rescues = rescues_all;
     out = subst (Puts a y.out) movie_same (puts_then h.out (subst (λ s. Puts s y.out (moov_bytes g.writer.head (extents g.writer.sizes))) e w.0));
     text = subst (Puts x.text y.text) text_same w.1;
   }

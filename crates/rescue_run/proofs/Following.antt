@@ -1,9 +1,9 @@
 -- One frame more of the chain, and places that are passed over.
-use Rattle.std.proofs.Common.{◌≡◌, refl, ℕ, zero, suc, ◌+◌, ◌-◌, ◌≤◌, ◌<◌, List, [], ◌∷◌, ◌++◌, length, arith, ap, sym, subst, ◌∙◌, inl, inr}
-use Rattle.std.specs.Prelude.{◌⊎◌, Option, Some, None}
+use Rattle.std.proofs.Common.{◌≡◌, refl, ℕ, zero, suc, ◌+◌, ◌≤◌, ◌<◌, List, [], ◌∷◌, ◌++◌, arith, subst, inl, inr}
+use Rattle.std.specs.Prelude.{◌⊎◌, Option}
 use Rattle.pr_frame.specs.declared.coded.CodedFrame.{CodedFrame}
 use Rattle.rescue_run.specs.declared.form.FrameForm.{FrameForm}
-use Rattle.rescue_run.specs.Chain.{HasMark, HoldsFrame, IsLike, form_behind, NoneHeld, Taken, behind, Takes, TakesFirst}
+use Rattle.rescue_run.specs.Chain.{HoldsFrame, IsLike, form_behind, NoneHeld, Taken, behind, Takes, TakesFirst}
 use Rattle.rescue_run.specs.Windows.{NoMark}
 use Rattle.rescue_run.specs.Steps.{HoldsNone, form_after}
 

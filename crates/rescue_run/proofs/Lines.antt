@@ -1,9 +1,9 @@
 -- Lines of frames one behind the other.
-use Rattle.std.proofs.Common.{◌≡◌, ℕ, suc, ◌+◌, ◌-◌, ◌<◌, ◌≤◌, List, [], ◌∷◌, ◌++◌, Some, Result, Ok, Err, OnErr, arith, length, take, drop, ap, sym, subst, append_assoc, append-nil, take-append-drop, ◌∙◌}
+use Rattle.std.proofs.Common.{◌≡◌, ℕ, suc, ◌+◌, ◌-◌, ◌<◌, ◌≤◌, List, [], ◌∷◌, ◌++◌, Some, Result, Ok, Err, arith, length, take, drop, ap, sym, subst, append_assoc, append-nil, take-append-drop, ◌∙◌}
 use Rattle.std.specs.Prelude.{slice_get, get_or, unwrap_or}
 use Rattle.std.proofs.lemmas.Option.{slice_get_within, slice_get-get_or}
 use Rattle.std.proofs.Math.Seq.{take-suc}
-use Rattle.std.proofs.lemmas.List.{length-append, length-take, length-take-le, length-drop, get_or-drop, take_all}
+use Rattle.std.proofs.lemmas.List.{length-take-le, length-drop, get_or-drop, take_all}
 use lib.Seq.{take-add}
 use Rattle.pw_outside.specs.Writing.{SinkState, Puts, PutsFront}
 use Rattle.pw_outside.proofs.Puts.{puts_then, puts_front, front_more, then_front}

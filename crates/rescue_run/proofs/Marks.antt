@@ -1,5 +1,5 @@
 -- Where the letters of a frame stand: in a piece, in a window over a file, and in the file.
-use Rattle.std.proofs.Common.{◌≡◌, refl, ℕ, ◌+◌, ◌-◌, ◌≤◌, ◌<◌, List, [], ◌∷◌, take, drop, length, length-take, length-drop, arith, ap, sym, subst, ◌∙◌}
+use Rattle.std.proofs.Common.{◌≡◌, ℕ, ◌+◌, ◌-◌, ◌≤◌, ◌<◌, List, take, drop, length, length-take, length-drop, arith, ap, sym, subst, ◌∙◌}
 use Rattle.std.proofs.lemmas.List.{drop-take, take-take, drop-drop}
 use Rattle.std.specs.Prelude.{codes, Option, Some, None, IfSome}
 use Rattle.pw_outside.specs.Reading.{bytes_of}
@@ -7,7 +7,7 @@ use Rattle.memchr.specs.Find.{OccursAt, FindsNeedle}
 use Rattle.memchr.proofs.lemmas.MatchLemmas.{OccursAt-part, OccursAt-from_part}
 use Rattle.rescue_run.specs.declared.window.Window.{Window}
 use Rattle.rescue_run.specs.Chain.{HasMark}
-use Rattle.rescue_run.specs.Windows.{NoMark, IsFirstMark, IsPart, Shows, MarkIn, FindsMark}
+use Rattle.rescue_run.specs.Windows.{NoMark, IsFirstMark, Shows, MarkIn}
 
 -- four bytes that are there
 four_there : (l : List ℕ) (n : ℕ) → length (take 4 (drop n l)) ≡ 4 → n + 4 ≤ length l
@@ -94,11 +94,13 @@ mark_of piece file held wfrom from (Some k) room same le fits h None e = absurd 
 mark_of piece file held wfrom from (Some k) room same le fits h (Some s) e =
     let at = from - wfrom in
     let m = mark_in_file piece file held wfrom at k room same (omega (arith, fits, le)) h.0 in
-    let n : wfrom + at + k ≡ s = omega (arith, le, e) in
-    (subst (HasMark file) n m.1, λ place ge lt mark.
-        let q = place - from in
-        let i : wfrom + at + q ≡ place = omega (arith, le, ge) in
-        h.1 q (omega arith) (omega (arith, lt, ge, e)) (mark_in_slice piece file held wfrom at q same (omega (arith, fits, le)) (omega (arith, m.0, lt, ge, le, e)) (subst (HasMark file) (sym i) mark)))
+    let n : wfrom + at + k ≡ s = omega (arith, le, e) in (
+      subst (HasMark file) n m.1,
+      λ place ge lt mark.
+          let q = place - from in
+          let i : wfrom + at + q ≡ place = omega (arith, le, ge) in
+          h.1 q (omega arith) (omega (arith, lt, ge, e)) (mark_in_slice piece file held wfrom at q same (omega (arith, fits, le)) (omega (arith, m.0, lt, ge, le, e)) (subst (HasMark file) (sym i) mark)),
+    )
 
 -- behind the last place with room for a size and the letters none stand
 pub at_end : (file : List ℕ) (from place total : ℕ) → total ≡ length file → total - place < 8 → NoMark file from place → NoMark file from (length file)

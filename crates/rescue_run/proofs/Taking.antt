@@ -1,5 +1,5 @@
 -- Taking one frame.
-use Rattle.std.proofs.Common.{◌≡◌, refl, false, ℕ, ◌≤◌, ◌<◌, List, [], ◌∷◌, ◌++◌, map, length, arith, ap, sym, subst, ◌∙◌}
+use Rattle.std.proofs.Common.{◌≡◌, refl, false, ℕ, ◌≤◌, ◌<◌, List, [], ◌∷◌, ◌++◌, length, arith, ap, sym, subst, ◌∙◌}
 use Rattle.std.specs.Prelude.{Option, Some, None, Result, Ok, Err, OnOk, OnErr, IfErr}
 use Rattle.pw_outside.specs.Ports.{last}
 use Rattle.pw_outside.specs.Writing.{SinkState, Puts, PutsFront}
@@ -12,7 +12,7 @@ use Rattle.rescue_run.specs.declared.gathering.Gathering.{Gathering}
 use Rattle.rescue_run.specs.declared.end.RescueEnd.{RescueEnd}
 use Rattle.rescue_run.specs.declared.end.RescueEnd.TheVariants as ends
 use Rattle.rescue_run.specs.Rescuing.{is_done}
-use Rattle.rescue_run.specs.Steps.{IsPortsEnd, IsCopyEnd, IsKept, AreKept, extents_in, TakingIs, step_bytes, sizes_of}
+use Rattle.rescue_run.specs.Steps.{IsPortsEnd, IsCopyEnd, IsKept, AreKept, extents_in, TakingIs, step_bytes}
 use Rattle.rescue_run.proofs.Copying.{length_map}
 
 pub taking_err : (frame : List ℕ) (place : ℕ) (es : List Extent) (end : RescueEnd) (a b : SinkState) → length es < 1000000 → IsPortsEnd end → PutsFront a b (step_bytes es frame) → TakingIs frame place es (Err end) a b

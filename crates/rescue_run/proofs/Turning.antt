@@ -1,14 +1,12 @@
 -- One turn: a frame more, a place more, or the end.
-use Rattle.std.proofs.Common.{rules, ◌≡◌, refl, ℕ, ◌+◌, ◌-◌, ◌≤◌, ◌<◌, List, [], ◌∷◌, ◌++◌, map, length, length-append, append-nil, append_assoc, arith, ap, sym, subst, ◌∙◌, inl, inr}
-use Rattle.std.specs.Prelude.{◌⊎◌, Option, Some, None, Result, Ok, Err}
+use Rattle.std.proofs.Common.{◌≡◌, refl, ℕ, ◌+◌, ◌≤◌, ◌<◌, List, [], ◌∷◌, ◌++◌, map, length, length-append, append-nil, append_assoc, arith, ap, sym, subst, ◌∙◌, inr}
+use Rattle.std.specs.Prelude.{Option, Some, None, Result, Err}
 use Rattle.std.specs.List.{flat_map}
 use Rattle.rescue_run.proofs.Copying.{length_map}
 use Rattle.pw_outside.specs.Ports.{last}
 use Rattle.pw_outside.specs.Writing.{SinkState, Puts, PutsFront}
 use Rattle.pw_outside.proofs.Puts.{puts_none, puts_then, puts_front, then_front}
 use Rattle.qt_atoms.specs.Atoms.{bytes_in}
-use Rattle.qt_tables.specs.declared.writer.Extent.{Extent}
-use Rattle.qt_tables.specs.declared.fault.MovieKind.{MovieKind}
 use Rattle.qt_tables.specs.declared.fault.MovieKind.TheVariants.{TooManySamples}
 use Rattle.qt_movie.specs.MovieBytes.{ftyp_bytes, frame_bytes}
 use Rattle.pr_frame.specs.declared.coded.CodedFrame.{CodedFrame}
@@ -16,7 +14,7 @@ use Rattle.rescue_run.specs.declared.form.FrameForm.{FrameForm}
 use Rattle.rescue_run.specs.declared.end.RescueEnd.{RescueEnd}
 use Rattle.rescue_run.specs.declared.end.RescueEnd.TheVariants as ends
 use Rattle.rescue_run.specs.declared.gathering.Gathering.{Gathering}
-use Rattle.rescue_run.specs.Chain.{HoldsFrame, IsLike, form_of, form_behind, Taken, TakesFirst, size_at, behind}
+use Rattle.rescue_run.specs.Chain.{IsLike, form_of, form_behind, Taken, TakesFirst, size_at, behind}
 use Rattle.rescue_run.specs.Windows.{NoMark}
 use Rattle.rescue_run.specs.Rescuing.{frames_of, opening_bytes, extents_of, extent_of, bytes_of_frame, Refused, Stopped}
 use Rattle.rescue_run.specs.Steps.{HoldsLike, HoldsNone, form_in, extents_in, first_or, step_bytes, TakingIs, form_after, GatheredUpTo, with_text, Halts, IsReadersEnd, IsJudged, GoesFrom}
@@ -50,7 +48,10 @@ pub gathered_further : (file : List ℕ) (p q : ℕ) (g : Option Gathering) (a b
 gathered_further file p q g a b le none h = record {
   frames = h.frames;
   takes = none_more file None 0 h.frames p q h.takes le (no_mark_held file (form_after None h.frames) p q none);
-  form = h.form; extents = h.extents; few = h.few; out = h.out;
+  form = h.form;
+  extents = h.extents;
+  few = h.few;
+  out = h.out;
 }
 
 -- a place that holds none
@@ -58,7 +59,10 @@ pub gathered_none : (file : List ℕ) (p : ℕ) (g : Option Gathering) (a b : Si
 gathered_none file p g a b none h = record {
   frames = h.frames;
   takes = none_more file None 0 h.frames p (p + 1) h.takes (omega arith) (one_none file (form_after None h.frames) p (subst (HoldsNone file p) h.form none));
-  form = h.form; extents = h.extents; few = h.few; out = h.out;
+  form = h.form;
+  extents = h.extents;
+  few = h.few;
+  out = h.out;
 }
 
 module _ (file : List ℕ) (p size : ℕ) (g : Option Gathering) (a b c : SinkState) (form : FrameForm) (at_size : size ≡ size_at file p) (holds : HoldsLike file p (form_in g) form) (h : GatheredUpTo file p g a b) where

@@ -10,7 +10,6 @@ use Rattle.pic_y4m.specs.declared.head.Head.{Head}
 use Rattle.pic_y4m.specs.declared.head.TheConstants.{MAX_RATE_NUM, MAX_RATE_DEN}
 use Rattle.qt_atoms.specs.Atoms.{bytes_in}
 use Rattle.qt_tables.specs.declared.writer.Extent.{Extent}
-use Rattle.qt_tables.specs.declared.fault.MovieKind.{MovieKind}
 use Rattle.qt_tables.specs.declared.fault.MovieKind.TheVariants.{NoFrames, TooManySamples}
 use Rattle.qt_movie.specs.MovieBytes.{ftyp_bytes, frame_bytes, movie_bytes}
 use Rattle.rescue_run.specs.declared.form.FrameForm.{FrameForm}
@@ -49,7 +48,14 @@ pub record IsRate (rate : Rate) : Type 0 where
 -- the head of a movie of frames of this form, at this rate; a movie tells no depth
 abbrev pub head_of : Rate → FrameForm → Head
 head_of rate form = record {
-  width = form.width; height = form.height; chroma = form.chroma; depth = D10; alpha = form.alpha; interlace = form.interlace; num = rate.num; den = rate.den;
+  width = form.width;
+  height = form.height;
+  chroma = form.chroma;
+  depth = D10;
+  alpha = form.alpha;
+  interlace = form.interlace;
+  num = rate.num;
+  den = rate.den;
 }
 
 -- the file's bytes of a frame that is taken

@@ -1,13 +1,11 @@
 -- What each step of a run does. Our own definitions.
-use Rattle.std.specs.Prelude.{◌≡◌, ℕ, ◌+◌, ◌%◌, ◌≤◌, ◌<◌, Bool, true, false, List, [], ◌∷◌, ◌++◌, map, length, Option, None, Some, Result, Ok, Err, IfSome}
+use Rattle.std.specs.Prelude.{◌≡◌, ℕ, ◌%◌, ◌≤◌, ◌<◌, Bool, true, false, List, [], ◌∷◌, ◌++◌, map, length, Option, None, Some, Result, Ok, Err}
 use Rattle.pw_outside.specs.Ports.{last}
 use Rattle.pw_outside.specs.Writing.{SinkState, Puts, PutsFront}
 use Rattle.pw_planes.specs.declared.plane.TheConstants.{MAX_WIDTH, MAX_HEIGHT}
 use Rattle.pr_geom.specs.Slices.{pictures_of}
 use Rattle.pic_y4m.specs.declared.writer.WriteEnd.{WriteEnd}
-use Rattle.qt_atoms.specs.Atoms.{bytes_in}
 use Rattle.qt_tables.specs.declared.writer.Extent.{Extent}
-use Rattle.qt_tables.specs.declared.fault.MovieKind.{MovieKind}
 use Rattle.qt_tables.specs.declared.fault.MovieKind.TheVariants.{TooManySamples, SampleOutside}
 use Rattle.qt_movie.specs.MovieBytes.{ftyp_bytes, frame_bytes}
 use Rattle.pr_frame.specs.declared.coded.CodedFrame.{CodedFrame}

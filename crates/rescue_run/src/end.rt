@@ -14,8 +14,5 @@ pub enum RescueEnd {
     /// A port that the run writes failed.
     WriteFault,
     /// The file holds no frame (`NoFrames`, place 0), or more than 1,000,000 (`TooManySamples`, at the place of the first too many).
-    BadMovie {
-        kind: MovieKind,
-        place: u64,
-    },
+    BadMovie { kind: MovieKind, place: u64 },
 }

@@ -48,12 +48,7 @@ fn extent_at(extents: &[Extent], number: usize) -> Extent
 }
 
 /// The lines of the frames from one number up to another.
-fn lines_of(
-    alloc: Global,
-    extents: &[Extent],
-    from: usize,
-    end: usize,
-) -> Result<Vec<u8>, NoMemory>
+fn lines_of(alloc: Global, extents: &[Extent], from: usize, end: usize) -> Result<Vec<u8>, NoMemory>
     requires order { from ≤ end }
     requires there { end ≤ length extents.now }
     ensures { IfOk result (λ lines. lines.items ≡ frame_lines from (take (end - from) (drop from extents.now))) }
@@ -88,11 +83,7 @@ fn put_some<K: ByteSink>(
 }
 
 /// Writes the lines of all frames.
-fn put_frames<K: ByteSink>(
-    alloc: Global,
-    extents: &[Extent],
-    text: &mut K,
-) -> Result<(), WriteEnd>
+fn put_frames<K: ByteSink>(alloc: Global, extents: &[Extent], text: &mut K) -> Result<(), WriteEnd>
     ensures bytes { TextIs result (frame_lines 0 extents.now) (sink_state (K.held text.old) (K.taken text.old)) (sink_state (K.held text.new) (K.taken text.new)) }
     ensures cause { CountsFault (K.faults text.old) (K.faults text.new) (write_failed result) }
 {
@@ -151,12 +142,7 @@ fn settle<K: ByteSink>(out: &mut K, text: &mut K) -> Result<(), Failed>
 }
 
 /// Writes the text, and settles both sinks.
-fn print<K: ByteSink>(
-    alloc: Global,
-    extents: &[Extent],
-    out: &mut K,
-    text: &mut K,
-) -> RescueEnd
+fn print<K: ByteSink>(alloc: Global, extents: &[Extent], out: &mut K, text: &mut K) -> RescueEnd
     ensures finish { FinishIs result [] (rescue_text extents.now) (world K.held K.taken out.old text.old) (world K.held K.taken out.new text.new) }
     ensures settled { OnTrue (is_done result) ((K.settled out.new ≡ K.taken out.new) × (K.settled text.new ≡ K.taken text.new)) }
     ensures cause { CountsFaults K.faults out.old text.old out.new text.new (is_write_fault result) }

@@ -241,9 +241,7 @@ pub(crate) fn take_frame<M: ByteStore, K: ByteSink>(
             add(movie, window, total, found, gathered, out)
         }
         None => {
-            *gathering = Some(take_first(
-                alloc, movie, window, total, rate, found, form, out,
-            )?);
+            *gathering = Some(take_first(alloc, movie, window, total, rate, found, form, out)?);
             Ok(())
         }
     }

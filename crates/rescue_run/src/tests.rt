@@ -42,7 +42,7 @@ fn rescues_frames_wherever_they_stand(rt: HostRuntime) -> Result<(), Fail> {
             798,
             b"frame 0 at 28 size 178\nframes 1\n",
         ),
-        (&movie[..205], none, 0, b""),
+        (movie.get(..205).unwrap_or(&[]), none, 0, b""),
         (
             &second,
             RescueEnd::Done,

@@ -1,5 +1,5 @@
-use Rattle.std.proofs.Common.{rules, ◌≡◌, ◌+◌, ◌-◌, ◌≤◌, ◌++◌, length, take, drop, ap, sym, ◌∙◌}
-use Rattle.rescue_run.specs.Rescuing.{frame_line, frame_lines}
+use Rattle.std.proofs.Common.{rules, ◌++◌, ap, sym, ◌∙◌}
+use Rattle.rescue_run.specs.Rescuing.{frame_line}
 use Rattle.rescue_run.proofs.Lines.{one_more, none_yet}
 use Rattle.rescue_run.proofs.finish.lines_of.Goals as goal
 

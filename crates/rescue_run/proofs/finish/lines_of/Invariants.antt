@@ -1,4 +1,4 @@
-use Rattle.std.proofs.Common.{◌≡◌, ◌-◌, ◌≤◌, length, take, drop}
+use Rattle.std.proofs.Common.{◌≡◌, ◌-◌, ◌≤◌, take, drop}
 use Rattle.rescue_run.specs.Rescuing.{frame_lines}
 use Rattle.rescue_run.proofs.finish.lines_of.Given as goal
 

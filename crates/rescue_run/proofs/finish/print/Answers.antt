@@ -1,6 +1,4 @@
-use Rattle.std.proofs.Common.{inr, append-nil, subst}
-use Rattle.pw_outside.specs.Writing.{Puts}
-use Rattle.pw_outside.proofs.Puts.{puts_then, puts_front}
+use Rattle.std.proofs.Common.{inr}
 use Rattle.rescue_run.proofs.Lines.{settled_front}
 use Rattle.rescue_run.proofs.finish.print.Goals as goal
 

@@ -1,6 +1,5 @@
-use Rattle.std.proofs.Common.{rules, ◌≡◌, ◌≤◌, length, arith}
+use Rattle.std.proofs.Common.{rules, ◌≡◌, ◌≤◌, length}
 use Rattle.std.specs.Prelude.{Err}
-use Rattle.rescue_run.specs.Rescuing.{frame_lines}
 use Rattle.rescue_run.proofs.Lines.{further, front_further, at_last, text_err}
 use Rattle.rescue_run.proofs.finish.put_frames.Goals as goal
 

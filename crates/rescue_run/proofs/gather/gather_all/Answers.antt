@@ -1,4 +1,4 @@
-use Rattle.std.proofs.Common.{rules, ◌≡◌, refl, ◌≤◌, length, arith, subst}
+use Rattle.std.proofs.Common.{rules, refl, arith, subst}
 use Rattle.std.specs.Prelude.{IsSome, None}
 use Rattle.pw_outside.specs.Reading.{bytes_of}
 use Rattle.pw_outside.specs.Writing.{SinkState, sink_state}

@@ -1,4 +1,4 @@
-use Rattle.std.proofs.Common.{rules, ◌≡◌, ◌≤◌, length, arith, subst, sym}
+use Rattle.std.proofs.Common.{rules, ◌≤◌, arith, subst, sym}
 use Rattle.std.specs.Prelude.{IsSome}
 use Rattle.pw_outside.specs.Reading.{bytes_of}
 use Rattle.pw_outside.specs.Writing.{SinkState, sink_state}

@@ -1,5 +1,5 @@
-use Rattle.std.proofs.Common.{rules, ◌≡◌, ◌+◌, ◌≤◌, length, arith, subst, ap, sym}
-use Rattle.std.specs.Prelude.{Err, Ok, IsSome, IfSome}
+use Rattle.std.proofs.Common.{rules, ◌≡◌, ◌+◌, ◌≤◌, length, arith, subst}
+use Rattle.std.specs.Prelude.{Err, IsSome, IfSome}
 use Rattle.pw_outside.specs.Reading.{bytes_of}
 use Rattle.pw_outside.specs.Writing.{sink_state}
 use Rattle.qt_atoms.specs.Atoms.{bytes_in}

@@ -1,6 +1,5 @@
-use Rattle.std.proofs.Common.{rules, ◌≡◌, ◌+◌, ◌≤◌, arith, subst, sym, length}
+use Rattle.std.proofs.Common.{arith}
 use Rattle.std.proofs.lemmas.Result.{on_err_weaker}
-use Rattle.pw_outside.specs.Reading.{bytes_of}
 use Rattle.rescue_run.proofs.Copying.{head_part, head_then, puts_extends, then_extends}
 use Rattle.rescue_run.proofs.gathering.add.Goals as goal
 

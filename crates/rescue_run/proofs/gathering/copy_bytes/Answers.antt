@@ -1,7 +1,7 @@
-use Rattle.std.proofs.Common.{rules, ◌≡◌, ◌+◌, ◌≤◌, arith, subst, sym}
+use Rattle.std.proofs.Common.{rules, ◌≡◌, ◌+◌, ◌≤◌, subst}
 use Rattle.pw_outside.specs.Reading.{bytes_of}
 use Rattle.rescue_run.specs.Windows.{Shows}
-use Rattle.rescue_run.proofs.Copying.{no_bytes, more_bytes, part_copied, fewer_copied, none_extends, then_extends}
+use Rattle.rescue_run.proofs.Copying.{more_bytes, part_copied, fewer_copied, then_extends}
 use Rattle.rescue_run.proofs.gathering.copy_bytes.Goals as goal
 
 pub returns-in-Err-clause-err : goal.returns-in-Err-clause-err

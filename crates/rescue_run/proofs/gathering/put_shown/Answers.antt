@@ -1,4 +1,4 @@
-use Rattle.std.proofs.Common.{arith, ◌≤◌, ◌+◌}
+use Rattle.std.proofs.Common.{arith}
 use Rattle.rescue_run.proofs.Copying.{shown_puts, shown_part, any_err}
 use Rattle.rescue_run.proofs.gathering.put_shown.Goals as goal
 

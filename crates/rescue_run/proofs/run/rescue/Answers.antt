@@ -1,5 +1,4 @@
-use Rattle.std.proofs.Common.{rules, ◌≡◌, refl, subst, length}
-use Rattle.std.specs.Prelude.{None}
+use Rattle.std.proofs.Common.{refl, subst, length}
 use Rattle.pw_outside.specs.Reading.{bytes_of}
 use Rattle.pw_outside.specs.Writing.{sink_state}
 use Rattle.rescue_run.specs.Rescuing.{world}
