@@ -42,6 +42,8 @@ pub enum MovieKind {
     SoundLong,
     /// A sample is too large for the head of a data atom of 32 bits.
     SampleLarge,
+    /// No frame stands anywhere in the file.
+    NoFrames,
 }
 
 /// Why a call has nothing of a movie to give.

@@ -57,7 +57,8 @@ fn meaning(option: OptionName) -> &'static str {
         OptionName::Log => "slices are 2^N macroblocks wide, 0 to 3 (3 if absent)",
         OptionName::Matrix => "the weights (flat if absent)",
         OptionName::Raw => "raw planes in place of Y4M, as 1920x1080:422:10:0:25/1",
-        OptionName::Interlace => "raw planes are progressive, top or bottom field first (p if absent)",
+        OptionName::Interlace =>
+            "raw planes are progressive, top or bottom field first (p if absent)",
         OptionName::Group => "so many frames share their budgets, 1 to 8 (1 if absent)",
         OptionName::Proof => "the version of the proof file (2 if absent)",
         OptionName::Depth => "bits of a sample that is written (10 if absent)",
@@ -69,7 +70,8 @@ fn meaning(option: OptionName) -> &'static str {
 fn purpose(command: Command) -> &'static str {
     match command {
         Command::Plan => "prints the best choice for a table of costs",
-        Command::Encode => "makes a movie of pictures (- is standard input), and the proof of its choices",
+        Command::Encode =>
+            "makes a movie of pictures (- is standard input), and the proof of its choices",
         Command::List => "prints the track of ProRes of a movie, and its samples",
         Command::Check => "checks a proof",
         Command::Reproof => "writes a proof again in version 2",
@@ -84,7 +86,11 @@ fn put_line(text: &mut String, command: Command) -> Result<(), AllocError> {
     let operands = command.operands();
     for (number, operand) in operands.iter().enumerate() {
         let open = if number == least { "[" } else { "" };
-        let close = if number >= least && number + 1 == operands.len() { "]" } else { "" };
+        let close = if number >= least && number + 1 == operands.len() {
+            "]"
+        } else {
+            ""
+        };
         write!(text, " {open}{operand}{close}")?;
     }
     for option in command.options() {
@@ -110,13 +116,19 @@ fn put_usage(text: &mut String, command: Command) -> Result<(), AllocError> {
 
 /// All commands, a line each.
 fn put_commands(text: &mut String) -> Result<(), AllocError> {
-    writeln!(text, "workshop makes, shows, lists and checks QuickTime movies of ProRes frames.")?;
+    writeln!(
+        text,
+        "workshop makes, shows, lists and checks QuickTime movies of ProRes frames."
+    )?;
     for command in Command::all() {
         write!(text, "  ")?;
         put_line(text, *command)?;
         writeln!(text, "      {}", purpose(*command))?;
     }
-    writeln!(text, "workshop help COMMAND tells the options of a command.")
+    writeln!(
+        text,
+        "workshop help COMMAND tells the options of a command."
+    )
 }
 
 /// The answer to what is asked.

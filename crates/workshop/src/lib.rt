@@ -25,7 +25,7 @@ pub use files::Target;
 pub use input::InputPort;
 pub use output::OutputPort;
 pub use process::{exit_code, program, run_alone, told, unread, words_of};
-pub use store::StorePort;
 pub use status::{Status, UsageKind};
+pub use store::StorePort;
 pub use top::workshop;
 pub use words::{Command, DecodeWords, Names, Task, names_of, tells_monitors};

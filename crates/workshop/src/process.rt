@@ -87,9 +87,20 @@ fn file_of(word: Option<usize>, words: &[String]) -> io::Result<Target> {
 
 /// The names of the files of a run, but for that of the word of this number: an output is none of them. Standard input and standard
 /// output have names on every system that the program is built for.
-fn others_of(alloc: Global, names: &Names, own: Option<usize>, words: &[String]) -> io::Result<Vec<String>> {
+fn others_of(
+    alloc: Global,
+    names: &Names,
+    own: Option<usize>,
+    words: &[String],
+) -> io::Result<Vec<String>> {
     let mut others = Vec::new(alloc);
-    let all = [names.pictures, names.proof, names.movie, names.out, names.cert];
+    let all = [
+        names.pictures,
+        names.proof,
+        names.movie,
+        names.out,
+        names.cert,
+    ];
     for number in all {
         if number == own {
             continue;

@@ -125,7 +125,10 @@ impl<R: Files + AllocGlobal + Drop> StorePort<R> {
 
     fn opened(&self) -> io::Result<OpenStore<R::File>> {
         match &self.target {
-            Target::File(path) => OpenStore::new(self.rt.alloc(), fs::open(&self.rt, path.as_str())?),
+            Target::File(path) => OpenStore::new(
+                self.rt.alloc(),
+                fs::open(&self.rt, path.as_str())?,
+            ),
             Target::Standard | Target::Nothing => Err(no_file()),
         }
     }
