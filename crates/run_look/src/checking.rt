@@ -1,8 +1,9 @@
 //! Checking a proof.
 
-ghost use Rattle.std.specs.Prelude.{◌≡◌, ◌+◌, ◌*◌, ◌≤◌, ◌++◌, ℕ, IsSome, OnOk, OnErr, IfOk, IfErr, IfSome, Ok, false, codes};
+ghost use Rattle.std.specs.Prelude.{◌≡◌, ◌+◌, ◌*◌, ◌≤◌, ◌++◌, ℕ, IsSome, OnOk, OnErr, IfOk, IfErr, IfSome, IfNone, Ok, false, codes};
 ghost use Rattle.std.specs.Bool.{OnTrue};
 ghost use Rattle.std.specs.Fmt.{decimal};
+ghost use Rattle.std.specs.Io.KnownBytes.{IsAtEnd};
 ghost use Rattle.pw_outside.specs.Ports.{CountsFault, Rose};
 ghost use Rattle.pw_outside.specs.Reading.{Told, rest_of};
 ghost use Rattle.pw_outside.specs.Writing.{sink_state};
@@ -47,6 +48,8 @@ pub(crate) fn next_good<S: ByteSource>(
         (rest_of reader.old.place (S.left proof.old)) result (rest_of reader.new.place (S.left proof.new)) }
     ensures good { IfOk result (λ p. IfSome p (λ p. IsGood reader.old.settings p × MayStand reader.old.progress)) }
     ensures end { IfErr result IsReadersEnd }
+    // Behind the last record the proof was read to its end.
+    ensures whole { IfOk result (λ p. IfNone p (IsAtEnd (S.left proof.new))) }
     ensures after { IfOk result (λ p. (reader.new.settings ≡ reader.old.settings) × (reader.new.format ≡ reader.old.format)
         × (reader.new.progress ≡ after reader.old.settings reader.old.progress p)) }
     ensures ended { IfOk result (λ p. IfSome p (λ _. reader.new.ended ≡ false)) }
@@ -78,6 +81,7 @@ fn check_records<S: ByteSource>(
     ensures answer { IsSome (S.left proof.old) → Counts (RecordsAlone reader.old.format reader.old.settings (rest_of reader.old.place (S.left proof.old))) result }
     ensures few { IfOk result (λ n. n ≤ most_records) }
     ensures end { IfErr result IsReadersEnd }
+    ensures whole { OnOk result (IsAtEnd (S.left proof.new)) }
     ensures read { CountsFault (S.faults proof.old) (S.faults proof.new) (is_stopped_by_source result) }
 {
     let settings = reader.settings();
@@ -95,6 +99,7 @@ fn check_alone<S: ByteSource>(alloc: Global, proof: &mut S) -> Result<u32, LookE
     ensures answer { Told (S.left proof.old) (λ bytes. Counts (ChecksAlone bytes) result) }
     ensures few { IfOk result (λ n. n ≤ most_records) }
     ensures end { IfErr result IsReadersEnd }
+    ensures whole { OnOk result (IsAtEnd (S.left proof.new)) }
     ensures read { CountsFault (S.faults proof.old) (S.faults proof.new) (is_stopped_by_source result) }
 {
     let mut reader = ProofReader::start(proof)?;
@@ -156,6 +161,8 @@ pub fn check_proof_run<S: ByteSource, K: ByteSink>(
     // Whether the proof's bytes are told or not, the text extends what was held.
     ensures extends { Extends (sink_state (K.held text.old) (K.taken text.old)) (sink_state (K.held text.new) (K.taken text.new)) }
     ensures settled { OnTrue (is_done result) (K.settled text.new ≡ K.taken text.new) }
+    // After Done the proof was read to its end, whether its bytes are told or not.
+    ensures end { OnTrue (is_done result) (IsAtEnd (S.left proof.new)) }
     // A fault of a port is answered only where that port's count rose, and every other answer leaves both counts as they
     // were.
     ensures read { CountsFault (S.faults proof.old) (S.faults proof.new) (is_read_fault result) }

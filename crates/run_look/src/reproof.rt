@@ -1,7 +1,8 @@
 //! Writing a proof again in format 2.
 
-ghost use Rattle.std.specs.Prelude.{◌≡◌, ◌↔◌, ◌≤◌, suc, IsSome, IsTrue, OnOk, OnErr, is_err, IfOk, IfErr, IfSome, Ok, false};
+ghost use Rattle.std.specs.Prelude.{◌≡◌, ◌↔◌, ◌≤◌, suc, IsSome, IsTrue, OnOk, OnErr, is_err, IfOk, IfErr, IfSome, IfNone, Ok, false};
 ghost use Rattle.std.specs.Bool.{OnTrue};
+ghost use Rattle.std.specs.Io.KnownBytes.{IsAtEnd};
 ghost use Rattle.std.specs.List.{flat_map};
 ghost use Rattle.pw_outside.specs.Ports.{CountsFault};
 ghost use Rattle.pw_outside.specs.Reading.{Told, rest_of};
@@ -50,6 +51,8 @@ fn next_in_order<S: ByteSource>(
         (rest_of reader.old.place (S.left proof.old)) result (rest_of reader.new.place (S.left proof.new)) }
     ensures written { IfOk result (λ p. IfSome p (λ p. MayStand reader.old.progress × IsWritten 2 p)) }
     ensures end { IfErr result IsReadersEnd }
+    // Behind the last record the proof was read to its end.
+    ensures whole { IfOk result (λ p. IfNone p (IsAtEnd (S.left proof.new))) }
     ensures after { IfOk result (λ p. (reader.new.settings ≡ reader.old.settings) × (reader.new.format ≡ reader.old.format)
         × (reader.new.progress ≡ after reader.old.settings reader.old.progress p)) }
     ensures ended { IfOk result (λ p. IfSome p (λ _. reader.new.ended ≡ false)) }
@@ -89,6 +92,7 @@ fn rewrite_records<S: ByteSource, K: ByteSink>(
     ensures extends { Extends (sink_state (K.held cert.old) (K.taken cert.old)) (sink_state (K.held cert.new) (K.taken cert.new)) }
     ensures few { IfOk result (λ n. (n ≤ most_records) × (writer.new.progress.count ≡ n)) }
     ensures not_done { IfErr result (λ end. is_done end ≡ false) }
+    ensures whole { OnOk result (IsAtEnd (S.left proof.new)) }
     ensures read { CountsFault (S.faults proof.old) (S.faults proof.new) (is_stopped_by_source result) }
     ensures write { CountsFault (K.faults cert.old) (K.faults cert.new) (is_write_fault (end_of result)) }
 {
@@ -128,6 +132,7 @@ fn rewrite<S: ByteSource, K: ByteSink>(
     ensures same { Told (S.left proof.old) (λ bytes. OnOk result (SaysTheSame bytes (reproofed bytes).cert)) }
     ensures extends { Extends (sink_state (K.held cert.old) (K.taken cert.old)) (sink_state (K.held cert.new) (K.taken cert.new)) }
     ensures not_done { IfErr result (λ end. is_done end ≡ false) }
+    ensures whole { OnOk result (IsAtEnd (S.left proof.new)) }
     ensures settled { OnOk result (K.settled cert.new ≡ K.taken cert.new) }
     ensures read { CountsFault (S.faults proof.old) (S.faults proof.new) (is_stopped_by_source result) }
     ensures write { CountsFault (K.faults cert.old) (K.faults cert.new) (is_write_fault (end_of result)) }
@@ -167,6 +172,8 @@ pub fn reproof_run<S: ByteSource, K: ByteSink>(
     ensures cert_extends { Extends (sink_state (K.held cert.old) (K.taken cert.old)) (sink_state (K.held cert.new) (K.taken cert.new)) }
     ensures text_extends { Extends (sink_state (K.held text.old) (K.taken text.old)) (sink_state (K.held text.new) (K.taken text.new)) }
     ensures settled { OnTrue (is_done result) ((K.settled cert.new ≡ K.taken cert.new) × (K.settled text.new ≡ K.taken text.new)) }
+    // After Done the proof was read to its end, whether its bytes are told or not.
+    ensures end { OnTrue (is_done result) (IsAtEnd (S.left proof.new)) }
     // A fault of a port is answered only where that port's count rose, and every other answer leaves the counts as they were.
     ensures read { CountsFault (S.faults proof.old) (S.faults proof.new) (is_read_fault result) }
     ensures write { CountsFaults (K.faults cert.old) (K.faults cert.new) (K.faults text.old) (K.faults text.new) (is_write_fault result) }
