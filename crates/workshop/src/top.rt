@@ -149,6 +149,7 @@ pub fn workshop<S: ByteSource, M: ByteStore, K: ByteSink>(
     // other answer nothing.
     ensures check_text { Told (S.left proof.old) (λ bytes. IsRun task.Check (said words.now) →
         PrintsChecked bytes result (sink_state (K.held text.old) (K.taken text.old)) (sink_state (K.held text.new) (K.taken text.new))) }
+    ensures check_end { IsRun task.Check (said words.now) → OnTrue (is_done result) (IsAtEnd (S.left proof.new)) }
     // Where no port failed, a proof without a fault whose records are all good is Done, unless memory runs out.
     ensures check_complete { Told (S.left proof.old) (λ bytes. IsRun task.Check (said words.now)
         → NoPortFailed (uses_in (said words.now)) (faults S.faults M.faults K.faults pictures.old proof.old movie.old out.old cert.old text.old) (faults S.faults M.faults K.faults pictures.new proof.new movie.new out.new cert.new text.new)
@@ -165,6 +166,7 @@ pub fn workshop<S: ByteSource, M: ByteStore, K: ByteSink>(
         (sink_state (K.held text.old) (K.taken text.old)) (sink_state (K.held text.new) (K.taken text.new))) }
     // After Done the proof that was written has the settings and the records of the one that was read.
     ensures reproof_same { Told (S.left proof.old) (λ bytes. IsRun task.Reproof (said words.now) → OnTrue (is_done result) (SaysTheSame bytes (reproofed bytes).cert)) }
+    ensures reproof_end { IsRun task.Reproof (said words.now) → OnTrue (is_done result) (IsAtEnd (S.left proof.new)) }
     // Where no port failed, a proof without a fault, whose layers all rise in size and fall in error, is Done, unless memory runs out.
     ensures reproof_complete { Told (S.left proof.old) (λ bytes. IsRun task.Reproof (said words.now)
         → NoPortFailed (uses_in (said words.now)) (faults S.faults M.faults K.faults pictures.old proof.old movie.old out.old cert.old text.old) (faults S.faults M.faults K.faults pictures.new proof.new movie.new out.new cert.new text.new)
