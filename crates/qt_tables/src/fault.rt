@@ -34,6 +34,8 @@ pub enum MovieKind {
     TooManySamples,
     /// A sample passes the end of the file.
     SampleOutside,
+    /// No frame stands anywhere in the file.
+    NoFrames,
 }
 
 /// Why a call has nothing of a movie to give.

@@ -1,0 +1,7 @@
+pub mod Marks
+pub mod Following
+pub mod Copying
+pub mod Turning
+pub mod Ending
+pub mod Taking
+pub mod Lines

@@ -1,0 +1,17 @@
+//! The run of `rescue`: a movie of the frames that stand in a file, whatever stands around them.
+#![tactic(auto)]
+
+mod end;
+mod finish;
+mod form;
+mod gather;
+mod gathering;
+mod judging;
+mod run;
+mod search;
+#[cfg(test)]
+mod tests;
+mod window;
+
+pub use end::RescueEnd;
+pub use run::rescue_run;

@@ -1,0 +1,76 @@
+//! The run of `rescue`.
+
+ghost use Rattle.std.specs.Prelude.{◌≡◌};
+ghost use Rattle.std.specs.Bool.{OnTrue};
+ghost use Rattle.pw_outside.specs.Ports.{CountsFault};
+ghost use Rattle.pw_outside.specs.Reading.{Told};
+ghost use Rattle.pw_outside.specs.Writing.{sink_state};
+ghost use Rattle.rescue_run.specs.Rescuing.{IsRate, world, Ran, Extends, CountsFaults, is_done, is_read_fault, is_write_fault};
+
+use crate::end::RescueEnd;
+use crate::finish::finish;
+use crate::form::Rate;
+use crate::gather::gather;
+use pw_outside::{ByteSink, ByteStore};
+use qt_tables::MovieKind;
+use std::alloc::Global;
+
+/// Gathers the frames, and writes the movie and the text.
+fn rescue<M: ByteStore, K: ByteSink>(
+    alloc: Global,
+    movie: &mut M,
+    rate: &Rate,
+    out: &mut K,
+    text: &mut K,
+) -> RescueEnd
+    requires rate { IsRate rate.now }
+    ensures ran { Told (M.bytes movie.old) (λ file. Ran rate.now file result (world K.held K.taken out.old text.old) (world K.held K.taken out.new text.new)) }
+    ensures out_extends { Extends (sink_state (K.held out.old) (K.taken out.old)) (sink_state (K.held out.new) (K.taken out.new)) }
+    ensures text_extends { Extends (sink_state (K.held text.old) (K.taken text.old)) (sink_state (K.held text.new) (K.taken text.new)) }
+    ensures settled { OnTrue (is_done result) ((K.settled out.new ≡ K.taken out.new) × (K.settled text.new ≡ K.taken text.new)) }
+    ensures bytes { M.bytes movie.new ≡ M.bytes movie.old }
+    ensures read { CountsFault (M.faults movie.old) (M.faults movie.new) (is_read_fault result) }
+    ensures write { CountsFaults K.faults out.old text.old out.new text.new (is_write_fault result) }
+{
+    match gather(alloc, movie, rate, out) {
+        Ok(Some(gathered)) => finish(alloc, gathered, out, text),
+        Ok(None) => RescueEnd::BadMovie {
+            kind: MovieKind::NoFrames,
+            place: 0,
+        },
+        Err(end) => end,
+    }
+}
+
+/// Looks for frames of ProRes in a file whose tables are lost, wherever they stand, and writes a movie of those of the form of the first: to
+/// `out` the movie, at a rate of `num` frames in `den` seconds, and to `text` a line for each frame with its place in the file, and then
+/// the line `frames N`. Atoms aren't read.
+///
+/// From a place on, where a frame stands that has the size, the sampling, the fields and the alpha of the first, it is taken, and the search
+/// goes on behind it; else it goes on one byte further. The file type is written when the first frame is found, each frame when it is
+/// found, and the text behind the movie.
+pub fn rescue_run<M: ByteStore, K: ByteSink>(
+    alloc: Global,
+    movie: &mut M,
+    num: u32,
+    den: u32,
+    out: &mut K,
+    text: &mut K,
+) -> RescueEnd
+    requires rate { IsRate (record { num = num; den = den }) }
+    // Where the file's bytes are told, they decide the answer and all that is written: Done comes with the movie of the chain's frames and its
+    // text; BadMovie exactly where there is no frame, or more than 1,000,000; a fault of a port or want of memory with a front.
+    ensures ran { Told (M.bytes movie.old) (λ file. Ran (record { num = num; den = den }) file result
+        (world K.held K.taken out.old text.old) (world K.held K.taken out.new text.new)) }
+    // Whatever the answer, and whether the file's bytes are told or not, each sink extends what it held.
+    ensures out_extends { Extends (sink_state (K.held out.old) (K.taken out.old)) (sink_state (K.held out.new) (K.taken out.new)) }
+    ensures text_extends { Extends (sink_state (K.held text.old) (K.taken text.old)) (sink_state (K.held text.new) (K.taken text.new)) }
+    // After Done all that was written is settled.
+    ensures settled { OnTrue (is_done result) ((K.settled out.new ≡ K.taken out.new) × (K.settled text.new ≡ K.taken text.new)) }
+    ensures bytes { M.bytes movie.new ≡ M.bytes movie.old }
+    // A fault of a port is answered only where that port's count rose, and every other answer leaves the counts as they were.
+    ensures read { CountsFault (M.faults movie.old) (M.faults movie.new) (is_read_fault result) }
+    ensures write { CountsFaults K.faults out.old text.old out.new text.new (is_write_fault result) }
+{
+    rescue(alloc, movie, &Rate { num, den }, out, text)
+}
