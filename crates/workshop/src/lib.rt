@@ -14,6 +14,7 @@ mod plan;
 mod process;
 mod raw_form;
 mod reproofing;
+mod rescuing;
 mod status;
 mod store;
 #[cfg(test)]
@@ -23,6 +24,7 @@ mod words;
 
 pub use files::Target;
 pub use input::InputPort;
+pub use options::Rate;
 pub use output::OutputPort;
 pub use process::{exit_code, program, run_alone, told, unread, words_of};
 pub use store::StorePort;

@@ -7,7 +7,7 @@ ghost use Rattle.pw_outside.specs.Reading.{Told};
 ghost use Rattle.rate_table.specs.Reading.{tabled};
 ghost use Rattle.workshop.specs.Status.{is_done, is_read_fault, is_settled, is_write_fault, has_written, usage_of};
 ghost use Rattle.workshop.specs.declared.words.Task.TheVariants as task;
-ghost use Rattle.workshop.specs.Words.{said, usage_fault, IsRun, IsEncode, IsDecode, tells_monitors, uses_in, reads_pictures, reads_proof, reads_movie, writes_out, writes_cert, writes_text};
+ghost use Rattle.workshop.specs.Words.{said, usage_fault, IsRun, IsEncode, IsDecode, IsRescue, tells_monitors, uses_in, reads_pictures, reads_proof, reads_movie, writes_out, writes_cert, writes_text};
 ghost use Rattle.workshop.specs.Faults.{faults, CountsReads, CountsWrites, NoPortFailed, Settles};
 ghost use Rattle.pw_outside.specs.Writing.{sink_state};
 ghost use Rattle.qt_movie.specs.Movie.{movie_in};
@@ -25,6 +25,9 @@ ghost use Rattle.run_decode.specs.Running.{world};
 ghost use Rattle.run_decode.specs.Laws.{WritesFrontsOf};
 ghost use Rattle.workshop.specs.declared.words.DecodeWords.{DecodeWords};
 ghost use Rattle.workshop.specs.Decoding.{AnswersDecode, CompletesDecode};
+ghost use Rattle.rescue_run.specs.Rescuing.{world as sinks};
+ghost use Rattle.workshop.specs.declared.options.Rate.{Rate};
+ghost use Rattle.workshop.specs.Rescuing.{AnswersRescue};
 
 use crate::checking::check;
 use crate::decode::decode;
@@ -32,6 +35,7 @@ use crate::encode::encode;
 use crate::listing::list;
 use crate::plan::plan;
 use crate::reproofing::reproof;
+use crate::rescuing::rescue;
 use crate::status::Status;
 use crate::words::{Task, settings_of};
 use monitors::Monitor;
@@ -54,6 +58,8 @@ use std::alloc::Global;
 ///   `cert`, and a line with the number of records to `text`.
 /// - `decode MOVIE OUT` reads a QuickTime movie through `movie`, writes the pictures of its first track of ProRes to `out`,
 ///   tells each monitor of each picture, and writes their number and the monitors' reports to `text`.
+/// - `rescue FILE OUT` looks through `movie` for frames of ProRes, wherever they stand, and writes a movie of those of the form
+///   of the first to `out`, and a line for each with its place to `text`.
 #[tactic(auto, using(run_look::proofs::Texts::none_extends))]
 pub fn workshop<S: ByteSource, M: ByteStore, K: ByteSink>(
     alloc: Global,
@@ -185,6 +191,12 @@ pub fn workshop<S: ByteSource, M: ByteStore, K: ByteSink>(
     ensures decode_complete { Told (M.bytes movie.old) (λ file. (w : DecodeWords) → IsDecode w (said words.now)
         → NoPortFailed (uses_in (said words.now)) (faults S.faults M.faults K.faults pictures.old proof.old movie.old out.old cert.old text.old) (faults S.faults M.faults K.faults pictures.new proof.new movie.new out.new cert.new text.new)
         → CompletesDecode w file (movie_in file) result) }
+
+    // `rescue`: where the file's bytes are told, they decide the answer and all that is written: Done comes with the movie of the
+    // frames that the file holds, and BadMovie where it holds none, or more than 1,000,000; a fault of a port or want of memory with
+    // fronts of what the frames that were found so far make.
+    ensures rescue { Told (M.bytes movie.old) (λ file. (rate : Rate) → IsRescue rate (said words.now)
+        → AnswersRescue rate file result (sinks K.held K.taken out.old text.old) (sinks K.held K.taken out.new text.new)) }
 {
     let settings = match settings_of(words) {
         Ok(settings) => settings,
@@ -202,5 +214,6 @@ pub fn workshop<S: ByteSource, M: ByteStore, K: ByteSink>(
         Task::Check => check(alloc, proof, text),
         Task::Reproof => reproof(alloc, proof, cert, text),
         Task::Decode(values) => decode(alloc, &values, movie, out, text, monitors),
+        Task::Rescue(rate) => rescue(alloc, rate, movie, out, text),
     }
 }

@@ -4,7 +4,7 @@ ghost use Rattle.std.specs.Prelude.{◌≡◌, ◌<◌, ◌≤◌, [], IfOk, dro
 ghost use Rattle.workshop.specs.Options.{AreValues, no_values};
 ghost use Rattle.workshop.specs.Words.{IsWalk, IsTask, commands, name_of, command_named, option_named, options_of, operands_of, most_operands, takes, lacks, lacks_option, clash, encode_words, decode_words, raw_in, has_odd_form, task_of, with_option_value, with_option, ended, walk, said, settled, command_of, ports_of, names_in, no_names, is_decode, tells_monitors};
 
-use crate::options::{MAX_BUDGET, OptionName, Values};
+use crate::options::{MAX_BUDGET, OptionName, Rate, Values};
 use crate::raw_form::cut;
 use crate::status::UsageKind;
 use arrayvec::ArrayVec;
@@ -32,6 +32,8 @@ pub enum Command {
     Reproof,
     /// `decode MOVIE OUT` shows the pictures of a movie.
     Decode,
+    /// `rescue FILE OUT` makes a movie of the frames that stand in a file.
+    Rescue,
 }
 
 /// What the words say of a run of `decode`.
@@ -69,6 +71,8 @@ pub enum Task {
     Check,
     Reproof,
     Decode(DecodeWords),
+    /// At this rate.
+    Rescue(Rate),
 }
 
 /// What is to be done, with the numbers of the words that are operands.
@@ -91,6 +95,7 @@ impl Command {
             "check" => Some(Command::Check),
             "reproof" => Some(Command::Reproof),
             "decode" => Some(Command::Decode),
+            "rescue" => Some(Command::Rescue),
             _ => None,
         }
     }
@@ -106,6 +111,7 @@ impl Command {
             Command::Check,
             Command::Reproof,
             Command::Decode,
+            Command::Rescue,
         ]
     }
 
@@ -120,6 +126,7 @@ impl Command {
             Command::Check => "check",
             Command::Reproof => "reproof",
             Command::Decode => "decode",
+            Command::Rescue => "rescue",
         }
     }
 
@@ -134,6 +141,7 @@ impl Command {
             Command::Check => &["PROOF"],
             Command::Reproof => &["PROOF", "OUTPUT"],
             Command::Decode => &["MOVIE", "OUT"],
+            Command::Rescue => &["FILE", "OUT"],
         }
     }
 
@@ -143,7 +151,7 @@ impl Command {
     {
         match self {
             Command::Plan | Command::List | Command::Check => &[1],
-            Command::Reproof | Command::Decode => &[2],
+            Command::Reproof | Command::Decode | Command::Rescue => &[2],
             Command::Encode => &[3],
         }
     }
@@ -162,7 +170,7 @@ impl Command {
     {
         match self {
             Command::Plan | Command::List | Command::Check => operands == 1,
-            Command::Reproof | Command::Decode => operands == 2,
+            Command::Reproof | Command::Decode | Command::Rescue => operands == 2,
             Command::Encode => operands == 3,
         }
     }
@@ -185,6 +193,7 @@ impl Command {
                 OptionName::Proof,
             ],
             Command::Decode => &[OptionName::Depth, OptionName::Form],
+            Command::Rescue => &[OptionName::Rate],
         }
     }
 
@@ -193,8 +202,12 @@ impl Command {
         ensures { (v : Values) → lacks_option self v ≡ lacks result v }
     {
         match self {
-            Command::Plan | Command::List | Command::Check | Command::Reproof | Command::Decode =>
-                None,
+            Command::Plan
+            | Command::List
+            | Command::Check
+            | Command::Reproof
+            | Command::Decode
+            | Command::Rescue => None,
             Command::Encode => Some(OptionName::Budget),
         }
     }
@@ -217,8 +230,12 @@ impl Command {
         ensures { result ≡ lacks_option self values.now }
     {
         match self {
-            Command::Plan | Command::List | Command::Check | Command::Reproof | Command::Decode =>
-                false,
+            Command::Plan
+            | Command::List
+            | Command::Check
+            | Command::Reproof
+            | Command::Decode
+            | Command::Rescue => false,
             Command::Encode => values.budget.is_none(),
         }
     }
@@ -229,8 +246,12 @@ impl Command {
         ensures { result ≡ clash self values.now }
     {
         match self {
-            Command::Plan | Command::List | Command::Check | Command::Reproof | Command::Decode =>
-                false,
+            Command::Plan
+            | Command::List
+            | Command::Check
+            | Command::Reproof
+            | Command::Decode
+            | Command::Rescue => false,
             Command::Encode => {
                 let words = encode_words(values);
                 words.hi < words.lo
@@ -252,6 +273,7 @@ impl Command {
             Command::Check => Task::Check,
             Command::Reproof => Task::Reproof,
             Command::Decode => Task::Decode(decode_words(values)),
+            Command::Rescue => Task::Rescue(values.rate.unwrap_or(Rate { num: 25, den: 1 })),
         }
     }
 
@@ -283,7 +305,7 @@ impl Command {
                 cert: operands.get(1).copied(),
                 ..Names::none()
             },
-            Command::Decode => Names {
+            Command::Decode | Command::Rescue => Names {
                 movie: operands.first().copied(),
                 out: operands.get(1).copied(),
                 ..Names::none()
@@ -304,6 +326,7 @@ impl Task {
             Task::Check => Command::Check,
             Task::Reproof => Command::Reproof,
             Task::Decode(_) => Command::Decode,
+            Task::Rescue(_) => Command::Rescue,
         }
     }
 
@@ -313,7 +336,12 @@ impl Task {
     {
         match self {
             Task::Decode(_) => true,
-            Task::Plan | Task::Encode(_) | Task::List | Task::Check | Task::Reproof => false,
+            Task::Plan
+            | Task::Encode(_)
+            | Task::List
+            | Task::Check
+            | Task::Reproof
+            | Task::Rescue(_) => false,
         }
     }
 }
