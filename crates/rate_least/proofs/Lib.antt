@@ -1,0 +1,14 @@
+pub mod Orders
+pub mod Vectors
+pub mod Covered
+pub mod Stepped
+pub mod Sound
+pub mod Judged
+pub mod InTurn
+pub mod ReadAgain
+pub mod Written
+pub mod Fronts
+pub mod Grown
+pub mod Exists
+pub mod Merges
+pub mod Curved

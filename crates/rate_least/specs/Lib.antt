@@ -1,0 +1,12 @@
+pub mod Pairs
+pub mod Least
+pub mod Records
+pub mod Covering
+pub mod Printed
+pub mod Files
+pub mod Layers
+pub mod Merge
+pub mod Curve
+pub mod Ends
+pub mod Runs
+pub mod Laws

@@ -1,0 +1,43 @@
+//! Least errors of slices.
+
+ghost use Rattle.std.specs.Prelude.{◌≡◌, ◌*◌, ◌<◌, ◌≤◌, ◌^◌, length};
+ghost use Rattle.std.specs.List.{All};
+ghost use Rattle.rate_table.specs.Table.{IsSlice, IsEntry, least};
+ghost use Rattle.rate_least.specs.Pairs.{least_error};
+
+use rate_table::{Entry, FrameTable, SliceTable};
+
+/// The least error of these entries; there is at least one.
+pub fn least_error_of(entries: &[Entry]) -> u64
+    requires some { 1 ≤ length entries.now }
+    requires limits { All IsEntry entries.now }
+    ensures value { result ≡ least (λ x. x.error) entries.now }
+    ensures small { result < 2 ^ 43 }
+{
+    let mut least = entries[0].error;
+    for entry in entries {
+        least = least.min(entry.error);
+    }
+    least
+}
+
+fn errors_of(slices: &[SliceTable]) -> u64
+    requires few { length slices.now ≤ 131070 }
+    requires each { All IsSlice slices.now }
+    ensures value { result ≡ least_error slices.now }
+    ensures small { result ≤ 2 ^ 43 * length slices.now }
+{
+    let mut errors = 0;
+    for slice in slices {
+        errors += least_error_of(slice.entries());
+    }
+    errors
+}
+
+/// The least errors of a table's slices together, below 2^61. No memory is taken.
+pub fn least_errors(table: &FrameTable) -> u64
+    ensures value { result ≡ least_error table.now.slices }
+    ensures small { result < 2 ^ 61 }
+{
+    errors_of(table.slices.as_slice())
+}

@@ -1,0 +1,29 @@
+//! Certificates that no choice under a cap on the error is smaller, and all undominated pairs.
+#![tactic(auto)]
+
+mod bound;
+mod check;
+mod covering;
+mod end;
+mod errors;
+mod laws;
+mod layers;
+mod merge;
+mod outcome;
+mod points;
+mod reading;
+mod runs;
+mod steps;
+#[cfg(test)]
+mod tests;
+mod texts;
+mod writing;
+
+pub use check::check_least;
+pub use end::LeastEnd;
+pub use laws::{certificate_is_read_again, curve_is_one, good_is_true};
+pub use outcome::{LeastOutcome, LeastProof, WidePair};
+pub use points::curve;
+pub use reading::read_least;
+pub use runs::{checkleast_run, curve_run};
+pub use writing::write_least;
