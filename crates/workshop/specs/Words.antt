@@ -30,7 +30,7 @@ use Rattle.workshop.specs.declared.status.UsageKind.TheVariants.{NoCommand, Unkn
 -- ---- the table of commands
 
 abbrev pub commands : List Command
-commands = command.Plan ∷ command.Encode ∷ command.List ∷ command.Check ∷ command.Reproof ∷ command.Decode ∷ command.Rescue ∷ []
+commands = command.Plan ∷ command.Encode ∷ command.List ∷ command.Check ∷ command.Reproof ∷ command.Decode ∷ command.Rescue ∷ command.CheckLeast ∷ command.Curve ∷ []
 
 -- the word of each command
 abbrev pub name_of : Command → List ℕ
@@ -41,6 +41,8 @@ name_of command.Check = codes "check"
 name_of command.Reproof = codes "reproof"
 name_of command.Decode = codes "decode"
 name_of command.Rescue = codes "rescue"
+name_of command.CheckLeast = codes "checkleast"
+name_of command.Curve = codes "curve"
 
 -- how many operands each command may have, rising
 abbrev pub operands_of : Command → List ℕ
@@ -51,6 +53,8 @@ operands_of command.Check = 1 ∷ []
 operands_of command.Reproof = 2 ∷ []
 operands_of command.Decode = 2 ∷ []
 operands_of command.Rescue = 2 ∷ []
+operands_of command.CheckLeast = 1 ∷ []
+operands_of command.Curve = 1 ∷ []
 
 -- the options of each command
 abbrev pub options_of : Command → List OptionName
@@ -61,6 +65,8 @@ options_of command.Check = []
 options_of command.Reproof = []
 options_of command.Decode = option.Depth ∷ option.Form ∷ []
 options_of command.Rescue = option.Rate ∷ []
+options_of command.CheckLeast = []
+options_of command.Curve = []
 
 -- an option is wanting that the command needs
 abbrev pub lacks_option : Command → Values → Bool
@@ -71,6 +77,8 @@ lacks_option command.Check v = false
 lacks_option command.Reproof v = false
 lacks_option command.Decode v = false
 lacks_option command.Rescue v = false
+lacks_option command.CheckLeast v = false
+lacks_option command.Curve v = false
 
 -- this option is wanting, if there is one
 abbrev pub lacks : Option OptionName → Values → Bool
@@ -81,7 +89,8 @@ abbrev pub no_names : Names
 no_names = record { pictures = None; proof = None; movie = None; out = None; cert = None }
 
 -- The ports that the operands name, by the numbers of their words: `plan TABLE`, `encode PICTURES MOVIE PROOF`, `list MOVIE`,
--- `check PROOF`, `reproof PROOF OUTPUT`, `decode MOVIE OUT`, `rescue FILE OUT`.
+-- `check PROOF`, `reproof PROOF OUTPUT`, `decode MOVIE OUT`, `rescue FILE OUT`,
+-- `checkleast CERT`, `curve TABLE`.
 abbrev pub ports_of : Command → List ℕ → Names
 ports_of command.Plan operands = record no_names { proof = slice_get operands 0 }
 ports_of command.Encode operands = record no_names { pictures = slice_get operands 0; out = slice_get operands 1; cert = slice_get operands 2 }
@@ -90,6 +99,8 @@ ports_of command.Check operands = record no_names { proof = slice_get operands 0
 ports_of command.Reproof operands = record no_names { proof = slice_get operands 0; cert = slice_get operands 1 }
 ports_of command.Decode operands = record no_names { movie = slice_get operands 0; out = slice_get operands 1 }
 ports_of command.Rescue operands = record no_names { movie = slice_get operands 0; out = slice_get operands 1 }
+ports_of command.CheckLeast operands = record no_names { proof = slice_get operands 0 }
+ports_of command.Curve operands = record no_names { proof = slice_get operands 0 }
 
 -- which ports a run uses: it reads `pictures`, `proof` and `movie`, and writes `out`, `cert` and `text`
 pub record Ports : Type 0 where
@@ -111,6 +122,8 @@ uses_of task.Check = record no_ports { proof = true; text = true }
 uses_of task.Reproof = record no_ports { proof = true; cert = true; text = true }
 uses_of (task.Decode w) = record no_ports { movie = true; out = true; text = true }
 uses_of (task.Rescue rate) = record no_ports { movie = true; out = true; text = true }
+uses_of task.CheckLeast = record no_ports { proof = true; text = true }
+uses_of task.Curve = record no_ports { proof = true; text = true }
 
 -- ---- the values of options, and what stands for one that is absent
 
@@ -161,6 +174,8 @@ clash command.Check v = false
 clash command.Reproof v = false
 clash command.Decode v = false
 clash command.Rescue v = false
+clash command.CheckLeast v = false
+clash command.Curve v = false
 
 -- what a command is to do
 abbrev pub task_of : Command → Values → Task
@@ -171,6 +186,8 @@ task_of command.Check v = task.Check
 task_of command.Reproof v = task.Reproof
 task_of command.Decode v = task.Decode (decode_words v)
 task_of command.Rescue v = task.Rescue (unwrap_or v.rate usual_rate)
+task_of command.CheckLeast v = task.CheckLeast
+task_of command.Curve v = task.Curve
 
 -- ---- the walk over the words
 
@@ -283,6 +300,8 @@ command_of task.Check = command.Check
 command_of task.Reproof = command.Reproof
 command_of (task.Decode w) = command.Decode
 command_of (task.Rescue rate) = command.Rescue
+command_of task.CheckLeast = command.CheckLeast
+command_of task.Curve = command.Curve
 
 -- the ports that the run uses: none where the words have a fault
 abbrev pub uses_in : Said → Ports
@@ -340,3 +359,5 @@ IsTask task.Check = Unit {0}
 IsTask task.Reproof = Unit {0}
 IsTask (task.Decode w) = Unit {0}
 IsTask (task.Rescue rate) = IsRate (rate_of rate)
+IsTask task.CheckLeast = Unit {0}
+IsTask task.Curve = Unit {0}

@@ -77,6 +77,8 @@ fn purpose(command: Command) -> &'static str {
         Command::Reproof => "writes a proof again in version 2",
         Command::Decode => "writes the pictures of a movie",
         Command::Rescue => "makes a movie of the frames that stand in a file whose tables are lost",
+        Command::CheckLeast => "checks a certificate of a smallest choice under a cap on the error",
+        Command::Curve => "prints all pairs of size and error of a table of costs that no other is better than",
     }
 }
 

@@ -7,6 +7,7 @@ mod encode;
 mod files;
 mod help;
 mod input;
+mod least;
 mod listing;
 mod options;
 mod output;

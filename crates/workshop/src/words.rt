@@ -34,6 +34,10 @@ pub enum Command {
     Decode,
     /// `rescue FILE OUT` makes a movie of the frames that stand in a file.
     Rescue,
+    /// `checkleast CERT` checks a certificate of a smallest choice under a cap on the error.
+    CheckLeast,
+    /// `curve TABLE` prints all undominated pairs of size and error of a table file.
+    Curve,
 }
 
 /// What the words say of a run of `decode`.
@@ -73,6 +77,8 @@ pub enum Task {
     Decode(DecodeWords),
     /// At this rate.
     Rescue(Rate),
+    CheckLeast,
+    Curve,
 }
 
 /// What is to be done, with the numbers of the words that are operands.
@@ -96,6 +102,8 @@ impl Command {
             "reproof" => Some(Command::Reproof),
             "decode" => Some(Command::Decode),
             "rescue" => Some(Command::Rescue),
+            "checkleast" => Some(Command::CheckLeast),
+            "curve" => Some(Command::Curve),
             _ => None,
         }
     }
@@ -112,6 +120,8 @@ impl Command {
             Command::Reproof,
             Command::Decode,
             Command::Rescue,
+            Command::CheckLeast,
+            Command::Curve,
         ]
     }
 
@@ -127,6 +137,8 @@ impl Command {
             Command::Reproof => "reproof",
             Command::Decode => "decode",
             Command::Rescue => "rescue",
+            Command::CheckLeast => "checkleast",
+            Command::Curve => "curve",
         }
     }
 
@@ -135,13 +147,14 @@ impl Command {
         ensures { length result.now ≡ most_operands self }
     {
         match self {
-            Command::Plan => &["TABLE"],
+            Command::Plan | Command::Curve => &["TABLE"],
             Command::Encode => &["PICTURES", "MOVIE", "PROOF"],
             Command::List => &["MOVIE"],
             Command::Check => &["PROOF"],
             Command::Reproof => &["PROOF", "OUTPUT"],
             Command::Decode => &["MOVIE", "OUT"],
             Command::Rescue => &["FILE", "OUT"],
+            Command::CheckLeast => &["CERT"],
         }
     }
 
@@ -150,7 +163,11 @@ impl Command {
         ensures { result.now ≡ operands_of self }
     {
         match self {
-            Command::Plan | Command::List | Command::Check => &[1],
+            Command::Plan
+            | Command::List
+            | Command::Check
+            | Command::CheckLeast
+            | Command::Curve => &[1],
             Command::Reproof | Command::Decode | Command::Rescue => &[2],
             Command::Encode => &[3],
         }
@@ -169,7 +186,11 @@ impl Command {
         ensures { result ≡ takes self operands }
     {
         match self {
-            Command::Plan | Command::List | Command::Check => operands == 1,
+            Command::Plan
+            | Command::List
+            | Command::Check
+            | Command::CheckLeast
+            | Command::Curve => operands == 1,
             Command::Reproof | Command::Decode | Command::Rescue => operands == 2,
             Command::Encode => operands == 3,
         }
@@ -180,7 +201,12 @@ impl Command {
         ensures { result.now ≡ options_of self }
     {
         match self {
-            Command::Plan | Command::List | Command::Check | Command::Reproof => &[],
+            Command::Plan
+            | Command::List
+            | Command::Check
+            | Command::Reproof
+            | Command::CheckLeast
+            | Command::Curve => &[],
             Command::Encode => &[
                 OptionName::Budget,
                 OptionName::Lo,
@@ -207,7 +233,9 @@ impl Command {
             | Command::Check
             | Command::Reproof
             | Command::Decode
-            | Command::Rescue => None,
+            | Command::Rescue
+            | Command::CheckLeast
+            | Command::Curve => None,
             Command::Encode => Some(OptionName::Budget),
         }
     }
@@ -235,7 +263,9 @@ impl Command {
             | Command::Check
             | Command::Reproof
             | Command::Decode
-            | Command::Rescue => false,
+            | Command::Rescue
+            | Command::CheckLeast
+            | Command::Curve => false,
             Command::Encode => values.budget.is_none(),
         }
     }
@@ -251,7 +281,9 @@ impl Command {
             | Command::Check
             | Command::Reproof
             | Command::Decode
-            | Command::Rescue => false,
+            | Command::Rescue
+            | Command::CheckLeast
+            | Command::Curve => false,
             Command::Encode => {
                 let words = encode_words(values);
                 words.hi < words.lo
@@ -274,6 +306,8 @@ impl Command {
             Command::Reproof => Task::Reproof,
             Command::Decode => Task::Decode(decode_words(values)),
             Command::Rescue => Task::Rescue(values.rate.unwrap_or(Rate { num: 25, den: 1 })),
+            Command::CheckLeast => Task::CheckLeast,
+            Command::Curve => Task::Curve,
         }
     }
 
@@ -282,7 +316,7 @@ impl Command {
         ensures { result ≡ ports_of self operands.now }
     {
         match self {
-            Command::Plan => Names {
+            Command::Plan | Command::CheckLeast | Command::Curve => Names {
                 proof: operands.first().copied(),
                 ..Names::none()
             },
@@ -327,6 +361,8 @@ impl Task {
             Task::Reproof => Command::Reproof,
             Task::Decode(_) => Command::Decode,
             Task::Rescue(_) => Command::Rescue,
+            Task::CheckLeast => Command::CheckLeast,
+            Task::Curve => Command::Curve,
         }
     }
 
@@ -341,7 +377,9 @@ impl Task {
             | Task::List
             | Task::Check
             | Task::Reproof
-            | Task::Rescue(_) => false,
+            | Task::Rescue(_)
+            | Task::CheckLeast
+            | Task::Curve => false,
         }
     }
 }
