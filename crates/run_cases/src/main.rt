@@ -8,6 +8,7 @@
 //! - `failing COMMAND .. FILE`: how many of the first 100 calls of the port that is read, and of `text`, are told when they fail.
 //! - `whole WORD .. FILE`: a whole run where this file stands behind each port that is read: the exit status with its line, the
 //!   text, and what `out` and `cert` got, those of more than 600 bytes by their number and a hash.
+//! - `run WORD .. PICTURES PROOF MOVIE`: the same of a run where each port that is read has a file of its own.
 //! - `words WORD ..`: the files' names among these words, the exit status over empty files, and its line.
 //! - `line WORD ..`: the fault of these words, or a lone dash where they are in the grammar.
 //! - `places MOVIE`: where the samples of the movie lie.
@@ -32,6 +33,7 @@ fn answer(rt: &HostRuntime, line: &str) -> io::Result<String> {
         "failing" => runs::failing_told(rt, rest),
         "plan" | "list" | "decode" => runs::told(rt, line),
         "whole" => runs::whole_told(rt, rest),
+        "run" => runs::run_told(rt, rest),
         "places" => movies::places_told(rt, rest),
         "write" => movies::bytes_told(rt, rest),
         "written" => movies::written_told(rt, rest),

@@ -115,13 +115,32 @@ fn store_of(rt: &HostRuntime, file: &[u8], ports: &Ports) -> io::Result<MemStore
     Ok(MemStore::new(bytes, ports.step, calls))
 }
 
-/// The ports of a run where this file stands behind each port that a command may read.
-fn ports_over(rt: &HostRuntime, file: &[u8], ports: &Ports) -> io::Result<Behind>
+/// The files behind the ports that a command may read.
+#[derive(Clone, Copy)]
+struct Files<'a> {
+    pictures: &'a [u8],
+    proof: &'a [u8],
+    movie: &'a [u8],
+}
+
+impl<'a> Files<'a> {
+    /// This one behind each.
+    fn all(file: &'a [u8]) -> Files<'a> {
+        Files {
+            pictures: file,
+            proof: file,
+            movie: file,
+        }
+    }
+}
+
+/// The ports of a run over these files.
+fn ports_over(rt: &HostRuntime, files: &Files<'_>, ports: &Ports) -> io::Result<Behind>
     requires { 1 ≤ ports.now.step }
 {
-    let pictures = source_of(rt, file, ports)?;
-    let proof = source_of(rt, file, ports)?;
-    let movie = store_of(rt, file, ports)?;
+    let pictures = source_of(rt, files.pictures, ports)?;
+    let proof = source_of(rt, files.proof, ports)?;
+    let movie = store_of(rt, files.movie, ports)?;
     let out = sink_of(rt, ports.step, None)?;
     let cert = sink_of(rt, ports.step, None)?;
     let text = sink_of(rt, ports.step, ports.writing)?;
@@ -146,11 +165,16 @@ fn held(rt: &HostRuntime, status: Status, behind: &Behind) -> io::Result<Answer>
     })
 }
 
-/// What the top call answers, where this file stands behind each port that a command may read.
-fn ran(rt: &HostRuntime, words: &[String], file: &[u8], ports: &Ports) -> io::Result<Answer>
+/// What the top call answers over these files.
+fn ran_over(
+    rt: &HostRuntime,
+    words: &[String],
+    files: &Files<'_>,
+    ports: &Ports,
+) -> io::Result<Answer>
     requires { 1 ≤ ports.now.step }
 {
-    let mut behind = ports_over(rt, file, ports)?;
+    let mut behind = ports_over(rt, files, ports)?;
     let status = answered(
         rt.alloc(),
         words,
@@ -162,6 +186,13 @@ fn ran(rt: &HostRuntime, words: &[String], file: &[u8], ports: &Ports) -> io::Re
         &mut behind.text,
     )?;
     held(rt, status, &behind)
+}
+
+/// What the top call answers, where this file stands behind each port that a command may read.
+fn ran(rt: &HostRuntime, words: &[String], file: &[u8], ports: &Ports) -> io::Result<Answer>
+    requires { 1 ≤ ports.now.step }
+{
+    ran_over(rt, words, &Files::all(file), ports)
 }
 
 /// How a run ended, on one line: the text with `\n` for each line feed, or the fault.
@@ -345,7 +376,12 @@ fn text_of(rt: &HostRuntime, text: &[u8]) -> io::Result<String> {
 }
 
 /// A whole run whose ports move so many bytes a call: the exit status with its line, the text, and what `out` and `cert` got.
-fn whole_of(rt: &HostRuntime, words: &[String], file: &[u8], step: usize) -> io::Result<String>
+fn whole_of(
+    rt: &HostRuntime,
+    words: &[String],
+    files: &Files<'_>,
+    step: usize,
+) -> io::Result<String>
     requires { 1 ≤ step }
 {
     let ports = Ports {
@@ -353,7 +389,7 @@ fn whole_of(rt: &HostRuntime, words: &[String], file: &[u8], step: usize) -> io:
         reading: None,
         writing: None,
     };
-    let answer = ran(rt, words, file, &ports)?;
+    let answer = ran_over(rt, words, files, &ports)?;
     let code = answer.status.code();
     let line = answer.status;
     let text = text_of(rt, &answer.text)?;
@@ -362,13 +398,30 @@ fn whole_of(rt: &HostRuntime, words: &[String], file: &[u8], step: usize) -> io:
     Ok(format!(in rt.alloc(); "{code} {line} | {text} | {out} | {cert}")?)
 }
 
-pub(crate) fn whole_told(rt: &HostRuntime, case: &str) -> io::Result<String> {
-    let (command, file) = case_of(rt, case)?;
+/// A whole run, whatever number of bytes a call moves.
+fn whole_over(rt: &HostRuntime, command: &str, files: &Files<'_>) -> io::Result<String> {
     let words = words_of(rt, command)?;
-    let answer = whole_of(rt, &words, &file, 4096)?;
-    let other = whole_of(rt, &words, &file, 3)?;
+    let answer = whole_of(rt, &words, files, 4096)?;
+    let other = whole_of(rt, &words, files, 3)?;
     if other != answer {
         return Ok(format!(in rt.alloc(); "{answer}, but in steps of 3 {other}")?);
     }
     Ok(answer)
+}
+
+pub(crate) fn whole_told(rt: &HostRuntime, case: &str) -> io::Result<String> {
+    let (command, file) = case_of(rt, case)?;
+    whole_over(rt, command, &Files::all(&file))
+}
+
+pub(crate) fn run_told(rt: &HostRuntime, case: &str) -> io::Result<String> {
+    let (rest, movie) = case_of(rt, case)?;
+    let (rest, proof) = case_of(rt, rest)?;
+    let (command, pictures) = case_of(rt, rest)?;
+    let files = Files {
+        pictures: &pictures,
+        proof: &proof,
+        movie: &movie,
+    };
+    whole_over(rt, command, &files)
 }

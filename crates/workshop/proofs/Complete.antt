@@ -35,6 +35,10 @@ pub run_uses : (t : Task) (said : Said) → IsRun t said → uses_in said ≡ us
 run_uses t (Ok x) e = ap uses_of e
 run_uses t (Err f) e = absurd e
 
+-- where no port that the run uses failed
+pub unfailed : (t : Task) (said : Said) (before now : Faults) → IsRun t said → NoPortFailed (uses_in said) before now → NoPortFailed (uses_of t) before now
+unfailed t said before now run none = subst (λ u. NoPortFailed u before now) (run_uses t said run) none
+
 pub check_completes : (said : Said) (status : Status) (before now : Faults) → IsRun task.Check said → NoPortFailed (uses_in said) before now
     → CountsFault before.proof now.proof (is_read_fault status) → CountsFault before.text now.text (is_write_fault status)
     → AnswersUnlessOutside status s.Done → (status ≡ s.Done) ⊎ (status ≡ s.NoMemory)

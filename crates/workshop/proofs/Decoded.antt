@@ -34,12 +34,8 @@ quiet x t v before now e f none =
     (λ r. n.movie (refl, r), λ r. n.out (refl, r), λ r. n.text (refl, r))
 
 abbrev words-in : DecodeWords → Task → DecodeWords
-words-in other task.Plan = other
-words-in other (task.Encode w) = other
-words-in other task.List = other
-words-in other task.Check = other
-words-in other task.Reproof = other
 words-in other (task.Decode w) = w
+words-in other _ = other
 
 -- the words are a run of `decode` with one list of values alone
 pub same-words : (x : Said) (t : Task × List ℕ) (v w : DecodeWords) → x ≡ Ok t → t.0 ≡ task.Decode v → IsDecode w x → v ≡ w

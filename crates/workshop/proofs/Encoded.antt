@@ -70,12 +70,8 @@ quiet x t v before now e f none =
     (λ r. n.pictures (refl, r), none-of (λ r. n.out (refl, r)) (λ r. n.cert (refl, r)) (λ r. n.text (refl, r)))
 
 abbrev words-in : EncodeWords → Task → EncodeWords
-words-in other task.Plan = other
 words-in other (task.Encode w) = w
-words-in other task.List = other
-words-in other task.Check = other
-words-in other task.Reproof = other
-words-in other (task.Decode w) = other
+words-in other _ = other
 
 -- the words are a run of `encode` with one list of values alone
 pub same-words : (x : Said) (t : Task × List ℕ) (v w : EncodeWords) → x ≡ Ok t → t.0 ≡ task.Encode v → IsEncode w x → v ≡ w

@@ -5,3 +5,4 @@ pub mod Checked
 pub mod Complete
 pub mod Reproofed
 pub mod Decoded
+pub mod Certified

@@ -6,12 +6,14 @@ use Rattle.pw_planes.specs.declared.kinds.Interlace.{Interlace}
 use Rattle.pw_planes.specs.declared.kinds.Interlace.TheVariants.{Progressive}
 use Rattle.pic_y4m.specs.declared.head.Head.{Head}
 use Rattle.pic_y4m.specs.HeadLine.{IsHead, is_interlaced}
+use Rattle.rescue_run.specs.Rescuing.{IsRate}
+use Rattle.workshop.specs.declared.options.Rate.{Rate}
 use Rattle.workshop.specs.declared.options.Values.{Values}
 use Rattle.workshop.specs.declared.words.Command.{Command}
 use Rattle.workshop.specs.declared.words.Command.TheVariants as command
 use Rattle.run_encode.specs.Groups.{AreWords}
-use Rattle.workshop.specs.Options.{AreValues, IsRawForm}
-use Rattle.workshop.specs.Words.{IsTask, task_of, clash, lacks_option, encode_words, with_mode, raw_in, has_odd_form}
+use Rattle.workshop.specs.Options.{AreValues, IsRawForm, rate_of}
+use Rattle.workshop.specs.Words.{IsTask, task_of, clash, lacks_option, encode_words, with_mode, raw_in, has_odd_form, usual_rate}
 
 -- what holds of a value and of what stands for one that is absent
 given : (P : ℕ → Type 0) (o : Option ℕ) (n : ℕ) → P n → IfSome o P → P (unwrap_or o n)
@@ -47,12 +49,19 @@ moded (Some f) mode e h = record {
   den = h.0.den;
 }
 
+rated : (o : Option Rate) → IfSome o (λ r. IsRate (rate_of r)) → IsRate (rate_of (unwrap_or o usual_rate))
+rated None absent = record { some_num = omega arith; num = omega arith; some_den = omega arith; den = omega arith }
+rated (Some r) h = h
+
 pub task_allowed : (c : Command) (v : Values) → AreValues v → lacks_option c v ≡ false → clash c v ≡ false → IsTask (task_of c v)
 task_allowed command.Plan v a l e = tt
 task_allowed command.List v a l e = tt
 task_allowed command.Check v a l e = tt
 task_allowed command.Reproof v a l e = tt
 task_allowed command.Decode v a l e = tt
+task_allowed command.Rescue v a l e = rated v.rate a.rate
+task_allowed command.CheckLeast v a l e = tt
+task_allowed command.Curve v a l e = tt
 task_allowed command.Encode v a l e =
     let three = or_parts _ _ e in
     let two = or_parts _ _ three.0 in

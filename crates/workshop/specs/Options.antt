@@ -17,6 +17,9 @@ use Rattle.pr_quant.specs.declared.weights.Matrix.{Matrix}
 use Rattle.pr_quant.specs.declared.weights.Matrix.TheVariants.{Flat, Steep}
 use Rattle.run_decode.specs.declared.job.Form.{Form}
 use Rattle.run_decode.specs.declared.job.Form.TheVariants.{Y4m, Raw}
+use Rattle.rescue_run.specs.declared.form.Rate as run
+use Rattle.rescue_run.specs.Rescuing.{IsRate}
+use Rattle.workshop.specs.declared.options.Rate.{Rate}
 use Rattle.workshop.specs.declared.options.OptionName.{OptionName}
 use Rattle.workshop.specs.declared.options.OptionName.TheVariants as option
 use Rattle.workshop.specs.declared.options.Values.{Values}
@@ -36,6 +39,7 @@ name_of_option option.Group = codes "group"
 name_of_option option.Proof = codes "proof"
 name_of_option option.Depth = codes "depth"
 name_of_option option.Form = codes "form"
+name_of_option option.Rate = codes "rate"
 
 -- ---- values. Numbers are decimal, and may have zeros in front; words are taken letter by letter.
 
@@ -69,6 +73,14 @@ alpha_of n = if n == 0 then Some Absent else (if n == 8 then Some Eight else (if
 unfoldable pub pair_within : ℕ → ℕ → ℕ → List ℕ → Option (ℕ × ℕ)
 pair_within byte most most' bytes = option_and_then (λ parts.
     option_and_then (λ a. option_and_then (λ b. Some (a, b)) (number_within 1 most' parts.1)) (number_within 1 most parts.0)) (cut byte bytes)
+
+-- a frame rate, `NUM/DEN`
+abbrev pub rate_in : List ℕ → Option Rate
+rate_in bytes = option_map (λ n. record { num = n.0; den = n.1 }) (pair_within 47 MAX_RATE_NUM MAX_RATE_DEN bytes)
+
+-- the same rate, as a run is told it
+abbrev pub rate_of : Rate → run.Rate
+rate_of r = record { num = r.num; den = r.den }
 
 -- progressive pictures of this size, of these kinds, and of this rate
 abbrev pub head_of : ℕ × ℕ → Chroma → Depth → AlphaKind → ℕ × ℕ → Head
@@ -113,7 +125,7 @@ raw_form bytes = do
 -- ---- the values that a command line gives
 
 abbrev pub no_values : Values
-no_values = record { budget = None; lo = None; hi = None; log2 = None; matrix = None; raw = None; interlace = None; group = None; proof = None; depth = None; form = None }
+no_values = record { budget = None; lo = None; hi = None; log2 = None; matrix = None; raw = None; interlace = None; group = None; proof = None; depth = None; form = None; rate = None }
 
 -- whether a value was given
 abbrev pub is_given : OptionName → Values → Bool
@@ -128,6 +140,7 @@ is_given option.Group v = is_some v.group
 is_given option.Proof v = is_some v.proof
 is_given option.Depth v = is_some v.depth
 is_given option.Form v = is_some v.form
+is_given option.Rate v = is_some v.rate
 
 -- the values with that of one option more; none where the bytes are no value of it
 abbrev pub with_value : OptionName → List ℕ → Values → Option Values
@@ -142,6 +155,7 @@ with_value option.Group bytes v = option_map (λ n. record v { group = Some n })
 with_value option.Proof bytes v = option_map (λ n. record v { proof = Some n }) (number_within 1 2 bytes)
 with_value option.Depth bytes v = option_map (λ d. record v { depth = Some d }) (depth_in bytes)
 with_value option.Form bytes v = option_map (λ f. record v { form = Some f }) (form_named bytes)
+with_value option.Rate bytes v = option_map (λ r. record v { rate = Some r }) (rate_in bytes)
 
 -- a form of progressive pictures within the limits
 abbrev pub IsRawForm : Head → Type 0
@@ -156,3 +170,4 @@ pub record AreValues (v : Values) : Type 0 where
   pub raw : IfSome v.raw IsRawForm
   pub group : IfSome v.group (λ n. (1 ≤ n) × (n ≤ 8))
   pub proof : IfSome v.proof (λ n. (1 ≤ n) × (n ≤ 2))
+  pub rate : IfSome v.rate (λ r. IsRate (rate_of r))

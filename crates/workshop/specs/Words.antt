@@ -10,6 +10,7 @@ use Rattle.pr_quant.specs.declared.weights.Matrix.TheVariants.{Flat}
 use Rattle.run_encode.specs.declared.job.EncodeWords.{EncodeWords}
 use Rattle.run_encode.specs.Groups.{AreWords}
 use Rattle.run_decode.specs.declared.job.Form.TheVariants.{Y4m}
+use Rattle.rescue_run.specs.Rescuing.{IsRate}
 use Rattle.workshop.specs.declared.words.Command.{Command}
 use Rattle.workshop.specs.declared.words.Command.TheVariants as command
 use Rattle.workshop.specs.declared.words.Task.{Task}
@@ -20,15 +21,16 @@ use Rattle.workshop.specs.declared.words.BadWords.{BadWords}
 use Rattle.workshop.specs.declared.words.Settings.{Settings}
 use Rattle.workshop.specs.declared.options.OptionName.{OptionName}
 use Rattle.workshop.specs.declared.options.OptionName.TheVariants as option
+use Rattle.workshop.specs.declared.options.Rate.{Rate}
 use Rattle.workshop.specs.declared.options.Values.{Values}
-use Rattle.workshop.specs.Options.{name_of_option, cut, is_given, with_value, no_values}
+use Rattle.workshop.specs.Options.{name_of_option, cut, is_given, with_value, no_values, rate_of}
 use Rattle.workshop.specs.declared.status.UsageKind.{UsageKind}
 use Rattle.workshop.specs.declared.status.UsageKind.TheVariants.{NoCommand, UnknownCommand, UnknownOption, RepeatedOption, BadValue, ExtraOperand, MissingOperand, MissingOption, Conflict}
 
 -- ---- the table of commands
 
 abbrev pub commands : List Command
-commands = command.Plan ∷ command.Encode ∷ command.List ∷ command.Check ∷ command.Reproof ∷ command.Decode ∷ []
+commands = command.Plan ∷ command.Encode ∷ command.List ∷ command.Check ∷ command.Reproof ∷ command.Decode ∷ command.Rescue ∷ command.CheckLeast ∷ command.Curve ∷ []
 
 -- the word of each command
 abbrev pub name_of : Command → List ℕ
@@ -38,6 +40,9 @@ name_of command.List = codes "list"
 name_of command.Check = codes "check"
 name_of command.Reproof = codes "reproof"
 name_of command.Decode = codes "decode"
+name_of command.Rescue = codes "rescue"
+name_of command.CheckLeast = codes "checkleast"
+name_of command.Curve = codes "curve"
 
 -- how many operands each command may have, rising
 abbrev pub operands_of : Command → List ℕ
@@ -47,6 +52,9 @@ operands_of command.List = 1 ∷ []
 operands_of command.Check = 1 ∷ []
 operands_of command.Reproof = 2 ∷ []
 operands_of command.Decode = 2 ∷ []
+operands_of command.Rescue = 2 ∷ []
+operands_of command.CheckLeast = 1 ∷ []
+operands_of command.Curve = 1 ∷ []
 
 -- the options of each command
 abbrev pub options_of : Command → List OptionName
@@ -56,6 +64,9 @@ options_of command.List = []
 options_of command.Check = []
 options_of command.Reproof = []
 options_of command.Decode = option.Depth ∷ option.Form ∷ []
+options_of command.Rescue = option.Rate ∷ []
+options_of command.CheckLeast = []
+options_of command.Curve = []
 
 -- an option is wanting that the command needs
 abbrev pub lacks_option : Command → Values → Bool
@@ -65,6 +76,9 @@ lacks_option command.List v = false
 lacks_option command.Check v = false
 lacks_option command.Reproof v = false
 lacks_option command.Decode v = false
+lacks_option command.Rescue v = false
+lacks_option command.CheckLeast v = false
+lacks_option command.Curve v = false
 
 -- this option is wanting, if there is one
 abbrev pub lacks : Option OptionName → Values → Bool
@@ -75,7 +89,8 @@ abbrev pub no_names : Names
 no_names = record { pictures = None; proof = None; movie = None; out = None; cert = None }
 
 -- The ports that the operands name, by the numbers of their words: `plan TABLE`, `encode PICTURES MOVIE PROOF`, `list MOVIE`,
--- `check PROOF`, `reproof PROOF OUTPUT`, `decode MOVIE OUT`.
+-- `check PROOF`, `reproof PROOF OUTPUT`, `decode MOVIE OUT`, `rescue FILE OUT`,
+-- `checkleast CERT`, `curve TABLE`.
 abbrev pub ports_of : Command → List ℕ → Names
 ports_of command.Plan operands = record no_names { proof = slice_get operands 0 }
 ports_of command.Encode operands = record no_names { pictures = slice_get operands 0; out = slice_get operands 1; cert = slice_get operands 2 }
@@ -83,6 +98,9 @@ ports_of command.List operands = record no_names { movie = slice_get operands 0 
 ports_of command.Check operands = record no_names { proof = slice_get operands 0 }
 ports_of command.Reproof operands = record no_names { proof = slice_get operands 0; cert = slice_get operands 1 }
 ports_of command.Decode operands = record no_names { movie = slice_get operands 0; out = slice_get operands 1 }
+ports_of command.Rescue operands = record no_names { movie = slice_get operands 0; out = slice_get operands 1 }
+ports_of command.CheckLeast operands = record no_names { proof = slice_get operands 0 }
+ports_of command.Curve operands = record no_names { proof = slice_get operands 0 }
 
 -- which ports a run uses: it reads `pictures`, `proof` and `movie`, and writes `out`, `cert` and `text`
 pub record Ports : Type 0 where
@@ -103,6 +121,9 @@ uses_of task.List = record no_ports { movie = true; text = true }
 uses_of task.Check = record no_ports { proof = true; text = true }
 uses_of task.Reproof = record no_ports { proof = true; cert = true; text = true }
 uses_of (task.Decode w) = record no_ports { movie = true; out = true; text = true }
+uses_of (task.Rescue rate) = record no_ports { movie = true; out = true; text = true }
+uses_of task.CheckLeast = record no_ports { proof = true; text = true }
+uses_of task.Curve = record no_ports { proof = true; text = true }
 
 -- ---- the values of options, and what stands for one that is absent
 
@@ -128,6 +149,10 @@ encode_words v = record {
 abbrev pub decode_words : Values → DecodeWords
 decode_words v = record { depth = unwrap_or v.depth D10; form = unwrap_or v.form Y4m }
 
+-- 25 frames a second
+abbrev pub usual_rate : Rate
+usual_rate = record { num = 25; den = 1 }
+
 -- interlaced frames of an odd number of rows
 abbrev pub is_odd_form : Head → Bool
 is_odd_form h = is_interlaced h.interlace && (h.height % 2 == 1)
@@ -148,6 +173,9 @@ clash command.List v = false
 clash command.Check v = false
 clash command.Reproof v = false
 clash command.Decode v = false
+clash command.Rescue v = false
+clash command.CheckLeast v = false
+clash command.Curve v = false
 
 -- what a command is to do
 abbrev pub task_of : Command → Values → Task
@@ -157,6 +185,9 @@ task_of command.List v = task.List
 task_of command.Check v = task.Check
 task_of command.Reproof v = task.Reproof
 task_of command.Decode v = task.Decode (decode_words v)
+task_of command.Rescue v = task.Rescue (unwrap_or v.rate usual_rate)
+task_of command.CheckLeast v = task.CheckLeast
+task_of command.Curve v = task.Curve
 
 -- ---- the walk over the words
 
@@ -258,6 +289,9 @@ IsEncode w s = IsRun (task.Encode w) s
 abbrev pub IsDecode : DecodeWords → Said → Type 0
 IsDecode w s = IsRun (task.Decode w) s
 
+abbrev pub IsRescue : Rate → Said → Type 0
+IsRescue rate s = IsRun (task.Rescue rate) s
+
 abbrev pub command_of : Task → Command
 command_of task.Plan = command.Plan
 command_of (task.Encode w) = command.Encode
@@ -265,6 +299,9 @@ command_of task.List = command.List
 command_of task.Check = command.Check
 command_of task.Reproof = command.Reproof
 command_of (task.Decode w) = command.Decode
+command_of (task.Rescue rate) = command.Rescue
+command_of task.CheckLeast = command.CheckLeast
+command_of task.Curve = command.Curve
 
 -- the ports that the run uses: none where the words have a fault
 abbrev pub uses_in : Said → Ports
@@ -321,3 +358,6 @@ IsTask task.List = Unit {0}
 IsTask task.Check = Unit {0}
 IsTask task.Reproof = Unit {0}
 IsTask (task.Decode w) = Unit {0}
+IsTask (task.Rescue rate) = IsRate (rate_of rate)
+IsTask task.CheckLeast = Unit {0}
+IsTask task.Curve = Unit {0}

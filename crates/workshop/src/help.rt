@@ -45,6 +45,7 @@ fn form(option: OptionName) -> &'static str {
         OptionName::Proof => "1|2",
         OptionName::Depth => "8|10|12",
         OptionName::Form => "y4m|raw",
+        OptionName::Rate => "NUM/DEN",
     }
 }
 
@@ -63,6 +64,7 @@ fn meaning(option: OptionName) -> &'static str {
         OptionName::Proof => "the version of the proof file (2 if absent)",
         OptionName::Depth => "bits of a sample that is written (10 if absent)",
         OptionName::Form => "how pictures are written (y4m if absent)",
+        OptionName::Rate => "frames in seconds, up to 1000000/4000 (25/1 if absent)",
     }
 }
 
@@ -76,6 +78,9 @@ fn purpose(command: Command) -> &'static str {
         Command::Check => "checks a proof",
         Command::Reproof => "writes a proof again in version 2",
         Command::Decode => "writes the pictures of a movie",
+        Command::Rescue => "makes a movie of the frames that stand in a file whose tables are lost",
+        Command::CheckLeast => "checks a certificate of a smallest choice under a cap on the error",
+        Command::Curve => "prints all pairs of size and error of a table of costs that no other is better than",
     }
 }
 

@@ -7,6 +7,7 @@ mod encode;
 mod files;
 mod help;
 mod input;
+mod least;
 mod listing;
 mod options;
 mod output;
@@ -14,6 +15,7 @@ mod plan;
 mod process;
 mod raw_form;
 mod reproofing;
+mod rescuing;
 mod status;
 mod store;
 #[cfg(test)]
@@ -23,6 +25,7 @@ mod words;
 
 pub use files::Target;
 pub use input::InputPort;
+pub use options::Rate;
 pub use output::OutputPort;
 pub use process::{exit_code, program, run_alone, told, unread, words_of};
 pub use status::{Status, UsageKind};

@@ -3,7 +3,7 @@
 ghost use Rattle.std.specs.Prelude.{◌≡◌, ◌≤◌, ◌<◌, IfSome};
 ghost use Rattle.workshop.specs.Options.{name_of_option, matrix_named, interlace_named, form_named, no_values, is_given, with_value, AreValues};
 
-use crate::raw_form::{depth_in, number_within, raw_form};
+use crate::raw_form::{depth_in, number_within, rate_in, raw_form};
 use pic_y4m::Head;
 use pr_quant::Matrix;
 use pw_planes::{Depth, Interlace};
@@ -14,6 +14,15 @@ pub(crate) const MAX_BUDGET: u32 = 2_147_483_647;
 
 /// The greatest quantisation index.
 const MAX_INDEX: u64 = 224;
+
+/// A frame rate: so many frames in so many seconds.
+#[derive(Clone, Copy, Debug, PartialEq, Eq)]
+pub struct Rate {
+    /// The numerator, 1 to 1,000,000.
+    pub num: u32,
+    /// The denominator, 1 to 4,000.
+    pub den: u32,
+}
 
 /// An option of a command.
 #[derive(Clone, Copy, Debug, PartialEq, Eq)]
@@ -29,6 +38,7 @@ pub(crate) enum OptionName {
     Proof,
     Depth,
     Form,
+    Rate,
 }
 
 impl OptionName {
@@ -48,6 +58,7 @@ impl OptionName {
             OptionName::Proof => "proof",
             OptionName::Depth => "depth",
             OptionName::Form => "form",
+            OptionName::Rate => "rate",
         }
     }
 
@@ -82,6 +93,8 @@ pub(crate) struct Values {
     pub(crate) depth: Option<Depth>,
     /// How pictures are written.
     pub(crate) form: Option<Form>,
+    /// The rate of frames that are rescued.
+    pub(crate) rate: Option<Rate>,
 }
 
 /// The matrix of this name.
@@ -135,6 +148,7 @@ impl Values {
             proof: None,
             depth: None,
             form: None,
+            rate: None,
         }
     }
 
@@ -154,6 +168,7 @@ impl Values {
             OptionName::Proof => self.proof.is_some(),
             OptionName::Depth => self.depth.is_some(),
             OptionName::Form => self.form.is_some(),
+            OptionName::Rate => self.rate.is_some(),
         }
     }
 
@@ -178,6 +193,7 @@ impl Values {
             OptionName::Proof => values.proof = Some(number_within(bytes, 1, 2)? as u8),
             OptionName::Depth => values.depth = Some(depth_in(bytes)?),
             OptionName::Form => values.form = Some(form_named(bytes)?),
+            OptionName::Rate => values.rate = Some(rate_in(bytes)?),
         }
         Some(values)
     }

@@ -1,9 +1,11 @@
-//! Numbers of options, and the form of raw planar pictures.
+//! Numbers of options, frame rates, and the form of raw planar pictures.
 
 ghost use Rattle.std.specs.Prelude.{◌≡◌, ◌≤◌, ◌<◌, ◌==◌, IfSome, option_map, length, position};
 ghost use Rattle.pic_y4m.specs.Values.{number_within};
-ghost use Rattle.workshop.specs.Options.{cut, pair_within, chroma_in, depth_in, alpha_in, raw_form, IsRawForm};
+ghost use Rattle.rescue_run.specs.Rescuing.{IsRate};
+ghost use Rattle.workshop.specs.Options.{cut, pair_within, chroma_in, depth_in, alpha_in, rate_in, rate_of, raw_form, IsRawForm};
 
+use crate::options::Rate;
 use pic_y4m::{Head, MAX_RATE_DEN, MAX_RATE_NUM};
 use pw_planes::{AlphaKind, Chroma, Depth, Interlace, MAX_HEIGHT, MAX_WIDTH};
 use pw_text::read_decimal;
@@ -45,6 +47,18 @@ fn pair_within(bytes: &[u8], byte: u8, most: u64, most_behind: u64) -> Option<(u
     let first = number_within(front, 1, most)?;
     let second = number_within(behind, 1, most_behind)?;
     Some((first, second))
+}
+
+/// A frame rate, `NUM/DEN`.
+pub(crate) fn rate_in(bytes: &[u8]) -> Option<Rate>
+    ensures value { result ≡ rate_in bytes.now }
+    ensures limits { IfSome result (λ r. IsRate (rate_of r)) }
+{
+    let (num, den) = pair_within(bytes, b'/', u64::from(MAX_RATE_NUM), u64::from(MAX_RATE_DEN))?;
+    Some(Rate {
+        num: num as u32,
+        den: den as u32,
+    })
 }
 
 /// How chroma is sampled, by its number.

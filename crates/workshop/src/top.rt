@@ -7,7 +7,7 @@ ghost use Rattle.pw_outside.specs.Reading.{Told};
 ghost use Rattle.rate_table.specs.Reading.{tabled};
 ghost use Rattle.workshop.specs.Status.{is_done, is_read_fault, is_settled, is_write_fault, has_written, usage_of};
 ghost use Rattle.workshop.specs.declared.words.Task.TheVariants as task;
-ghost use Rattle.workshop.specs.Words.{said, usage_fault, IsRun, IsEncode, IsDecode, tells_monitors, uses_in, reads_pictures, reads_proof, reads_movie, writes_out, writes_cert, writes_text};
+ghost use Rattle.workshop.specs.Words.{said, usage_fault, IsRun, IsEncode, IsDecode, IsRescue, tells_monitors, uses_in, reads_pictures, reads_proof, reads_movie, writes_out, writes_cert, writes_text};
 ghost use Rattle.workshop.specs.Faults.{faults, CountsReads, CountsWrites, NoPortFailed, Settles};
 ghost use Rattle.pw_outside.specs.Writing.{sink_state};
 ghost use Rattle.qt_movie.specs.Movie.{movie_in};
@@ -25,13 +25,22 @@ ghost use Rattle.run_decode.specs.Running.{world};
 ghost use Rattle.run_decode.specs.Laws.{WritesFrontsOf};
 ghost use Rattle.workshop.specs.declared.words.DecodeWords.{DecodeWords};
 ghost use Rattle.workshop.specs.Decoding.{AnswersDecode, CompletesDecode};
+ghost use Rattle.rescue_run.specs.Rescuing.{world as sinks};
+ghost use Rattle.workshop.specs.declared.options.Rate.{Rate};
+ghost use Rattle.workshop.specs.Rescuing.{AnswersRescue};
+ghost use Rattle.rate_least.specs.Files.{certified};
+ghost use Rattle.rate_least.specs.Ends.{PrintsLines};
+ghost use Rattle.rate_least.specs.Runs.{AnswersCheck as AnswersCertificate, AnswersCurve, SaysTrue, yes_text, PrintsText, IsCurveText};
+ghost use Rattle.workshop.specs.Least.{Ended, CompletesCheckLeast, CompletesCurve};
 
 use crate::checking::check;
 use crate::decode::decode;
 use crate::encode::encode;
+use crate::least::{check_least, curve};
 use crate::listing::list;
 use crate::plan::plan;
 use crate::reproofing::reproof;
+use crate::rescuing::rescue;
 use crate::status::Status;
 use crate::words::{Task, settings_of};
 use monitors::Monitor;
@@ -54,6 +63,12 @@ use std::alloc::Global;
 ///   `cert`, and a line with the number of records to `text`.
 /// - `decode MOVIE OUT` reads a QuickTime movie through `movie`, writes the pictures of its first track of ProRes to `out`,
 ///   tells each monitor of each picture, and writes their number and the monitors' reports to `text`.
+/// - `rescue FILE OUT` looks through `movie` for frames of ProRes, wherever they stand, and writes a movie of those of the form
+///   of the first to `out`, and a line for each with its place to `text`.
+/// - `checkleast CERT` reads a certificate of a smallest choice through `proof` to its end, checks it, and writes the line `yes` to
+///   `text`.
+/// - `curve TABLE` reads a table file through `proof` to its end, and writes a line for each undominated pair of size and error to
+///   `text`.
 #[tactic(auto, using(run_look::proofs::Texts::none_extends))]
 pub fn workshop<S: ByteSource, M: ByteStore, K: ByteSink>(
     alloc: Global,
@@ -149,6 +164,7 @@ pub fn workshop<S: ByteSource, M: ByteStore, K: ByteSink>(
     // other answer nothing.
     ensures check_text { Told (S.left proof.old) (λ bytes. IsRun task.Check (said words.now) →
         PrintsChecked bytes result (sink_state (K.held text.old) (K.taken text.old)) (sink_state (K.held text.new) (K.taken text.new))) }
+    ensures check_end { IsRun task.Check (said words.now) → OnTrue (is_done result) (IsAtEnd (S.left proof.new)) }
     // Where no port failed, a proof without a fault whose records are all good is Done, unless memory runs out.
     ensures check_complete { Told (S.left proof.old) (λ bytes. IsRun task.Check (said words.now)
         → NoPortFailed (uses_in (said words.now)) (faults S.faults M.faults K.faults pictures.old proof.old movie.old out.old cert.old text.old) (faults S.faults M.faults K.faults pictures.new proof.new movie.new out.new cert.new text.new)
@@ -165,6 +181,7 @@ pub fn workshop<S: ByteSource, M: ByteStore, K: ByteSink>(
         (sink_state (K.held text.old) (K.taken text.old)) (sink_state (K.held text.new) (K.taken text.new))) }
     // After Done the proof that was written has the settings and the records of the one that was read.
     ensures reproof_same { Told (S.left proof.old) (λ bytes. IsRun task.Reproof (said words.now) → OnTrue (is_done result) (SaysTheSame bytes (reproofed bytes).cert)) }
+    ensures reproof_end { IsRun task.Reproof (said words.now) → OnTrue (is_done result) (IsAtEnd (S.left proof.new)) }
     // Where no port failed, a proof without a fault, whose layers all rise in size and fall in error, is Done, unless memory runs out.
     ensures reproof_complete { Told (S.left proof.old) (λ bytes. IsRun task.Reproof (said words.now)
         → NoPortFailed (uses_in (said words.now)) (faults S.faults M.faults K.faults pictures.old proof.old movie.old out.old cert.old text.old) (faults S.faults M.faults K.faults pictures.new proof.new movie.new out.new cert.new text.new)
@@ -183,6 +200,39 @@ pub fn workshop<S: ByteSource, M: ByteStore, K: ByteSink>(
     ensures decode_complete { Told (M.bytes movie.old) (λ file. (w : DecodeWords) → IsDecode w (said words.now)
         → NoPortFailed (uses_in (said words.now)) (faults S.faults M.faults K.faults pictures.old proof.old movie.old out.old cert.old text.old) (faults S.faults M.faults K.faults pictures.new proof.new movie.new out.new cert.new text.new)
         → CompletesDecode w file (movie_in file) result) }
+
+    // `rescue`: where the file's bytes are told, they decide the answer and all that is written: Done comes with the movie of the
+    // frames that the file holds, and BadMovie where it holds none, or more than 1,000,000; a fault of a port or want of memory with
+    // fronts of what the frames that were found so far make.
+    ensures rescue { Told (M.bytes movie.old) (λ file. (rate : Rate) → IsRescue rate (said words.now)
+        → AnswersRescue rate file result (sinks K.held K.taken out.old text.old) (sinks K.held K.taken out.new text.new)) }
+
+    // `checkleast`: where the certificate's bytes are told, they decide the answer. BadProof comes with their first fault, and Refused,
+    // frame 0, with the first clause that fails.
+    ensures checkleast { Told (S.left proof.old) (λ bytes. IsRun task.CheckLeast (said words.now) → Ended result (λ end. AnswersCertificate (certified bytes) end)) }
+    // After Done what the certificate says is true: no choice that meets its cap has less size than the printed one, or none meets it.
+    ensures checkleast_sound { Told (S.left proof.old) (λ bytes. IsRun task.CheckLeast (said words.now) → OnTrue (is_done result) (SaysTrue (certified bytes))) }
+    // After Done the line was appended, whole; after a fault of writing a front of it, and after every other answer nothing.
+    ensures checkleast_text { IsRun task.CheckLeast (said words.now) → Ended result (λ end.
+        PrintsLines end yes_text (sink_state (K.held text.old) (K.taken text.old)) (sink_state (K.held text.new) (K.taken text.new))) }
+    ensures checkleast_end { IsRun task.CheckLeast (said words.now) → OnTrue (is_done result) (IsAtEnd (S.left proof.new)) }
+    // Where no port failed, a good certificate is Done, unless memory runs out.
+    ensures checkleast_complete { Told (S.left proof.old) (λ bytes. IsRun task.CheckLeast (said words.now)
+        → NoPortFailed (uses_in (said words.now)) (faults S.faults M.faults K.faults pictures.old proof.old movie.old out.old cert.old text.old) (faults S.faults M.faults K.faults pictures.new proof.new movie.new out.new cert.new text.new)
+        → CompletesCheckLeast (certified bytes) result) }
+
+    // `curve`: where the table's bytes are told, they decide the answer. BadProof comes with their first fault, and LayersFull, frame 0,
+    // exactly where the curves of the first slices have more than 2^25 points together.
+    ensures curve { Told (S.left proof.old) (λ bytes. IsRun task.Curve (said words.now) → Ended result (λ end. AnswersCurve (tabled bytes) end)) }
+    // After Done the lines of all undominated pairs were appended, whole; after a fault of writing a front of them, and after every
+    // other answer nothing.
+    ensures curve_text { Told (S.left proof.old) (λ bytes. IsRun task.Curve (said words.now) → Ended result (λ end.
+        PrintsText end (IsCurveText (tabled bytes)) (sink_state (K.held text.old) (K.taken text.old)) (sink_state (K.held text.new) (K.taken text.new)))) }
+    ensures curve_end { IsRun task.Curve (said words.now) → OnTrue (is_done result) (IsAtEnd (S.left proof.new)) }
+    // Where no port failed, a table whose curves don't have too many points is Done, unless memory runs out.
+    ensures curve_complete { Told (S.left proof.old) (λ bytes. IsRun task.Curve (said words.now)
+        → NoPortFailed (uses_in (said words.now)) (faults S.faults M.faults K.faults pictures.old proof.old movie.old out.old cert.old text.old) (faults S.faults M.faults K.faults pictures.new proof.new movie.new out.new cert.new text.new)
+        → CompletesCurve (tabled bytes) result) }
 {
     let settings = match settings_of(words) {
         Ok(settings) => settings,
@@ -200,5 +250,8 @@ pub fn workshop<S: ByteSource, M: ByteStore, K: ByteSink>(
         Task::Check => check(alloc, proof, text),
         Task::Reproof => reproof(alloc, proof, cert, text),
         Task::Decode(values) => decode(alloc, &values, movie, out, text, monitors),
+        Task::Rescue(rate) => rescue(alloc, rate, movie, out, text),
+        Task::CheckLeast => check_least(alloc, proof, text),
+        Task::Curve => curve(alloc, proof, text),
     }
 }

@@ -4,7 +4,7 @@ ghost use Rattle.std.specs.Prelude.{◌≡◌, ◌<◌, ◌≤◌, [], IfOk, dro
 ghost use Rattle.workshop.specs.Options.{AreValues, no_values};
 ghost use Rattle.workshop.specs.Words.{IsWalk, IsTask, commands, name_of, command_named, option_named, options_of, operands_of, most_operands, takes, lacks, lacks_option, clash, encode_words, decode_words, raw_in, has_odd_form, task_of, with_option_value, with_option, ended, walk, said, settled, command_of, ports_of, names_in, no_names, is_decode, tells_monitors};
 
-use crate::options::{MAX_BUDGET, OptionName, Values};
+use crate::options::{MAX_BUDGET, OptionName, Rate, Values};
 use crate::raw_form::cut;
 use crate::status::UsageKind;
 use arrayvec::ArrayVec;
@@ -32,6 +32,12 @@ pub enum Command {
     Reproof,
     /// `decode MOVIE OUT` shows the pictures of a movie.
     Decode,
+    /// `rescue FILE OUT` makes a movie of the frames that stand in a file.
+    Rescue,
+    /// `checkleast CERT` checks a certificate of a smallest choice under a cap on the error.
+    CheckLeast,
+    /// `curve TABLE` prints all undominated pairs of size and error of a table file.
+    Curve,
 }
 
 /// What the words say of a run of `decode`.
@@ -69,6 +75,10 @@ pub enum Task {
     Check,
     Reproof,
     Decode(DecodeWords),
+    /// At this rate.
+    Rescue(Rate),
+    CheckLeast,
+    Curve,
 }
 
 /// What is to be done, with the numbers of the words that are operands.
@@ -91,6 +101,9 @@ impl Command {
             "check" => Some(Command::Check),
             "reproof" => Some(Command::Reproof),
             "decode" => Some(Command::Decode),
+            "rescue" => Some(Command::Rescue),
+            "checkleast" => Some(Command::CheckLeast),
+            "curve" => Some(Command::Curve),
             _ => None,
         }
     }
@@ -106,6 +119,9 @@ impl Command {
             Command::Check,
             Command::Reproof,
             Command::Decode,
+            Command::Rescue,
+            Command::CheckLeast,
+            Command::Curve,
         ]
     }
 
@@ -120,6 +136,9 @@ impl Command {
             Command::Check => "check",
             Command::Reproof => "reproof",
             Command::Decode => "decode",
+            Command::Rescue => "rescue",
+            Command::CheckLeast => "checkleast",
+            Command::Curve => "curve",
         }
     }
 
@@ -128,12 +147,14 @@ impl Command {
         ensures { length result.now ≡ most_operands self }
     {
         match self {
-            Command::Plan => &["TABLE"],
+            Command::Plan | Command::Curve => &["TABLE"],
             Command::Encode => &["PICTURES", "MOVIE", "PROOF"],
             Command::List => &["MOVIE"],
             Command::Check => &["PROOF"],
             Command::Reproof => &["PROOF", "OUTPUT"],
             Command::Decode => &["MOVIE", "OUT"],
+            Command::Rescue => &["FILE", "OUT"],
+            Command::CheckLeast => &["CERT"],
         }
     }
 
@@ -142,8 +163,12 @@ impl Command {
         ensures { result.now ≡ operands_of self }
     {
         match self {
-            Command::Plan | Command::List | Command::Check => &[1],
-            Command::Reproof | Command::Decode => &[2],
+            Command::Plan
+            | Command::List
+            | Command::Check
+            | Command::CheckLeast
+            | Command::Curve => &[1],
+            Command::Reproof | Command::Decode | Command::Rescue => &[2],
             Command::Encode => &[3],
         }
     }
@@ -161,8 +186,12 @@ impl Command {
         ensures { result ≡ takes self operands }
     {
         match self {
-            Command::Plan | Command::List | Command::Check => operands == 1,
-            Command::Reproof | Command::Decode => operands == 2,
+            Command::Plan
+            | Command::List
+            | Command::Check
+            | Command::CheckLeast
+            | Command::Curve => operands == 1,
+            Command::Reproof | Command::Decode | Command::Rescue => operands == 2,
             Command::Encode => operands == 3,
         }
     }
@@ -172,7 +201,12 @@ impl Command {
         ensures { result.now ≡ options_of self }
     {
         match self {
-            Command::Plan | Command::List | Command::Check | Command::Reproof => &[],
+            Command::Plan
+            | Command::List
+            | Command::Check
+            | Command::Reproof
+            | Command::CheckLeast
+            | Command::Curve => &[],
             Command::Encode => &[
                 OptionName::Budget,
                 OptionName::Lo,
@@ -185,6 +219,7 @@ impl Command {
                 OptionName::Proof,
             ],
             Command::Decode => &[OptionName::Depth, OptionName::Form],
+            Command::Rescue => &[OptionName::Rate],
         }
     }
 
@@ -193,8 +228,14 @@ impl Command {
         ensures { (v : Values) → lacks_option self v ≡ lacks result v }
     {
         match self {
-            Command::Plan | Command::List | Command::Check | Command::Reproof | Command::Decode =>
-                None,
+            Command::Plan
+            | Command::List
+            | Command::Check
+            | Command::Reproof
+            | Command::Decode
+            | Command::Rescue
+            | Command::CheckLeast
+            | Command::Curve => None,
             Command::Encode => Some(OptionName::Budget),
         }
     }
@@ -217,8 +258,14 @@ impl Command {
         ensures { result ≡ lacks_option self values.now }
     {
         match self {
-            Command::Plan | Command::List | Command::Check | Command::Reproof | Command::Decode =>
-                false,
+            Command::Plan
+            | Command::List
+            | Command::Check
+            | Command::Reproof
+            | Command::Decode
+            | Command::Rescue
+            | Command::CheckLeast
+            | Command::Curve => false,
             Command::Encode => values.budget.is_none(),
         }
     }
@@ -229,8 +276,14 @@ impl Command {
         ensures { result ≡ clash self values.now }
     {
         match self {
-            Command::Plan | Command::List | Command::Check | Command::Reproof | Command::Decode =>
-                false,
+            Command::Plan
+            | Command::List
+            | Command::Check
+            | Command::Reproof
+            | Command::Decode
+            | Command::Rescue
+            | Command::CheckLeast
+            | Command::Curve => false,
             Command::Encode => {
                 let words = encode_words(values);
                 words.hi < words.lo
@@ -252,6 +305,9 @@ impl Command {
             Command::Check => Task::Check,
             Command::Reproof => Task::Reproof,
             Command::Decode => Task::Decode(decode_words(values)),
+            Command::Rescue => Task::Rescue(values.rate.unwrap_or(Rate { num: 25, den: 1 })),
+            Command::CheckLeast => Task::CheckLeast,
+            Command::Curve => Task::Curve,
         }
     }
 
@@ -260,7 +316,7 @@ impl Command {
         ensures { result ≡ ports_of self operands.now }
     {
         match self {
-            Command::Plan => Names {
+            Command::Plan | Command::CheckLeast | Command::Curve => Names {
                 proof: operands.first().copied(),
                 ..Names::none()
             },
@@ -283,7 +339,7 @@ impl Command {
                 cert: operands.get(1).copied(),
                 ..Names::none()
             },
-            Command::Decode => Names {
+            Command::Decode | Command::Rescue => Names {
                 movie: operands.first().copied(),
                 out: operands.get(1).copied(),
                 ..Names::none()
@@ -304,6 +360,9 @@ impl Task {
             Task::Check => Command::Check,
             Task::Reproof => Command::Reproof,
             Task::Decode(_) => Command::Decode,
+            Task::Rescue(_) => Command::Rescue,
+            Task::CheckLeast => Command::CheckLeast,
+            Task::Curve => Command::Curve,
         }
     }
 
@@ -313,7 +372,14 @@ impl Task {
     {
         match self {
             Task::Decode(_) => true,
-            Task::Plan | Task::Encode(_) | Task::List | Task::Check | Task::Reproof => false,
+            Task::Plan
+            | Task::Encode(_)
+            | Task::List
+            | Task::Check
+            | Task::Reproof
+            | Task::Rescue(_)
+            | Task::CheckLeast
+            | Task::Curve => false,
         }
     }
 }

@@ -1,4 +1,4 @@
-use Rattle.std.proofs.Common.{◌≡◌, subst}
+use Rattle.std.proofs.Common.{◌≡◌, refl, subst}
 use Rattle.pw_outside.specs.Reading.{bytes_of}
 use Rattle.pic_raw.specs.Any.{pictures_of}
 use Rattle.workshop.specs.Encoding.{CompletesEncode}
@@ -7,10 +7,11 @@ use Rattle.workshop.specs.Decoding.{CompletesDecode}
 use Rattle.workshop.specs.Words.{said, settled}
 use Rattle.workshop.proofs.Encoded.{quiet, same-words}
 use Rattle.workshop.proofs.Decoded as decoded
+use Rattle.workshop.specs.declared.words.Task.TheVariants as task
 use Rattle.workshop.proofs.top.workshop.Goals as goal
 use Rattle.workshop.specs.Listing.{status_of}
 use Rattle.workshop.specs.Status.{AnswersUnlessOutside}
-use Rattle.workshop.proofs.Complete.{check_completes, reproof_completes, reproof_writes}
+use Rattle.workshop.proofs.Complete.{unfailed, check_completes, reproof_completes, reproof_writes}
 
 pub returns-in-Encode-clause-encode_complete : goal.returns-in-Encode-clause-encode_complete
 returns-in-Encode-clause-encode_complete g c = λ told w is none.
@@ -35,3 +36,13 @@ returns-in-Decode-clause-decode_complete g c = λ told w is none.
     let file = bytes_of (g.M.ByteStore.bytes c.args.movie.now) in
     subst (λ v. CompletesDecode v file (movie_in file) c.decode.result) same
     (c.decode.ensures.complete told none.0 none.1 none.2)
+
+pub returns-in-CheckLeast-clause-checkleast_complete : goal.returns-in-CheckLeast-clause-checkleast_complete
+returns-in-CheckLeast-clause-checkleast_complete g c = λ told is none.
+    let none = unfailed task.CheckLeast (said c.args.words.now) _ _ is none in
+    c.check_least.ensures.complete told (λ r. none.proof (refl, r)) (λ r. none.text (refl, r))
+
+pub returns-in-Curve-clause-curve_complete : goal.returns-in-Curve-clause-curve_complete
+returns-in-Curve-clause-curve_complete g c = λ told is none.
+    let none = unfailed task.Curve (said c.args.words.now) _ _ is none in
+    c.curve.ensures.complete told (λ r. none.proof (refl, r)) (λ r. none.text (refl, r))

@@ -1,0 +1,39 @@
+-- What `checkleast` and `curve` answer. Our own definitions.
+use Rattle.std.specs.Prelude.{◌≡◌, ◌⊎◌, Result, Ok, Err}
+use Rattle.pw_outside.specs.Reading.{Fault}
+use Rattle.rate_table.specs.declared.fault.ProofKind.{ProofKind}
+use Rattle.rate_table.specs.Table.{Table}
+use Rattle.rate_least.specs.declared.end.LeastEnd.{LeastEnd}
+use Rattle.rate_least.specs.declared.end.LeastEnd.TheVariants as ends
+use Rattle.rate_least.specs.Records.{Certificate, IsGood}
+use Rattle.rate_least.specs.Curve.{CurvesPass}
+use Rattle.workshop.specs.declared.status.Status.{Status}
+use Rattle.workshop.specs.declared.status.Status.TheVariants as s
+
+-- the answer with the fields of a run's end: a table and a certificate are frame 0
+abbrev pub status_of : LeastEnd → Status
+status_of ends.Done = s.Done
+status_of ends.NoMemory = s.NoMemory
+status_of ends.ReadFault = s.ReadFault
+status_of ends.WriteFault = s.WriteFault
+status_of ends.LayersFull = s.LayersFull 0
+status_of (ends.BadProof kind place) = s.BadProof kind place
+status_of (ends.Refused clause) = s.Refused 0 clause
+
+-- The answer is that of a run that ended so.
+abbrev pub Ended : Status → (LeastEnd → Type 0) → Type 0
+Ended status Is = (end : LeastEnd) × (status ≡ status_of end) × Is end
+
+-- done, or memory ran out
+abbrev pub IsDone : Status → Type 0
+IsDone status = (status ≡ s.Done) ⊎ (status ≡ s.NoMemory)
+
+-- A good certificate is done, unless memory runs out.
+abbrev pub CompletesCheckLeast : Result Certificate (Fault ProofKind) → Status → Type 0
+CompletesCheckLeast (Err f) status = Unit {0}
+CompletesCheckLeast (Ok c) status = IsGood c.table.slices c.cap c.said → IsDone status
+
+-- A table is done, unless memory runs out, where the curves of its first slices have 2^25 points or fewer together.
+abbrev pub CompletesCurve : Result Table (Fault ProofKind) → Status → Type 0
+CompletesCurve (Err f) status = Unit {0}
+CompletesCurve (Ok t) status = (CurvesPass t.slices → ⊥) → IsDone status

@@ -1,0 +1,21 @@
+-- What `rescue` answers. Our own definitions.
+use Rattle.std.specs.Prelude.{◌≡◌, ℕ, List}
+use Rattle.rescue_run.specs.declared.end.RescueEnd.{RescueEnd}
+use Rattle.rescue_run.specs.declared.end.RescueEnd.TheVariants as ends
+use Rattle.rescue_run.specs.Rescuing.{World, Ran}
+use Rattle.workshop.specs.declared.options.Rate.{Rate}
+use Rattle.workshop.specs.declared.status.Status.{Status}
+use Rattle.workshop.specs.declared.status.Status.TheVariants as s
+use Rattle.workshop.specs.Options.{rate_of}
+
+-- the answer with the fields of a run's end
+abbrev pub status_of : RescueEnd → Status
+status_of ends.Done = s.Done
+status_of ends.NoMemory = s.NoMemory
+status_of ends.ReadFault = s.ReadFault
+status_of ends.WriteFault = s.WriteFault
+status_of (ends.BadMovie kind place) = s.BadMovie kind place
+
+-- The answer is that of a run over this file, which wrote so much.
+abbrev pub AnswersRescue : Rate → List ℕ → Status → World → World → Type 0
+AnswersRescue rate file status before after = (end : RescueEnd) × (status ≡ status_of end) × Ran (rate_of rate) file end before after
