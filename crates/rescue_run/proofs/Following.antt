@@ -19,7 +19,7 @@ no_mark_held file first from to none = λ place frame ge lt h like. none place g
 pub one_none : (file : List ℕ) (first : Option FrameForm) (place : ℕ) → HoldsNone file place first → NoneHeld file first place (place + 1)
 one_none file first place none = λ p frame ge lt h like. let e : p ≡ place = omega (arith, ge, lt) in none frame (subst (λ q. HoldsFrame file q frame) e h) like
 
-below_or : (a b : ℕ) → (a < b) ⊎ (b ≤ a)
+pub below_or : (a b : ℕ) → (a < b) ⊎ (b ≤ a)
 below_or zero zero = inr (omega arith)
 below_or zero (suc b) = inl (omega arith)
 below_or (suc a) zero = inr (omega arith)

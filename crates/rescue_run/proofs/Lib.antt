@@ -5,3 +5,8 @@ pub mod Turning
 pub mod Ending
 pub mod Taking
 pub mod Lines
+pub mod Once
+pub mod Deciding
+pub mod Going
+pub mod Fronts
+pub mod Again

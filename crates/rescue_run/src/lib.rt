@@ -7,6 +7,7 @@ mod form;
 mod gather;
 mod gathering;
 mod judging;
+mod laws;
 mod run;
 mod search;
 #[cfg(test)]
@@ -14,4 +15,5 @@ mod tests;
 mod window;
 
 pub use end::RescueEnd;
+pub use laws::{rescued_movie_is_read, rescuing_goes_on, rescuing_is_one, runs_write_fronts};
 pub use run::rescue_run;

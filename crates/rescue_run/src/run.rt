@@ -1,16 +1,18 @@
 //! The run of `rescue`.
 
-ghost use Rattle.std.specs.Prelude.{◌≡◌};
+ghost use Rattle.std.specs.Prelude.{◌≡◌, ℕ, List};
 ghost use Rattle.std.specs.Bool.{OnTrue};
-ghost use Rattle.pw_outside.specs.Ports.{CountsFault};
+ghost use Rattle.pw_outside.specs.Ports.{CountsFault, Rose};
 ghost use Rattle.pw_outside.specs.Reading.{Told};
-ghost use Rattle.pw_outside.specs.Writing.{sink_state};
+ghost use Rattle.pw_outside.specs.Writing.{sink_state, Puts};
 ghost use Rattle.rescue_run.specs.Rescuing.{IsRate, world, Ran, Extends, CountsFaults, is_done, is_read_fault, is_write_fault};
+ghost use Rattle.rescue_run.specs.Laws.{WritesFronts, AnswersRescue, IsMovieOf};
 
 use crate::end::RescueEnd;
 use crate::finish::finish;
 use crate::form::Rate;
 use crate::gather::gather;
+use crate::laws::{rescued_movie_is_read, rescuing_is_one, runs_write_fronts};
 use pw_outside::{ByteSink, ByteStore};
 use qt_tables::MovieKind;
 use std::alloc::Global;
@@ -62,6 +64,16 @@ pub fn rescue_run<M: ByteStore, K: ByteSink>(
     // text; BadMovie exactly where there is no frame, or more than 1,000,000; a fault of a port or want of memory with a front.
     ensures ran { Told (M.bytes movie.old) (λ file. Ran (record { num = num; den = den }) file result
         (world K.held K.taken out.old text.old) (world K.held K.taken out.new text.new)) }
+    // After every answer both sinks have fronts of what rescuing gives.
+    ensures fronts { Told (M.bytes movie.old) (λ file. WritesFronts (record { num = num; den = den }) file
+        (world K.held K.taken out.old text.old) (world K.held K.taken out.new text.new)) }
+    // Where no port failed, the answer is the one that rescuing gives, unless memory runs out.
+    ensures complete { Told (M.bytes movie.old) (λ file.
+        (Rose (M.faults movie.old) (M.faults movie.new) → ⊥) → (Rose (K.faults out.old) (K.faults out.new) → ⊥) → (Rose (K.faults text.old) (K.faults text.new) → ⊥)
+        → AnswersRescue file result) }
+    // After Done the bytes that `out` got are read as a movie with the chain's frames as its samples, byte for byte.
+    ensures read_again { Told (M.bytes movie.old) (λ file. OnTrue (is_done result)
+        ((bytes : List ℕ) × Puts (sink_state (K.held out.old) (K.taken out.old)) (sink_state (K.held out.new) (K.taken out.new)) bytes × IsMovieOf file bytes)) }
     // Whatever the answer, and whether the file's bytes are told or not, each sink extends what it held.
     ensures out_extends { Extends (sink_state (K.held out.old) (K.taken out.old)) (sink_state (K.held out.new) (K.taken out.new)) }
     ensures text_extends { Extends (sink_state (K.held text.old) (K.taken text.old)) (sink_state (K.held text.new) (K.taken text.new)) }
@@ -72,5 +84,8 @@ pub fn rescue_run<M: ByteStore, K: ByteSink>(
     ensures read { CountsFault (M.faults movie.old) (M.faults movie.new) (is_read_fault result) }
     ensures write { CountsFaults K.faults out.old text.old out.new text.new (is_write_fault result) }
 {
+    rescuing_is_one();
+    runs_write_fronts();
+    rescued_movie_is_read();
     rescue(alloc, movie, &Rate { num, den }, out, text)
 }
