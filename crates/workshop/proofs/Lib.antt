@@ -6,3 +6,4 @@ pub mod Complete
 pub mod Reproofed
 pub mod Decoded
 pub mod Certified
+pub mod Rescued

@@ -1,8 +1,9 @@
 -- What `rescue` answers. Our own definitions.
-use Rattle.std.specs.Prelude.{◌≡◌, ℕ, List}
+use Rattle.std.specs.Prelude.{◌≡◌, ℕ, ◌⊎◌, List}
 use Rattle.rescue_run.specs.declared.end.RescueEnd.{RescueEnd}
 use Rattle.rescue_run.specs.declared.end.RescueEnd.TheVariants as ends
-use Rattle.rescue_run.specs.Rescuing.{World, Ran}
+use Rattle.rescue_run.specs.Chain.{Taken}
+use Rattle.rescue_run.specs.Rescuing.{Rescues, World, Ran}
 use Rattle.workshop.specs.declared.options.Rate.{Rate}
 use Rattle.workshop.specs.declared.status.Status.{Status}
 use Rattle.workshop.specs.declared.status.Status.TheVariants as s
@@ -19,3 +20,7 @@ status_of (ends.BadMovie kind place) = s.BadMovie kind place
 -- The answer is that of a run over this file, which wrote so much.
 abbrev pub AnswersRescue : Rate → List ℕ → Status → World → World → Type 0
 AnswersRescue rate file status before after = (end : RescueEnd) × (status ≡ status_of end) × Ran (rate_of rate) file end before after
+
+-- The answer is the one that rescuing gives, unless memory runs out.
+abbrev pub CompletesRescue : List ℕ → Status → Type 0
+CompletesRescue file status = (ts : List Taken) (known : RescueEnd) → Rescues file ts known → (status ≡ status_of known) ⊎ (status ≡ s.NoMemory)

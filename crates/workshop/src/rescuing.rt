@@ -1,14 +1,15 @@
 //! The run of `rescue`.
 
-ghost use Rattle.std.specs.Prelude.{◌≡◌, None};
+ghost use Rattle.std.specs.Prelude.{◌≡◌, None, ℕ, List};
 ghost use Rattle.std.specs.Bool.{OnTrue};
-ghost use Rattle.pw_outside.specs.Ports.{CountsFault};
+ghost use Rattle.pw_outside.specs.Ports.{CountsFault, Rose};
 ghost use Rattle.pw_outside.specs.Reading.{Told};
-ghost use Rattle.pw_outside.specs.Writing.{sink_state};
+ghost use Rattle.pw_outside.specs.Writing.{sink_state, Puts};
 ghost use Rattle.rescue_run.specs.Rescuing.{IsRate, world, Extends, CountsFaults};
+ghost use Rattle.rescue_run.specs.Laws.{WritesFronts, IsMovieOf};
 ghost use Rattle.workshop.specs.Options.{rate_of};
-ghost use Rattle.workshop.specs.Status.{is_read_fault, is_settled, is_write_fault, usage_of};
-ghost use Rattle.workshop.specs.Rescuing.{status_of, AnswersRescue};
+ghost use Rattle.workshop.specs.Status.{is_done, is_read_fault, is_settled, is_write_fault, usage_of};
+ghost use Rattle.workshop.specs.Rescuing.{status_of, AnswersRescue, CompletesRescue};
 
 use crate::options::Rate;
 use crate::status::Status;
@@ -40,6 +41,13 @@ pub(crate) fn rescue<M: ByteStore, K: ByteSink>(
     requires rate { IsRate (rate_of rate) }
     ensures answer { Told (M.bytes movie.old) (λ file. AnswersRescue rate file result
         (world K.held K.taken out.old text.old) (world K.held K.taken out.new text.new)) }
+    ensures fronts { Told (M.bytes movie.old) (λ file. WritesFronts (rate_of rate) file
+        (world K.held K.taken out.old text.old) (world K.held K.taken out.new text.new)) }
+    ensures complete { Told (M.bytes movie.old) (λ file. (Rose (M.faults movie.old) (M.faults movie.new) → ⊥)
+        → (Rose (K.faults out.old) (K.faults out.new) → ⊥) → (Rose (K.faults text.old) (K.faults text.new) → ⊥)
+        → CompletesRescue file result) }
+    ensures read_again { Told (M.bytes movie.old) (λ file. OnTrue (is_done result)
+        ((bytes : List ℕ) × Puts (sink_state (K.held out.old) (K.taken out.old)) (sink_state (K.held out.new) (K.taken out.new)) bytes × IsMovieOf file bytes)) }
     ensures usage { usage_of result ≡ None }
     ensures out_extends { Extends (sink_state (K.held out.old) (K.taken out.old)) (sink_state (K.held out.new) (K.taken out.new)) }
     ensures text_extends { Extends (sink_state (K.held text.old) (K.taken text.old)) (sink_state (K.held text.new) (K.taken text.new)) }

@@ -1,6 +1,6 @@
 //! The top call.
 
-ghost use Rattle.std.specs.Prelude.{◌≡◌, [], map};
+ghost use Rattle.std.specs.Prelude.{◌≡◌, ℕ, List, [], map};
 ghost use Rattle.std.specs.Bool.{OnTrue, OnFalse};
 ghost use Rattle.std.specs.Io.KnownBytes.{IsAtEnd};
 ghost use Rattle.pw_outside.specs.Reading.{Told};
@@ -9,7 +9,7 @@ ghost use Rattle.workshop.specs.Status.{is_done, is_read_fault, is_settled, is_w
 ghost use Rattle.workshop.specs.declared.words.Task.TheVariants as task;
 ghost use Rattle.workshop.specs.Words.{said, usage_fault, IsRun, IsEncode, IsDecode, IsRescue, tells_monitors, uses_in, reads_pictures, reads_proof, reads_movie, writes_out, writes_cert, writes_text};
 ghost use Rattle.workshop.specs.Faults.{faults, CountsReads, CountsWrites, NoPortFailed, Settles};
-ghost use Rattle.pw_outside.specs.Writing.{sink_state};
+ghost use Rattle.pw_outside.specs.Writing.{sink_state, Puts};
 ghost use Rattle.qt_movie.specs.Movie.{movie_in};
 ghost use Rattle.run_look.specs.Listing.{PrintsList, PrintsListFront, Extends};
 ghost use Rattle.workshop.specs.Plan.{AnswersPlan, PrintsPlan, PrintsPart, CompletesPlan};
@@ -26,8 +26,10 @@ ghost use Rattle.run_decode.specs.Laws.{WritesFrontsOf};
 ghost use Rattle.workshop.specs.declared.words.DecodeWords.{DecodeWords};
 ghost use Rattle.workshop.specs.Decoding.{AnswersDecode, CompletesDecode};
 ghost use Rattle.rescue_run.specs.Rescuing.{world as sinks};
+ghost use Rattle.rescue_run.specs.Laws.{WritesFronts, IsMovieOf};
 ghost use Rattle.workshop.specs.declared.options.Rate.{Rate};
-ghost use Rattle.workshop.specs.Rescuing.{AnswersRescue};
+ghost use Rattle.workshop.specs.Options.{rate_of};
+ghost use Rattle.workshop.specs.Rescuing.{AnswersRescue, CompletesRescue};
 ghost use Rattle.rate_least.specs.Files.{certified};
 ghost use Rattle.rate_least.specs.Ends.{PrintsLines};
 ghost use Rattle.rate_least.specs.Runs.{AnswersCheck as AnswersCertificate, AnswersCurve, SaysTrue, yes_text, PrintsText, IsCurveText};
@@ -202,10 +204,19 @@ pub fn workshop<S: ByteSource, M: ByteStore, K: ByteSink>(
         → CompletesDecode w file (movie_in file) result) }
 
     // `rescue`: where the file's bytes are told, they decide the answer and all that is written: Done comes with the movie of the
-    // frames that the file holds, and BadMovie where it holds none, or more than 1,000,000; a fault of a port or want of memory with
-    // fronts of what the frames that were found so far make.
+    // frames that the file holds, and BadMovie exactly where it holds none, or more than 1,000,000.
     ensures rescue { Told (M.bytes movie.old) (λ file. (rate : Rate) → IsRescue rate (said words.now)
         → AnswersRescue rate file result (sinks K.held K.taken out.old text.old) (sinks K.held K.taken out.new text.new)) }
+    // After every answer both sinks have fronts of what rescuing gives.
+    ensures rescue_fronts { Told (M.bytes movie.old) (λ file. (rate : Rate) → IsRescue rate (said words.now)
+        → WritesFronts (rate_of rate) file (sinks K.held K.taken out.old text.old) (sinks K.held K.taken out.new text.new)) }
+    // After Done what was appended to `out` is read as a movie whose samples are the frames that the file holds, byte for byte.
+    ensures rescue_again { Told (M.bytes movie.old) (λ file. (rate : Rate) → IsRescue rate (said words.now) → OnTrue (is_done result)
+        ((bytes : List ℕ) × Puts (sink_state (K.held out.old) (K.taken out.old)) (sink_state (K.held out.new) (K.taken out.new)) bytes × IsMovieOf file bytes)) }
+    // Where no port failed, the answer is the one that rescuing gives, unless memory runs out.
+    ensures rescue_complete { Told (M.bytes movie.old) (λ file. (rate : Rate) → IsRescue rate (said words.now)
+        → NoPortFailed (uses_in (said words.now)) (faults S.faults M.faults K.faults pictures.old proof.old movie.old out.old cert.old text.old) (faults S.faults M.faults K.faults pictures.new proof.new movie.new out.new cert.new text.new)
+        → CompletesRescue file result) }
 
     // `checkleast`: where the certificate's bytes are told, they decide the answer. BadProof comes with their first fault, and Refused,
     // frame 0, with the first clause that fails.

@@ -46,3 +46,8 @@ pub returns-in-Curve-clause-curve_complete : goal.returns-in-Curve-clause-curve_
 returns-in-Curve-clause-curve_complete g c = λ told is none.
     let none = unfailed task.Curve (said c.args.words.now) _ _ is none in
     c.curve.ensures.complete told (λ r. none.proof (refl, r)) (λ r. none.text (refl, r))
+
+pub returns-in-Rescue-clause-rescue_complete : goal.returns-in-Rescue-clause-rescue_complete
+returns-in-Rescue-clause-rescue_complete g c = λ told rate is none.
+    let none = unfailed (task.Rescue rate) (said c.args.words.now) _ _ is none in
+    c.rescue.ensures.complete told (λ r. none.movie (refl, r)) (λ r. none.out (refl, r)) (λ r. none.text (refl, r))
