@@ -1,5 +1,5 @@
 -- Where no port failed, a run that is done unless one fails is done, or memory ran out.
-use Rattle.std.proofs.Common.{◌≡◌, ◌≤◌, ℕ, arith, sym, Bool, true, false, Ok, Err, refl, ap, subst, inl, inr, ⊎_elim}
+use Rattle.std.proofs.Common.{◌≡◌, ◌≤◌, ℕ, List, arith, sym, Bool, true, false, Ok, Err, refl, ap, subst, inl, inr, ⊎_elim}
 use Rattle.std.specs.Prelude.{◌⊎◌}
 use Rattle.std.specs.Bool.{OnTrue, OnFalse}
 use Rattle.pw_outside.specs.Ports.{CountsFault, Rose}
@@ -8,9 +8,10 @@ use Rattle.workshop.specs.declared.words.Task.TheVariants as task
 use Rattle.workshop.specs.declared.status.Status.{Status}
 use Rattle.workshop.specs.declared.status.Status.TheVariants as s
 use Rattle.run_look.specs.Reproofing.{CountsFaults}
+use Rattle.run_look.specs.Agreeing as look
 use Rattle.workshop.specs.Status.{AnswersUnlessOutside, is_read_fault, is_write_fault}
 use Rattle.workshop.specs.Words.{Said, IsRun, uses_in, uses_of}
-use Rattle.workshop.specs.Faults.{Faults, NoPortFailed, CountsWrites}
+use Rattle.workshop.specs.Faults.{Faults, NoPortFailed, CountsReads, CountsWrites}
 use Rattle.workshop.proofs.PlanTexts.{on_true}
 
 pub done_or_no_memory : (status : Status) → OnTrue (is_read_fault status) ⊥ → OnTrue (is_write_fault status) ⊥ → AnswersUnlessOutside status s.Done → (status ≡ s.Done) ⊎ (status ≡ s.NoMemory)
@@ -39,15 +40,6 @@ run_uses t (Err f) e = absurd e
 pub unfailed : (t : Task) (said : Said) (before now : Faults) → IsRun t said → NoPortFailed (uses_in said) before now → NoPortFailed (uses_of t) before now
 unfailed t said before now run none = subst (λ u. NoPortFailed u before now) (run_uses t said run) none
 
-pub check_completes : (said : Said) (status : Status) (before now : Faults) → IsRun task.Check said → NoPortFailed (uses_in said) before now
-    → CountsFault before.proof now.proof (is_read_fault status) → CountsFault before.text now.text (is_write_fault status)
-    → AnswersUnlessOutside status s.Done → (status ≡ s.Done) ⊎ (status ≡ s.NoMemory)
-check_completes said status before now run none read write h =
-    let unused : NoPortFailed (uses_of task.Check) before now = subst (λ u. NoPortFailed u before now) (run_uses task.Check said run) none in
-    done_or_no_memory status
-    (on_true (is_read_fault status) (λ r. unused.proof (refl, r)) read.rose)
-    (on_true (is_write_fault status) (λ r. unused.text (refl, r)) write.rose) h
-
 pub reproof_completes : (said : Said) (status : Status) (before now : Faults) → IsRun task.Reproof said → NoPortFailed (uses_in said) before now
     → CountsFault before.proof now.proof (is_read_fault status) → CountsFaults before.cert now.cert before.text now.text (is_write_fault status)
     → AnswersUnlessOutside status s.Done → (status ≡ s.Done) ⊎ (status ≡ s.NoMemory)
@@ -67,4 +59,20 @@ reproof_writes said before now failed run out h =
       text = h.later';
       rose = on_true failed (λ r. ⊎_elim (λ a. inr (inl (refl, a))) (λ b. inr (inr (refl, b))) r) h.rose;
       kept = on_false failed (λ k. (out, k.0, k.1)) h.kept;
+    })
+
+-- these words are a run of this
+pub is_run : (said : Said) (t : Task × List ℕ) (u : Task) → said ≡ Ok t → t.0 ≡ u → IsRun u said
+is_run said t u e f = subst (IsRun u) (sym e) f
+
+-- the counts of all that can be read
+pub check_reads : (said : Said) (before now : Faults) (failed : Bool) → IsRun task.CheckAll said
+    → look.CountsReads before.proof now.proof before.movie now.movie before.pictures now.pictures failed → CountsReads (uses_in said) before now failed
+check_reads said before now failed run h =
+    subst (λ u. CountsReads u before now failed) (sym (run_uses task.CheckAll said run)) (record {
+      pictures = h.later'';
+      proof = h.later;
+      movie = h.later';
+      rose = on_true failed (λ r. ⊎_elim (λ a. inr (inl (refl, a))) (λ b. ⊎_elim (λ c. inr (inr (refl, c))) (λ d. inl (refl, d)) b) r) h.rose;
+      kept = on_false failed (λ k. (k.2, k.0, k.1)) h.kept;
     })

@@ -1,6 +1,6 @@
 -- The values of a command are those that its run may be told.
 use Rattle.std.proofs.Common.{◌≡◌, ℕ, ◌^◌, ◌<◌, ◌≤◌, ◌*◌, ◌%◌, ◌==◌, true, false, not, ◌&&◌, ◌||◌, ltb, Bool, Option, Some, None, refl, sym, ap, arith, IfSome, IsTrue}
-use Rattle.std.specs.Prelude.{unwrap_or, option_map, is_some, is_none}
+use Rattle.std.specs.Prelude.{unwrap_or, option_map, is_some, is_none, if◌then◌else◌}
 use Rattle.std.proofs.lemmas.Bool.{ltb-true, ltb-false, eqb-false, or_parts, true≢false, false≢true}
 use Rattle.pw_planes.specs.declared.kinds.Interlace.{Interlace}
 use Rattle.pw_planes.specs.declared.kinds.Interlace.TheVariants.{Progressive}
@@ -11,6 +11,7 @@ use Rattle.workshop.specs.declared.options.Rate.{Rate}
 use Rattle.workshop.specs.declared.options.Values.{Values}
 use Rattle.workshop.specs.declared.words.Command.{Command}
 use Rattle.workshop.specs.declared.words.Command.TheVariants as command
+use Rattle.workshop.specs.declared.words.Task.TheVariants as task
 use Rattle.run_encode.specs.Groups.{AreWords}
 use Rattle.workshop.specs.Options.{AreValues, IsRawForm, rate_of}
 use Rattle.workshop.specs.Words.{IsTask, task_of, clash, lacks_option, encode_words, with_mode, raw_in, has_odd_form, usual_rate}
@@ -53,16 +54,20 @@ rated : (o : Option Rate) → IfSome o (λ r. IsRate (rate_of r)) → IsRate (ra
 rated None absent = record { some_num = omega arith; num = omega arith; some_den = omega arith; den = omega arith }
 rated (Some r) h = h
 
-pub task_allowed : (c : Command) (v : Values) → AreValues v → lacks_option c v ≡ false → clash c v ≡ false → IsTask (task_of c v)
-task_allowed command.Plan v a l e = tt
-task_allowed command.List v a l e = tt
-task_allowed command.Check v a l e = tt
-task_allowed command.Reproof v a l e = tt
-task_allowed command.Decode v a l e = tt
-task_allowed command.Rescue v a l e = rated v.rate a.rate
-task_allowed command.CheckLeast v a l e = tt
-task_allowed command.Curve v a l e = tt
-task_allowed command.Encode v a l e =
+checked : (all : Bool) → IsTask (if all then task.CheckAll else task.Check)
+checked true = tt
+checked false = tt
+
+pub task_allowed : (c : Command) (n : ℕ) (v : Values) → AreValues v → lacks_option c v ≡ false → clash c v ≡ false → IsTask (task_of c n v)
+task_allowed command.Plan n v a l e = tt
+task_allowed command.List n v a l e = tt
+task_allowed command.Check n v a l e = checked (n == 3)
+task_allowed command.Reproof n v a l e = tt
+task_allowed command.Decode n v a l e = tt
+task_allowed command.Rescue n v a l e = rated v.rate a.rate
+task_allowed command.CheckLeast n v a l e = tt
+task_allowed command.Curve n v a l e = tt
+task_allowed command.Encode n v a l e =
     let three = or_parts _ _ e in
     let two = or_parts _ _ three.0 in
     let one = or_parts _ _ two.0 in

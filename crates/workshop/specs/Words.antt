@@ -49,7 +49,7 @@ abbrev pub operands_of : Command → List ℕ
 operands_of command.Plan = 1 ∷ []
 operands_of command.Encode = 3 ∷ []
 operands_of command.List = 1 ∷ []
-operands_of command.Check = 1 ∷ []
+operands_of command.Check = 1 ∷ 3 ∷ []
 operands_of command.Reproof = 2 ∷ []
 operands_of command.Decode = 2 ∷ []
 operands_of command.Rescue = 2 ∷ []
@@ -89,13 +89,13 @@ abbrev pub no_names : Names
 no_names = record { pictures = None; proof = None; movie = None; out = None; cert = None }
 
 -- The ports that the operands name, by the numbers of their words: `plan TABLE`, `encode PICTURES MOVIE PROOF`, `list MOVIE`,
--- `check PROOF`, `reproof PROOF OUTPUT`, `decode MOVIE OUT`, `rescue FILE OUT`,
+-- `check PROOF`, `check PROOF PICTURES MOVIE`, `reproof PROOF OUTPUT`, `decode MOVIE OUT`, `rescue FILE OUT`,
 -- `checkleast CERT`, `curve TABLE`.
 abbrev pub ports_of : Command → List ℕ → Names
 ports_of command.Plan operands = record no_names { proof = slice_get operands 0 }
 ports_of command.Encode operands = record no_names { pictures = slice_get operands 0; out = slice_get operands 1; cert = slice_get operands 2 }
 ports_of command.List operands = record no_names { movie = slice_get operands 0 }
-ports_of command.Check operands = record no_names { proof = slice_get operands 0 }
+ports_of command.Check operands = record no_names { proof = slice_get operands 0; pictures = slice_get operands 1; movie = slice_get operands 2 }
 ports_of command.Reproof operands = record no_names { proof = slice_get operands 0; cert = slice_get operands 1 }
 ports_of command.Decode operands = record no_names { movie = slice_get operands 0; out = slice_get operands 1 }
 ports_of command.Rescue operands = record no_names { movie = slice_get operands 0; out = slice_get operands 1 }
@@ -119,6 +119,7 @@ uses_of task.Plan = record no_ports { proof = true; text = true }
 uses_of (task.Encode w) = record no_ports { pictures = true; out = true; cert = true; text = true }
 uses_of task.List = record no_ports { movie = true; text = true }
 uses_of task.Check = record no_ports { proof = true; text = true }
+uses_of task.CheckAll = record no_ports { pictures = true; proof = true; movie = true; text = true }
 uses_of task.Reproof = record no_ports { proof = true; cert = true; text = true }
 uses_of (task.Decode w) = record no_ports { movie = true; out = true; text = true }
 uses_of (task.Rescue rate) = record no_ports { movie = true; out = true; text = true }
@@ -177,17 +178,17 @@ clash command.Rescue v = false
 clash command.CheckLeast v = false
 clash command.Curve v = false
 
--- what a command is to do
-abbrev pub task_of : Command → Values → Task
-task_of command.Plan v = task.Plan
-task_of command.Encode v = task.Encode (encode_words v)
-task_of command.List v = task.List
-task_of command.Check v = task.Check
-task_of command.Reproof v = task.Reproof
-task_of command.Decode v = task.Decode (decode_words v)
-task_of command.Rescue v = task.Rescue (unwrap_or v.rate usual_rate)
-task_of command.CheckLeast v = task.CheckLeast
-task_of command.Curve v = task.Curve
+-- what a command is to do with so many operands
+abbrev pub task_of : Command → ℕ → Values → Task
+task_of command.Plan n v = task.Plan
+task_of command.Encode n v = task.Encode (encode_words v)
+task_of command.List n v = task.List
+task_of command.Check n v = if n == 3 then task.CheckAll else task.Check
+task_of command.Reproof n v = task.Reproof
+task_of command.Decode n v = task.Decode (decode_words v)
+task_of command.Rescue n v = task.Rescue (unwrap_or v.rate usual_rate)
+task_of command.CheckLeast n v = task.CheckLeast
+task_of command.Curve n v = task.Curve
 
 -- ---- the walk over the words
 
@@ -243,7 +244,7 @@ with_option c word at v = with_parts c (cut 61 (drop 2 word)) at v
 unfoldable pub ended : Command → ℕ → List ℕ → Values → Result (Task × List ℕ) UsageFault
 ended c at operands v = if not (takes c (length operands)) then Err (MissingOperand, at)
     else (if lacks_option c v then Err (MissingOption, at)
-    else (if clash c v then Err (Conflict, at) else Ok (task_of c v, operands)))
+    else (if clash c v then Err (Conflict, at) else Ok (task_of c (length operands) v, operands)))
 
 abbrev pub and_then : {A B : Type 0} → Result A UsageFault → (A → Result B UsageFault) → Result B UsageFault
 and_then (Ok x) next = next x
@@ -297,6 +298,7 @@ command_of task.Plan = command.Plan
 command_of (task.Encode w) = command.Encode
 command_of task.List = command.List
 command_of task.Check = command.Check
+command_of task.CheckAll = command.Check
 command_of task.Reproof = command.Reproof
 command_of (task.Decode w) = command.Decode
 command_of (task.Rescue rate) = command.Rescue
@@ -356,6 +358,7 @@ IsTask task.Plan = Unit {0}
 IsTask (task.Encode w) = AreWords w
 IsTask task.List = Unit {0}
 IsTask task.Check = Unit {0}
+IsTask task.CheckAll = Unit {0}
 IsTask task.Reproof = Unit {0}
 IsTask (task.Decode w) = Unit {0}
 IsTask (task.Rescue rate) = IsRate (rate_of rate)

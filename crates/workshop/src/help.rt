@@ -75,7 +75,7 @@ fn purpose(command: Command) -> &'static str {
         Command::Encode =>
             "makes a movie of pictures (- is standard input), and the proof of its choices",
         Command::List => "prints the track of ProRes of a movie, and its samples",
-        Command::Check => "checks a proof",
+        Command::Check => "checks a proof, by itself or with the pictures (- is standard input) and the movie that it is of",
         Command::Reproof => "writes a proof again in version 2",
         Command::Decode => "writes the pictures of a movie",
         Command::Rescue => "makes a movie of the frames that stand in a file whose tables are lost",

@@ -18,6 +18,8 @@ ghost use Rattle.run_encode.specs.declared.job.EncodeWords.{EncodeWords};
 ghost use Rattle.run_encode.specs.Outputs.{outputs};
 ghost use Rattle.workshop.specs.Encoding.{AnswersEncode, HoldsHeadline, CompletesEncode};
 ghost use Rattle.workshop.specs.Listing.{AnswersList, CompletesList};
+ghost use Rattle.run_look.specs.Checking.{ChecksAlone};
+ghost use Rattle.run_look.specs.Agreeing.{Checks};
 ghost use Rattle.workshop.specs.Checking.{AnswersCheck, PrintsChecked, CompletesCheck};
 ghost use Rattle.run_look.specs.Reproofing.{reproofed, SaysTheSame};
 ghost use Rattle.workshop.specs.Reproofing.{AnswersReproof, WritesUntil, CompletesReproof};
@@ -35,7 +37,7 @@ ghost use Rattle.rate_least.specs.Ends.{PrintsLines};
 ghost use Rattle.rate_least.specs.Runs.{AnswersCheck as AnswersCertificate, AnswersCurve, SaysTrue, yes_text, PrintsText, IsCurveText};
 ghost use Rattle.workshop.specs.Least.{Ended, CompletesCheckLeast, CompletesCurve};
 
-use crate::checking::check;
+use crate::checking::{check, check_all};
 use crate::decode::decode;
 use crate::encode::encode;
 use crate::least::{check_least, curve};
@@ -61,6 +63,8 @@ use std::alloc::Global;
 ///   one for each of the track's samples to `text`.
 /// - `check PROOF` reads a proof through `proof` to its end, checks each record by itself, and writes a line with
 ///   the number of records to `text`.
+/// - `check PROOF PICTURES MOVIE` does the same with the pictures that it reads through `pictures`, and the movie through `movie`: each
+///   frame's sample and picture are those that the records speak of.
 /// - `reproof PROOF OUTPUT` reads a proof of either format through `proof` to its end, writes it in format 2 to
 ///   `cert`, and a line with the number of records to `text`.
 /// - `decode MOVIE OUT` reads a QuickTime movie through `movie`, writes the pictures of its first track of ProRes to `out`,
@@ -161,16 +165,32 @@ pub fn workshop<S: ByteSource, M: ByteStore, K: ByteSink>(
 
     // `check`: where the proof's bytes are told, they decide the answer. BadProof comes with their first fault and Refused with the
     // first clause that fails at the first frame of its record, whichever comes first.
-    ensures check { Told (S.left proof.old) (λ bytes. IsRun task.Check (said words.now) → AnswersCheck bytes result) }
+    ensures check { Told (S.left proof.old) (λ bytes. IsRun task.Check (said words.now) → AnswersCheck (ChecksAlone bytes) result) }
     // After Done the line with the number of records was appended, whole; after a fault of writing a front of it, and after every
     // other answer nothing.
     ensures check_text { Told (S.left proof.old) (λ bytes. IsRun task.Check (said words.now) →
-        PrintsChecked bytes result (sink_state (K.held text.old) (K.taken text.old)) (sink_state (K.held text.new) (K.taken text.new))) }
+        PrintsChecked (ChecksAlone bytes) result (sink_state (K.held text.old) (K.taken text.old)) (sink_state (K.held text.new) (K.taken text.new))) }
     ensures check_end { IsRun task.Check (said words.now) → OnTrue (is_done result) (IsAtEnd (S.left proof.new)) }
     // Where no port failed, a proof without a fault whose records are all good is Done, unless memory runs out.
     ensures check_complete { Told (S.left proof.old) (λ bytes. IsRun task.Check (said words.now)
         → NoPortFailed (uses_in (said words.now)) (faults S.faults M.faults K.faults pictures.old proof.old movie.old out.old cert.old text.old) (faults S.faults M.faults K.faults pictures.new proof.new movie.new out.new cert.new text.new)
-        → CompletesCheck result bytes) }
+        → CompletesCheck result (ChecksAlone bytes)) }
+
+    // `check` with pictures and a movie: where the bytes of all three are told, they decide the answer. BadProof, BadMovie, BadPictures
+    // and BadFrame come with the first fault, and Refused with the first clause that fails at its frame, whichever comes first.
+    ensures check_all { Told (S.left proof.old) (λ bytes. Told (M.bytes movie.old) (λ file. Told (S.left pictures.old) (λ shown.
+        IsRun task.CheckAll (said words.now) → AnswersCheck (Checks bytes file shown) result))) }
+    // After Done the line with the number of records was appended, whole; after a fault of writing a front of it, and after every
+    // other answer nothing.
+    ensures check_all_text { Told (S.left proof.old) (λ bytes. Told (M.bytes movie.old) (λ file. Told (S.left pictures.old) (λ shown.
+        IsRun task.CheckAll (said words.now) →
+        PrintsChecked (Checks bytes file shown) result (sink_state (K.held text.old) (K.taken text.old)) (sink_state (K.held text.new) (K.taken text.new))))) }
+    ensures check_all_end { IsRun task.CheckAll (said words.now) → OnTrue (is_done result) (IsAtEnd (S.left proof.new) × IsAtEnd (S.left pictures.new)) }
+    // Where no port failed, a proof whose records are good and agree with the pictures and the movie is Done, unless memory runs out.
+    ensures check_all_complete { Told (S.left proof.old) (λ bytes. Told (M.bytes movie.old) (λ file. Told (S.left pictures.old) (λ shown.
+        IsRun task.CheckAll (said words.now)
+        → NoPortFailed (uses_in (said words.now)) (faults S.faults M.faults K.faults pictures.old proof.old movie.old out.old cert.old text.old) (faults S.faults M.faults K.faults pictures.new proof.new movie.new out.new cert.new text.new)
+        → CompletesCheck result (Checks bytes file shown)))) }
 
     // `reproof`: where the proof's bytes are told, they decide the answer. BadProof comes with their first fault and Refused with
     // clause 6 at the first frame of the first record that fails it, whichever comes first.
@@ -259,6 +279,7 @@ pub fn workshop<S: ByteSource, M: ByteStore, K: ByteSink>(
         Task::Encode(values) => encode(alloc, &values, pictures, out, cert, text),
         Task::List => list(alloc, movie, text),
         Task::Check => check(alloc, proof, text),
+        Task::CheckAll => check_all(alloc, proof, pictures, movie, text),
         Task::Reproof => reproof(alloc, proof, cert, text),
         Task::Decode(values) => decode(alloc, &values, movie, out, text, monitors),
         Task::Rescue(rate) => rescue(alloc, rate, movie, out, text),

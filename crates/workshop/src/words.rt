@@ -26,7 +26,7 @@ pub enum Command {
     Encode,
     /// `list MOVIE` prints the track of a movie and its samples.
     List,
-    /// `check PROOF` checks the records of a proof.
+    /// `check PROOF` checks the records of a proof, and `check PROOF PICTURES MOVIE` with the pictures and the movie that it is of.
     Check,
     /// `reproof PROOF OUTPUT` writes a proof again in format 2.
     Reproof,
@@ -73,6 +73,8 @@ pub enum Task {
     Encode(EncodeWords),
     List,
     Check,
+    /// With the pictures and the movie.
+    CheckAll,
     Reproof,
     Decode(DecodeWords),
     /// At this rate.
@@ -150,7 +152,7 @@ impl Command {
             Command::Plan | Command::Curve => &["TABLE"],
             Command::Encode => &["PICTURES", "MOVIE", "PROOF"],
             Command::List => &["MOVIE"],
-            Command::Check => &["PROOF"],
+            Command::Check => &["PROOF", "PICTURES", "MOVIE"],
             Command::Reproof => &["PROOF", "OUTPUT"],
             Command::Decode => &["MOVIE", "OUT"],
             Command::Rescue => &["FILE", "OUT"],
@@ -163,11 +165,8 @@ impl Command {
         ensures { result.now ≡ operands_of self }
     {
         match self {
-            Command::Plan
-            | Command::List
-            | Command::Check
-            | Command::CheckLeast
-            | Command::Curve => &[1],
+            Command::Plan | Command::List | Command::CheckLeast | Command::Curve => &[1],
+            Command::Check => &[1, 3],
             Command::Reproof | Command::Decode | Command::Rescue => &[2],
             Command::Encode => &[3],
         }
@@ -186,11 +185,8 @@ impl Command {
         ensures { result ≡ takes self operands }
     {
         match self {
-            Command::Plan
-            | Command::List
-            | Command::Check
-            | Command::CheckLeast
-            | Command::Curve => operands == 1,
+            Command::Plan | Command::List | Command::CheckLeast | Command::Curve => operands == 1,
+            Command::Check => operands == 1 || operands == 3,
             Command::Reproof | Command::Decode | Command::Rescue => operands == 2,
             Command::Encode => operands == 3,
         }
@@ -294,14 +290,15 @@ impl Command {
         }
     }
 
-    /// What it is to do.
-    fn task(self, values: &Values) -> Task
-        ensures { result ≡ task_of self values.now }
+    /// What it is to do, with so many operands.
+    fn task(self, operands: usize, values: &Values) -> Task
+        ensures { result ≡ task_of self operands values.now }
     {
         match self {
             Command::Plan => Task::Plan,
             Command::Encode => Task::Encode(encode_words(values)),
             Command::List => Task::List,
+            Command::Check if operands == 3 => Task::CheckAll,
             Command::Check => Task::Check,
             Command::Reproof => Task::Reproof,
             Command::Decode => Task::Decode(decode_words(values)),
@@ -332,6 +329,8 @@ impl Command {
             },
             Command::Check => Names {
                 proof: operands.first().copied(),
+                pictures: operands.get(1).copied(),
+                movie: operands.get(2).copied(),
                 ..Names::none()
             },
             Command::Reproof => Names {
@@ -357,7 +356,7 @@ impl Task {
             Task::Plan => Command::Plan,
             Task::Encode(_) => Command::Encode,
             Task::List => Command::List,
-            Task::Check => Command::Check,
+            Task::Check | Task::CheckAll => Command::Check,
             Task::Reproof => Command::Reproof,
             Task::Decode(_) => Command::Decode,
             Task::Rescue(_) => Command::Rescue,
@@ -376,6 +375,7 @@ impl Task {
             | Task::Encode(_)
             | Task::List
             | Task::Check
+            | Task::CheckAll
             | Task::Reproof
             | Task::Rescue(_)
             | Task::CheckLeast
@@ -515,7 +515,7 @@ fn ended(
         UsageKind::Conflict
     } else {
         return Ok(Settings {
-            task: command.task(values),
+            task: command.task(operands.len(), values),
             operands,
         });
     };

@@ -11,7 +11,7 @@ use Rattle.workshop.specs.declared.words.Task.TheVariants as task
 use Rattle.workshop.proofs.top.workshop.Goals as goal
 use Rattle.workshop.specs.Listing.{status_of}
 use Rattle.workshop.specs.Status.{AnswersUnlessOutside}
-use Rattle.workshop.proofs.Complete.{unfailed, check_completes, reproof_completes, reproof_writes}
+use Rattle.workshop.proofs.Complete.{unfailed, is_run, check_reads, reproof_completes, reproof_writes}
 
 pub returns-in-Encode-clause-encode_complete : goal.returns-in-Encode-clause-encode_complete
 returns-in-Encode-clause-encode_complete g c = λ told w is none.
@@ -21,8 +21,18 @@ returns-in-Encode-clause-encode_complete g c = λ told w is none.
     (c.encode.ensures.complete told none.0 none.1)
 
 pub returns-in-Check-clause-check_complete : goal.returns-in-Check-clause-check_complete
-returns-in-Check-clause-check_complete g c = λ told run none records done.
-    check_completes (said c.args.words.now) c.check.result _ _ run none c.check.ensures.read c.check.ensures.write (c.check.ensures.yes told records done)
+returns-in-Check-clause-check_complete g c = λ told is none.
+    let none = unfailed task.Check (said c.args.words.now) _ _ is none in
+    c.check.ensures.complete told (λ r. none.proof (refl, r)) (λ r. none.text (refl, r))
+
+pub returns-in-CheckAll-clause-read : goal.returns-in-CheckAll-clause-read
+returns-in-CheckAll-clause-read g c =
+    check_reads (said c.args.words.now) _ _ _ (is_run (said c.args.words.now) (settled c.in-Ok.settings) task.CheckAll c.in-Ok.ensures.value c.in-CheckAll.is) c.check_all.ensures.read
+
+pub returns-in-CheckAll-clause-check_all_complete : goal.returns-in-CheckAll-clause-check_all_complete
+returns-in-CheckAll-clause-check_all_complete g c = λ told movie shown is none.
+    let none = unfailed task.CheckAll (said c.args.words.now) _ _ is none in
+    c.check_all.ensures.complete told movie shown (λ r. none.proof (refl, r)) (λ r. none.movie (refl, r)) (λ r. none.pictures (refl, r)) (λ r. none.text (refl, r))
 
 pub returns-in-Reproof-clause-reproof_complete : goal.returns-in-Reproof-clause-reproof_complete
 returns-in-Reproof-clause-reproof_complete g c = λ told run none done.
