@@ -23,10 +23,7 @@ pub struct Parts {
 
 /// The atoms of a track that tell its pictures; `None` where one is wanting.
 #[tactic(auto, unfolding(crate::specs::Movie::parts_in, pw_outside::specs::Reading::bind))]
-pub fn parts_of<M: ByteStore>(
-    store: &mut M,
-    trak: &Atom,
-) -> Result<Option<Parts>, MovieFault>
+pub fn parts_of<M: ByteStore>(store: &mut M, trak: &Atom) -> Result<Option<Parts>, MovieFault>
     requires order { trak.now.body ≤ trak.now.end }
     requires inside { Told (M.bytes store.old) (λ file. trak.now.end ≤ length file) }
     ensures value { Told (M.bytes store.old) (λ file. Answers told_fault (λ x. x) result (parts_in file trak.now)) }

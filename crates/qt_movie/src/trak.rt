@@ -13,7 +13,10 @@ pub enum Media {
         depth: u16,
     },
     /// Plain PCM sound of 16 bits, the least significant byte first: so many channels, and so many frames a second.
-    Sound { channels: u8, rate: u16 },
+    Sound {
+        channels: u8,
+        rate: u16,
+    },
 }
 
 /// A track: its number, its durations, its samples and where they lie.
@@ -49,6 +52,16 @@ impl Model for Trak {
     ghost Value = { TrakValues };
 
     ghost view = { λ t. record {
-        number = t.number; movie_duration = t.movie_duration; timescale = t.timescale; duration = t.duration; media = t.media;
-        stts = t.stts.items; stsc = t.stsc.items; common = t.common; count = t.count; sizes = t.sizes.items; offsets = t.offsets.items } };
+      number = t.number;
+      movie_duration = t.movie_duration;
+      timescale = t.timescale;
+      duration = t.duration;
+      media = t.media;
+      stts = t.stts.items;
+      stsc = t.stsc.items;
+      common = t.common;
+      count = t.count;
+      sizes = t.sizes.items;
+      offsets = t.offsets.items;
+    } };
 }
