@@ -7,6 +7,8 @@ mod fault;
 mod form;
 mod reader;
 mod sounding;
+#[cfg(test)]
+mod tests;
 mod track;
 mod wav;
 

@@ -1,0 +1,188 @@
+//! Runs over movies in memory.
+
+ghost use Rattle.std.specs.Prelude.{◌≤◌};
+
+use crate::hex::{bytes_of, word_of};
+use pcm_track::{SoundEnd, sound_run};
+use pw_outside::{MemSink, MemStore};
+use std::io;
+
+/// The most bytes that a call of a port moves.
+const MANY: usize = 4096;
+
+/// Which calls fail: that of the movie, of the WAV or of the text with this number.
+#[derive(Clone, Copy)]
+struct Fails {
+    movie: Option<u64>,
+    wav: Option<u64>,
+    text: Option<u64>,
+}
+
+const NONE: Fails = Fails {
+    movie: None,
+    wav: None,
+    text: None,
+};
+
+/// What a run answered and wrote.
+#[derive(Drop)]
+struct Ran {
+    end: SoundEnd,
+    wav: Vec<u8>,
+    text: Vec<u8>,
+}
+
+fn calls_of(rt: &HostRuntime, call: Option<u64>) -> io::Result<Vec<u64>> {
+    let mut calls = Vec::new(rt.alloc());
+    if let Some(call) = call {
+        calls.push(call)?;
+    }
+    Ok(calls)
+}
+
+/// A sink that takes so many bytes a call.
+fn sink_of(rt: &HostRuntime, step: usize, call: Option<u64>) -> io::Result<MemSink>
+    requires { 1 ≤ step }
+{
+    match MemSink::new(rt.alloc(), 0, step, calls_of(rt, call)?) {
+        Ok(sink) => Ok(sink),
+        Err(_) => Err(io::Error::from(io::ErrorKind::OutOfMemory)),
+    }
+}
+
+/// Takes the sound out of a movie.
+fn run_over(rt: &HostRuntime, movie: &[u8], step: usize, fails: Fails) -> io::Result<Ran>
+    requires { 1 ≤ step }
+{
+    let alloc = rt.alloc();
+    let mut store = MemStore::new(movie.to_vec(alloc)?, step, calls_of(rt, fails.movie)?);
+    let mut wav = sink_of(rt, step, fails.wav)?;
+    let mut text = sink_of(rt, step, fails.text)?;
+    let end = sound_run(alloc, &mut store, &mut wav, &mut text);
+    Ok(Ran {
+        end,
+        wav: wav.bytes().to_vec(alloc)?,
+        text: text.bytes().to_vec(alloc)?,
+    })
+}
+
+/// The exit status, and the line behind it.
+fn status_of(rt: &HostRuntime, end: SoundEnd) -> io::Result<String> {
+    let alloc = rt.alloc();
+    match end {
+        SoundEnd::Done => Ok("0".to_string(alloc)?),
+        SoundEnd::NoMemory => Ok("2 no memory".to_string(alloc)?),
+        SoundEnd::ReadFault => Ok("3 read fault".to_string(alloc)?),
+        SoundEnd::WriteFault => Ok("4 write fault".to_string(alloc)?),
+        SoundEnd::BadMovie { kind, place } => {
+            Ok(format!(in alloc; "8 movie: {kind:?} at {place}")?)
+        }
+        SoundEnd::BadSound { kind, place } => {
+            Ok(format!(in alloc; "13 sound: {kind:?} at {place}")?)
+        }
+    }
+}
+
+/// The 64-bit FNV-1a hash.
+fn hash_of(bytes: &[u8]) -> u64 {
+    let mut hash: u64 = 0xcbf2_9ce4_8422_2325;
+    for byte in bytes {
+        hash = (hash ^ u64::from(*byte)).wrapping_mul(0x100_0000_01b3);
+    }
+    hash
+}
+
+/// The bytes that were written, as a word.
+fn written_word(rt: &HostRuntime, bytes: &[u8]) -> io::Result<String> {
+    let alloc = rt.alloc();
+    if bytes.is_empty() {
+        return Ok("-".to_string(alloc)?);
+    }
+    if bytes.len() <= 600 {
+        return word_of(rt, bytes);
+    }
+    let length = bytes.len();
+    let hash = hash_of(bytes);
+    Ok(format!(in alloc; "{length}:{hash:016x}")?)
+}
+
+/// The text on one line.
+fn text_line(rt: &HostRuntime, text: &[u8]) -> io::Result<String> {
+    let alloc = rt.alloc();
+    if text.is_empty() {
+        return Ok("-".to_string(alloc)?);
+    }
+    let mut line = String::new(alloc);
+    for part in String::from_utf8_lossy(alloc, text)?.lines() {
+        line.push_str(part)?;
+        line.push_str("\\n")?;
+    }
+    Ok(line)
+}
+
+fn line_of(rt: &HostRuntime, run: &Ran) -> io::Result<String> {
+    let status = status_of(rt, run.end)?;
+    let text = text_line(rt, &run.text)?;
+    let wav = written_word(rt, &run.wav)?;
+    Ok(format!(in rt.alloc(); "{status} | {text} | {wav}")?)
+}
+
+/// The answer over a movie whose ports move so many bytes a call.
+fn answer_of(rt: &HostRuntime, movie: &[u8], step: usize) -> io::Result<String>
+    requires { 1 ≤ step }
+{
+    line_of(rt, &run_over(rt, movie, step, NONE)?)
+}
+
+/// The answer over a movie, whatever number of bytes a call moves.
+pub(crate) fn told(rt: &HostRuntime, word: &str) -> io::Result<String> {
+    let movie = bytes_of(rt, word)?;
+    let answer = answer_of(rt, &movie, MANY)?;
+    for step in [1, 3] {
+        let other = answer_of(rt, &movie, step)?;
+        if other != answer {
+            return Ok(format!(in rt.alloc(); "{answer}, but in steps of {step} {other}")?);
+        }
+    }
+    Ok(answer)
+}
+
+/// Whether a run ended so, and wrote fronts of what the whole run wrote.
+fn ended_so(run: &Ran, whole: &Ran, end: SoundEnd) -> bool {
+    run.end == end && whole.wav.starts_with(&run.wav) && whole.text.starts_with(&run.text)
+}
+
+/// Whether each call of a port that fails ends the run so, up to the first number that no call has.
+fn is_told(rt: &HostRuntime, movie: &[u8], whole: &Ran, port: u8) -> io::Result<bool> {
+    let end = if port == 0 {
+        SoundEnd::ReadFault
+    } else {
+        SoundEnd::WriteFault
+    };
+    for call in 0..2000 {
+        let fails = Fails {
+            movie: if port == 0 { Some(call) } else { None },
+            wav: if port == 1 { Some(call) } else { None },
+            text: if port == 2 { Some(call) } else { None },
+        };
+        let run = run_over(rt, movie, 7, fails)?;
+        if !ended_so(&run, whole, end) {
+            return Ok(
+                0 < call && ended_so(&run, whole, whole.end) && ended_so(whole, &run, whole.end),
+            );
+        }
+    }
+    Ok(false)
+}
+
+pub(crate) fn failing_told(rt: &HostRuntime, word: &str) -> io::Result<String> {
+    let movie = bytes_of(rt, word)?;
+    let whole = run_over(rt, &movie, 7, NONE)?;
+    let mut told = String::new(rt.alloc());
+    for port in 0..3 {
+        let is_told = is_told(rt, &movie, &whole, port)?;
+        told.push_str(if is_told { "told, " } else { "not told, " })?;
+    }
+    told.push_str(&status_of(rt, whole.end)?)?;
+    Ok(told)
+}
