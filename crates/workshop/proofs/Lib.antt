@@ -5,5 +5,5 @@ pub mod Checked
 pub mod Complete
 pub mod Reproofed
 pub mod Decoded
-pub mod Certified
 pub mod Rescued
+pub mod Certified

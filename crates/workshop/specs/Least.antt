@@ -1,12 +1,15 @@
--- What `checkleast` and `curve` answer. Our own definitions.
-use Rattle.std.specs.Prelude.{◌≡◌, ◌⊎◌, Result, Ok, Err}
+-- What `least`, `checkleast` and `curve` answer. Our own definitions.
+use Rattle.std.specs.Prelude.{◌≡◌, ℕ, ◌⊎◌, Result, Ok, Err}
 use Rattle.pw_outside.specs.Reading.{Fault}
+use Rattle.pw_outside.specs.Writing.{SinkState}
 use Rattle.rate_table.specs.declared.fault.ProofKind.{ProofKind}
 use Rattle.rate_table.specs.Table.{Table}
 use Rattle.rate_least.specs.declared.end.LeastEnd.{LeastEnd}
 use Rattle.rate_least.specs.declared.end.LeastEnd.TheVariants as ends
 use Rattle.rate_least.specs.Records.{Certificate, IsGood}
+use Rattle.rate_least.specs.Answers.{PassesByBend, IsWide}
 use Rattle.rate_least.specs.Curve.{CurvesPass}
+use Rattle.rate_least.specs.Leasting as run
 use Rattle.workshop.specs.declared.status.Status.{Status}
 use Rattle.workshop.specs.declared.status.Status.TheVariants as s
 
@@ -24,9 +27,20 @@ status_of (ends.Refused clause) = s.Refused 0 clause
 abbrev pub Ended : Status → (LeastEnd → Type 0) → Type 0
 Ended status Is = (end : LeastEnd) × (status ≡ status_of end) × Is end
 
+-- The answer is that of a run of `least` over a file, which wrote so much to `cert` and to `text`.
+abbrev pub AnswersLeast : ℕ → Result Table (Fault ProofKind) → Status → (cert cert' text text' : SinkState) → Type 0
+AnswersLeast cap input status cert cert' text text' =
+    Ended status (λ end. run.AnswersLeast cap input end × run.WritesLeast end (run.IsCertificateOf cap input) cert cert' text text')
+
 -- done, or memory ran out
 abbrev pub IsDone : Status → Type 0
 IsDone status = (status ≡ s.Done) ⊎ (status ≡ s.NoMemory)
+
+-- A table is done, unless memory runs out, where the layers held under the size of the multiplier's choice number 2^25 pairs or fewer, or there
+-- are too few sizes and slices for more.
+abbrev pub CompletesLeast : ℕ → Result Table (Fault ProofKind) → Status → Type 0
+CompletesLeast cap (Err f) status = Unit {0}
+CompletesLeast cap (Ok t) status = (PassesByBend t.slices cap × IsWide t.slices → ⊥) → IsDone status
 
 -- A good certificate is done, unless memory runs out.
 abbrev pub CompletesCheckLeast : Result Certificate (Fault ProofKind) → Status → Type 0

@@ -40,6 +40,7 @@ name_of_option option.Proof = codes "proof"
 name_of_option option.Depth = codes "depth"
 name_of_option option.Form = codes "form"
 name_of_option option.Rate = codes "rate"
+name_of_option option.Cap = codes "cap"
 
 -- ---- values. Numbers are decimal, and may have zeros in front; words are taken letter by letter.
 
@@ -125,7 +126,7 @@ raw_form bytes = do
 -- ---- the values that a command line gives
 
 abbrev pub no_values : Values
-no_values = record { budget = None; lo = None; hi = None; log2 = None; matrix = None; raw = None; interlace = None; group = None; proof = None; depth = None; form = None; rate = None }
+no_values = record { budget = None; lo = None; hi = None; log2 = None; matrix = None; raw = None; interlace = None; group = None; proof = None; depth = None; form = None; rate = None; cap = None }
 
 -- whether a value was given
 abbrev pub is_given : OptionName → Values → Bool
@@ -141,6 +142,7 @@ is_given option.Proof v = is_some v.proof
 is_given option.Depth v = is_some v.depth
 is_given option.Form v = is_some v.form
 is_given option.Rate v = is_some v.rate
+is_given option.Cap v = is_some v.cap
 
 -- the values with that of one option more; none where the bytes are no value of it
 abbrev pub with_value : OptionName → List ℕ → Values → Option Values
@@ -156,6 +158,7 @@ with_value option.Proof bytes v = option_map (λ n. record v { proof = Some n })
 with_value option.Depth bytes v = option_map (λ d. record v { depth = Some d }) (depth_in bytes)
 with_value option.Form bytes v = option_map (λ f. record v { form = Some f }) (form_named bytes)
 with_value option.Rate bytes v = option_map (λ r. record v { rate = Some r }) (rate_in bytes)
+with_value option.Cap bytes v = option_map (λ n. record v { cap = Some n }) (number_within 0 (2 ^ 64 - 1) bytes)
 
 -- a form of progressive pictures within the limits
 abbrev pub IsRawForm : Head → Type 0

@@ -38,6 +38,7 @@ pub(crate) fn question_of(words: &[String]) -> Option<Question> {
 fn form(option: OptionName) -> &'static str {
     match option {
         OptionName::Budget | OptionName::Lo | OptionName::Hi | OptionName::Log => "N",
+        OptionName::Cap => "E",
         OptionName::Matrix => "flat|steep",
         OptionName::Raw => "WxH:CHROMA:DEPTH:ALPHA:NUM/DEN",
         OptionName::Interlace => "p|t|b",
@@ -65,6 +66,8 @@ fn meaning(option: OptionName) -> &'static str {
         OptionName::Depth => "bits of a sample that is written (10 if absent)",
         OptionName::Form => "how pictures are written (y4m if absent)",
         OptionName::Rate => "frames in seconds, up to 1000000/4000 (25/1 if absent)",
+        OptionName::Cap =>
+            "the most squared error that a choice may have; 0 to 18446744073709551615",
     }
 }
 
@@ -75,12 +78,16 @@ fn purpose(command: Command) -> &'static str {
         Command::Encode =>
             "makes a movie of pictures (- is standard input), and the proof of its choices",
         Command::List => "prints the track of ProRes of a movie, and its samples",
-        Command::Check => "checks a proof, by itself or with the pictures (- is standard input) and the movie that it is of",
+        Command::Check =>
+            "checks a proof, by itself or with the pictures (- is standard input) and the movie that it is of",
         Command::Reproof => "writes a proof again in version 2",
         Command::Decode => "writes the pictures of a movie",
         Command::Rescue => "makes a movie of the frames that stand in a file whose tables are lost",
-        Command::CheckLeast => "checks a certificate of a smallest choice under a cap on the error",
-        Command::Curve => "prints all pairs of size and error of a table of costs that no other is better than",
+        Command::Least =>
+            "prints the smallest choice for a table of costs under a cap on the error, and writes its certificate",
+        Command::CheckLeast => "checks a certificate of least",
+        Command::Curve =>
+            "prints all pairs of size and error of a table of costs that no other is better than",
     }
 }
 

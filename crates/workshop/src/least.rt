@@ -1,4 +1,4 @@
-//! The runs of `checkleast` and `curve`.
+//! The runs of `least`, `checkleast` and `curve`.
 
 ghost use Rattle.std.specs.Prelude.{◌≡◌, None};
 ghost use Rattle.std.specs.Bool.{OnTrue};
@@ -9,13 +9,14 @@ ghost use Rattle.pw_outside.specs.Writing.{sink_state};
 ghost use Rattle.rate_table.specs.Reading.{tabled};
 ghost use Rattle.rate_least.specs.Files.{certified};
 ghost use Rattle.rate_least.specs.Ends.{Extends, PrintsLines};
+ghost use Rattle.rate_least.specs.Leasting.{CountsFaults};
 ghost use Rattle.rate_least.specs.Runs.{AnswersCheck, AnswersCurve, SaysTrue, yes_text, PrintsText, IsCurveText};
 ghost use Rattle.workshop.specs.Status.{is_done, is_read_fault, is_settled, is_write_fault, usage_of};
-ghost use Rattle.workshop.specs.Least.{status_of, Ended, CompletesCheckLeast, CompletesCurve};
+ghost use Rattle.workshop.specs.Least.{status_of, Ended, AnswersLeast, CompletesLeast, CompletesCheckLeast, CompletesCurve};
 
 use crate::status::Status;
 use pw_outside::{ByteSink, ByteSource};
-use rate_least::{LeastEnd, checkleast_run, curve_run};
+use rate_least::{LeastEnd, checkleast_run, curve_run, least_run};
 use std::alloc::Global;
 
 /// The answer with the fields of a run's end: a table and a certificate are frame 0.
@@ -31,6 +32,31 @@ fn status_of(end: LeastEnd) -> Status
         LeastEnd::BadProof { kind, place } => Status::BadProof { kind, place },
         LeastEnd::Refused { clause } => Status::Refused { frame: 0, clause },
     }
+}
+
+/// Finds the smallest choice of a table file under a cap on the error, writes its certificate, and prints it.
+pub(crate) fn least<S: ByteSource, K: ByteSink>(
+    alloc: Global,
+    cap: u64,
+    proof: &mut S,
+    cert: &mut K,
+    text: &mut K,
+) -> Status
+    ensures answer { Told (S.left proof.old) (λ bytes. AnswersLeast cap (tabled bytes) result
+        (sink_state (K.held cert.old) (K.taken cert.old)) (sink_state (K.held cert.new) (K.taken cert.new))
+        (sink_state (K.held text.old) (K.taken text.old)) (sink_state (K.held text.new) (K.taken text.new))) }
+    ensures complete { Told (S.left proof.old) (λ bytes. (Rose (S.faults proof.old) (S.faults proof.new) → ⊥)
+        → (Rose (K.faults cert.old) (K.faults cert.new) → ⊥) → (Rose (K.faults text.old) (K.faults text.new) → ⊥)
+        → CompletesLeast cap (tabled bytes) result) }
+    ensures usage { usage_of result ≡ None }
+    ensures cert_extends { Extends (sink_state (K.held cert.old) (K.taken cert.old)) (sink_state (K.held cert.new) (K.taken cert.new)) }
+    ensures text_extends { Extends (sink_state (K.held text.old) (K.taken text.old)) (sink_state (K.held text.new) (K.taken text.new)) }
+    ensures settled { OnTrue (is_settled result) ((K.settled cert.new ≡ K.taken cert.new) × (K.settled text.new ≡ K.taken text.new)) }
+    ensures end { OnTrue (is_done result) (IsAtEnd (S.left proof.new)) }
+    ensures read { CountsFault (S.faults proof.old) (S.faults proof.new) (is_read_fault result) }
+    ensures write { CountsFaults (K.faults cert.old) (K.faults cert.new) (K.faults text.old) (K.faults text.new) (is_write_fault result) }
+{
+    status_of(least_run(alloc, proof, cap, cert, text))
 }
 
 /// Checks a certificate, and says yes.

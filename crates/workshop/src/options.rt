@@ -39,6 +39,7 @@ pub(crate) enum OptionName {
     Depth,
     Form,
     Rate,
+    Cap,
 }
 
 impl OptionName {
@@ -59,6 +60,7 @@ impl OptionName {
             OptionName::Depth => "depth",
             OptionName::Form => "form",
             OptionName::Rate => "rate",
+            OptionName::Cap => "cap",
         }
     }
 
@@ -95,6 +97,8 @@ pub(crate) struct Values {
     pub(crate) form: Option<Form>,
     /// The rate of frames that are rescued.
     pub(crate) rate: Option<Rate>,
+    /// The most error that a choice may have.
+    pub(crate) cap: Option<u64>,
 }
 
 /// The matrix of this name.
@@ -149,6 +153,7 @@ impl Values {
             depth: None,
             form: None,
             rate: None,
+            cap: None,
         }
     }
 
@@ -169,6 +174,7 @@ impl Values {
             OptionName::Depth => self.depth.is_some(),
             OptionName::Form => self.form.is_some(),
             OptionName::Rate => self.rate.is_some(),
+            OptionName::Cap => self.cap.is_some(),
         }
     }
 
@@ -194,6 +200,7 @@ impl Values {
             OptionName::Depth => values.depth = Some(depth_in(bytes)?),
             OptionName::Form => values.form = Some(form_named(bytes)?),
             OptionName::Rate => values.rate = Some(rate_in(bytes)?),
+            OptionName::Cap => values.cap = Some(number_within(bytes, 0, u64::MAX)?),
         }
         Some(values)
     }

@@ -54,7 +54,12 @@ pub(crate) fn rate_in(bytes: &[u8]) -> Option<Rate>
     ensures value { result ≡ rate_in bytes.now }
     ensures limits { IfSome result (λ r. IsRate (rate_of r)) }
 {
-    let (num, den) = pair_within(bytes, b'/', u64::from(MAX_RATE_NUM), u64::from(MAX_RATE_DEN))?;
+    let (num, den) = pair_within(
+        bytes,
+        b'/',
+        u64::from(MAX_RATE_NUM),
+        u64::from(MAX_RATE_DEN),
+    )?;
     Some(Rate {
         num: num as u32,
         den: den as u32,

@@ -7,7 +7,7 @@ ghost use Rattle.pw_outside.specs.Reading.{Told};
 ghost use Rattle.rate_table.specs.Reading.{tabled};
 ghost use Rattle.workshop.specs.Status.{is_done, is_read_fault, is_settled, is_write_fault, has_written, usage_of};
 ghost use Rattle.workshop.specs.declared.words.Task.TheVariants as task;
-ghost use Rattle.workshop.specs.Words.{said, usage_fault, IsRun, IsEncode, IsDecode, IsRescue, tells_monitors, uses_in, reads_pictures, reads_proof, reads_movie, writes_out, writes_cert, writes_text};
+ghost use Rattle.workshop.specs.Words.{said, usage_fault, IsRun, IsEncode, IsDecode, IsRescue, IsLeast, tells_monitors, uses_in, reads_pictures, reads_proof, reads_movie, writes_out, writes_cert, writes_text};
 ghost use Rattle.workshop.specs.Faults.{faults, CountsReads, CountsWrites, NoPortFailed, Settles};
 ghost use Rattle.pw_outside.specs.Writing.{sink_state, Puts};
 ghost use Rattle.qt_movie.specs.Movie.{movie_in};
@@ -35,12 +35,12 @@ ghost use Rattle.workshop.specs.Rescuing.{AnswersRescue, CompletesRescue};
 ghost use Rattle.rate_least.specs.Files.{certified};
 ghost use Rattle.rate_least.specs.Ends.{PrintsLines};
 ghost use Rattle.rate_least.specs.Runs.{AnswersCheck as AnswersCertificate, AnswersCurve, SaysTrue, yes_text, PrintsText, IsCurveText};
-ghost use Rattle.workshop.specs.Least.{Ended, CompletesCheckLeast, CompletesCurve};
+ghost use Rattle.workshop.specs.Least.{Ended, AnswersLeast, CompletesLeast, CompletesCheckLeast, CompletesCurve};
 
 use crate::checking::{check, check_all};
 use crate::decode::decode;
 use crate::encode::encode;
-use crate::least::{check_least, curve};
+use crate::least::{check_least, curve, least};
 use crate::listing::list;
 use crate::plan::plan;
 use crate::reproofing::reproof;
@@ -71,8 +71,9 @@ use std::alloc::Global;
 ///   tells each monitor of each picture, and writes their number and the monitors' reports to `text`.
 /// - `rescue FILE OUT` looks through `movie` for frames of ProRes, wherever they stand, and writes a movie of those of the form
 ///   of the first to `out`, and a line for each with its place to `text`.
-/// - `checkleast CERT` reads a certificate of a smallest choice through `proof` to its end, checks it, and writes the line `yes` to
-///   `text`.
+/// - `least TABLE CERT` reads a table file through `proof` to its end, finds the smallest choice of error at most `--cap`, and writes a
+///   certificate of it to `cert` and its lines to `text`; or says that none meets the cap, with the least error.
+/// - `checkleast CERT` reads such a certificate through `proof` to its end, checks it, and writes the line `yes` to `text`.
 /// - `curve TABLE` reads a table file through `proof` to its end, and writes a line for each undominated pair of size and error to
 ///   `text`.
 #[tactic(auto, using(run_look::proofs::Texts::none_extends))]
@@ -238,6 +239,18 @@ pub fn workshop<S: ByteSource, M: ByteStore, K: ByteSink>(
         → NoPortFailed (uses_in (said words.now)) (faults S.faults M.faults K.faults pictures.old proof.old movie.old out.old cert.old text.old) (faults S.faults M.faults K.faults pictures.new proof.new movie.new out.new cert.new text.new)
         → CompletesRescue file result) }
 
+    // `least`: where the table's bytes are told, they decide the answer and all that is written. BadProof comes with their first fault;
+    // LayersFull, frame 0, as the table's layers say. After Done the certificate of the smallest choice that meets the cap, or of none,
+    // and its lines were appended, whole; after a fault of writing fronts of them, and after every other answer nothing.
+    ensures least { Told (S.left proof.old) (λ bytes. (cap : ℕ) → IsLeast cap (said words.now) → AnswersLeast cap (tabled bytes) result
+        (sink_state (K.held cert.old) (K.taken cert.old)) (sink_state (K.held cert.new) (K.taken cert.new))
+        (sink_state (K.held text.old) (K.taken text.old)) (sink_state (K.held text.new) (K.taken text.new))) }
+    ensures least_end { (cap : ℕ) → IsLeast cap (said words.now) → OnTrue (is_done result) (IsAtEnd (S.left proof.new)) }
+    // Where no port failed, a table whose held layers aren't too full is Done, unless memory runs out.
+    ensures least_complete { Told (S.left proof.old) (λ bytes. (cap : ℕ) → IsLeast cap (said words.now)
+        → NoPortFailed (uses_in (said words.now)) (faults S.faults M.faults K.faults pictures.old proof.old movie.old out.old cert.old text.old) (faults S.faults M.faults K.faults pictures.new proof.new movie.new out.new cert.new text.new)
+        → CompletesLeast cap (tabled bytes) result) }
+
     // `checkleast`: where the certificate's bytes are told, they decide the answer. BadProof comes with their first fault, and Refused,
     // frame 0, with the first clause that fails.
     ensures checkleast { Told (S.left proof.old) (λ bytes. IsRun task.CheckLeast (said words.now) → Ended result (λ end. AnswersCertificate (certified bytes) end)) }
@@ -283,6 +296,7 @@ pub fn workshop<S: ByteSource, M: ByteStore, K: ByteSink>(
         Task::Reproof => reproof(alloc, proof, cert, text),
         Task::Decode(values) => decode(alloc, &values, movie, out, text, monitors),
         Task::Rescue(rate) => rescue(alloc, rate, movie, out, text),
+        Task::Least(cap) => least(alloc, cap, proof, cert, text),
         Task::CheckLeast => check_least(alloc, proof, text),
         Task::Curve => curve(alloc, proof, text),
     }

@@ -34,7 +34,9 @@ pub enum Command {
     Decode,
     /// `rescue FILE OUT` makes a movie of the frames that stand in a file.
     Rescue,
-    /// `checkleast CERT` checks a certificate of a smallest choice under a cap on the error.
+    /// `least TABLE CERT` prints the smallest choice of a table file under a cap on the error, and certifies it.
+    Least,
+    /// `checkleast CERT` checks a certificate of `least`.
     CheckLeast,
     /// `curve TABLE` prints all undominated pairs of size and error of a table file.
     Curve,
@@ -79,6 +81,8 @@ pub enum Task {
     Decode(DecodeWords),
     /// At this rate.
     Rescue(Rate),
+    /// Under this cap on the error.
+    Least(u64),
     CheckLeast,
     Curve,
 }
@@ -104,6 +108,7 @@ impl Command {
             "reproof" => Some(Command::Reproof),
             "decode" => Some(Command::Decode),
             "rescue" => Some(Command::Rescue),
+            "least" => Some(Command::Least),
             "checkleast" => Some(Command::CheckLeast),
             "curve" => Some(Command::Curve),
             _ => None,
@@ -122,6 +127,7 @@ impl Command {
             Command::Reproof,
             Command::Decode,
             Command::Rescue,
+            Command::Least,
             Command::CheckLeast,
             Command::Curve,
         ]
@@ -139,6 +145,7 @@ impl Command {
             Command::Reproof => "reproof",
             Command::Decode => "decode",
             Command::Rescue => "rescue",
+            Command::Least => "least",
             Command::CheckLeast => "checkleast",
             Command::Curve => "curve",
         }
@@ -156,6 +163,7 @@ impl Command {
             Command::Reproof => &["PROOF", "OUTPUT"],
             Command::Decode => &["MOVIE", "OUT"],
             Command::Rescue => &["FILE", "OUT"],
+            Command::Least => &["TABLE", "CERT"],
             Command::CheckLeast => &["CERT"],
         }
     }
@@ -167,7 +175,7 @@ impl Command {
         match self {
             Command::Plan | Command::List | Command::CheckLeast | Command::Curve => &[1],
             Command::Check => &[1, 3],
-            Command::Reproof | Command::Decode | Command::Rescue => &[2],
+            Command::Reproof | Command::Decode | Command::Rescue | Command::Least => &[2],
             Command::Encode => &[3],
         }
     }
@@ -187,7 +195,9 @@ impl Command {
         match self {
             Command::Plan | Command::List | Command::CheckLeast | Command::Curve => operands == 1,
             Command::Check => operands == 1 || operands == 3,
-            Command::Reproof | Command::Decode | Command::Rescue => operands == 2,
+            Command::Reproof | Command::Decode | Command::Rescue | Command::Least => {
+                operands == 2
+            }
             Command::Encode => operands == 3,
         }
     }
@@ -216,6 +226,7 @@ impl Command {
             ],
             Command::Decode => &[OptionName::Depth, OptionName::Form],
             Command::Rescue => &[OptionName::Rate],
+            Command::Least => &[OptionName::Cap],
         }
     }
 
@@ -233,6 +244,7 @@ impl Command {
             | Command::CheckLeast
             | Command::Curve => None,
             Command::Encode => Some(OptionName::Budget),
+            Command::Least => Some(OptionName::Cap),
         }
     }
 
@@ -263,6 +275,7 @@ impl Command {
             | Command::CheckLeast
             | Command::Curve => false,
             Command::Encode => values.budget.is_none(),
+            Command::Least => values.cap.is_none(),
         }
     }
 
@@ -278,6 +291,7 @@ impl Command {
             | Command::Reproof
             | Command::Decode
             | Command::Rescue
+            | Command::Least
             | Command::CheckLeast
             | Command::Curve => false,
             Command::Encode => {
@@ -303,6 +317,7 @@ impl Command {
             Command::Reproof => Task::Reproof,
             Command::Decode => Task::Decode(decode_words(values)),
             Command::Rescue => Task::Rescue(values.rate.unwrap_or(Rate { num: 25, den: 1 })),
+            Command::Least => Task::Least(values.cap.unwrap_or(0)),
             Command::CheckLeast => Task::CheckLeast,
             Command::Curve => Task::Curve,
         }
@@ -333,7 +348,7 @@ impl Command {
                 movie: operands.get(2).copied(),
                 ..Names::none()
             },
-            Command::Reproof => Names {
+            Command::Reproof | Command::Least => Names {
                 proof: operands.first().copied(),
                 cert: operands.get(1).copied(),
                 ..Names::none()
@@ -360,6 +375,7 @@ impl Task {
             Task::Reproof => Command::Reproof,
             Task::Decode(_) => Command::Decode,
             Task::Rescue(_) => Command::Rescue,
+            Task::Least(_) => Command::Least,
             Task::CheckLeast => Command::CheckLeast,
             Task::Curve => Command::Curve,
         }
@@ -378,6 +394,7 @@ impl Task {
             | Task::CheckAll
             | Task::Reproof
             | Task::Rescue(_)
+            | Task::Least(_)
             | Task::CheckLeast
             | Task::Curve => false,
         }

@@ -7,11 +7,14 @@ use Rattle.workshop.specs.Decoding.{CompletesDecode}
 use Rattle.workshop.specs.Words.{said, settled}
 use Rattle.workshop.proofs.Encoded.{quiet, same-words}
 use Rattle.workshop.proofs.Decoded as decoded
-use Rattle.workshop.specs.declared.words.Task.TheVariants as task
+use Rattle.workshop.proofs.Certified as certified
+use Rattle.workshop.specs.Least.{CompletesLeast}
+use Rattle.rate_table.specs.Reading.{tabled}
 use Rattle.workshop.proofs.top.workshop.Goals as goal
 use Rattle.workshop.specs.Listing.{status_of}
 use Rattle.workshop.specs.Status.{AnswersUnlessOutside}
 use Rattle.workshop.proofs.Complete.{unfailed, is_run, check_reads, reproof_completes, reproof_writes}
+use Rattle.workshop.specs.declared.words.Task.TheVariants as task
 
 pub returns-in-Encode-clause-encode_complete : goal.returns-in-Encode-clause-encode_complete
 returns-in-Encode-clause-encode_complete g c = λ told w is none.
@@ -47,6 +50,18 @@ returns-in-Decode-clause-decode_complete g c = λ told w is none.
     subst (λ v. CompletesDecode v file (movie_in file) c.decode.result) same
     (c.decode.ensures.complete told none.0 none.1 none.2)
 
+pub returns-in-Rescue-clause-rescue_complete : goal.returns-in-Rescue-clause-rescue_complete
+returns-in-Rescue-clause-rescue_complete g c = λ told rate is none.
+    let none = unfailed (task.Rescue rate) (said c.args.words.now) _ _ is none in
+    c.rescue.ensures.complete told (λ r. none.movie (refl, r)) (λ r. none.out (refl, r)) (λ r. none.text (refl, r))
+
+pub returns-in-Least-clause-least_complete : goal.returns-in-Least-clause-least_complete
+returns-in-Least-clause-least_complete g c = λ told cap is none.
+    let none = certified.quiet (said c.args.words.now) (settled c.in-Ok.settings) c.in-Least.cap _ _ c.in-Ok.ensures.value c.in-Least.is none in
+    let same = certified.same-cap (said c.args.words.now) (settled c.in-Ok.settings) c.in-Least.cap cap c.in-Ok.ensures.value c.in-Least.is is in
+    subst (λ e. CompletesLeast e (tabled (bytes_of (g.S.ByteSource.left c.args.proof.now))) c.least.result) same
+    (c.least.ensures.complete told none.0 none.1 none.2)
+
 pub returns-in-CheckLeast-clause-checkleast_complete : goal.returns-in-CheckLeast-clause-checkleast_complete
 returns-in-CheckLeast-clause-checkleast_complete g c = λ told is none.
     let none = unfailed task.CheckLeast (said c.args.words.now) _ _ is none in
@@ -56,8 +71,3 @@ pub returns-in-Curve-clause-curve_complete : goal.returns-in-Curve-clause-curve_
 returns-in-Curve-clause-curve_complete g c = λ told is none.
     let none = unfailed task.Curve (said c.args.words.now) _ _ is none in
     c.curve.ensures.complete told (λ r. none.proof (refl, r)) (λ r. none.text (refl, r))
-
-pub returns-in-Rescue-clause-rescue_complete : goal.returns-in-Rescue-clause-rescue_complete
-returns-in-Rescue-clause-rescue_complete g c = λ told rate is none.
-    let none = unfailed (task.Rescue rate) (said c.args.words.now) _ _ is none in
-    c.rescue.ensures.complete told (λ r. none.movie (refl, r)) (λ r. none.out (refl, r)) (λ r. none.text (refl, r))
