@@ -12,3 +12,4 @@ pub mod Grown
 pub mod Exists
 pub mod Merges
 pub mod Curved
+pub mod Ran

@@ -10,3 +10,6 @@ pub mod Curve
 pub mod Ends
 pub mod Runs
 pub mod Laws
+pub mod Held
+pub mod Answers
+pub mod Leasting
