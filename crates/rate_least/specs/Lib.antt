@@ -13,3 +13,6 @@ pub mod Laws
 pub mod Held
 pub mod Answers
 pub mod Leasting
+pub mod First
+pub mod Live
+pub mod Bent
