@@ -5,7 +5,7 @@ use Rattle.std.proofs.lemmas.List.{get_or_append_left, get_or_push, get_or_defau
 use Rattle.std.proofs.lemmas.List.Elements.{All-take, Contains-get_or}
 use Rattle.std.proofs.lemmas.Bool.{cases_lt}
 use Rattle.rate_table.specs.declared.entry.Entry.{Entry}
-use Rattle.rate_table.specs.Table.{IsSlice, size_of, error_of, least}
+use Rattle.rate_table.specs.Table.{IsSlice, least}
 use Rattle.rate_table.specs.Pairs.{cost, rest}
 use Rattle.rate_least.specs.declared.outcome.WidePair.{WidePair}
 use Rattle.rate_least.specs.declared.bound.Bound.{Bound}

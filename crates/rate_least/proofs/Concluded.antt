@@ -1,5 +1,5 @@
 -- The goal of found layers is the smallest choice's pair.
-use Rattle.std.proofs.Common.{◌≡◌, ℕ, zero, suc, ◌+◌, ◌<◌, ◌≤◌, ◌^◌, List, [], ◌∷◌, length, get_or, take, refl, sym, ap, ◌∙◌, subst, arith, ⊎_elim}
+use Rattle.std.proofs.Common.{◌≡◌, ℕ, zero, suc, ◌<◌, ◌≤◌, List, [], ◌∷◌, length, get_or, take, refl, sym, ap, ◌∙◌, subst, arith, ⊎_elim}
 use Rattle.std.specs.Prelude.{Result, Ok, Err, IfErr}
 use Rattle.std.specs.List.{All, Contains}
 use Rattle.std.proofs.lemmas.List.{length-take, get_or_default}
@@ -18,7 +18,7 @@ use Rattle.rate_table.proofs.Entries.{least_below}
 use Rattle.rate_least.specs.Files.{IsPrintable, HasWidths, IsPair}
 use Rattle.rate_least.specs.First.{IsFirst}
 use Rattle.rate_least.specs.Held.{IsMultiplier}
-use Rattle.rate_least.specs.Live.{Capped, AreFound}
+use Rattle.rate_least.specs.Live.{AreFound}
 use Rattle.rate_least.specs.Answers.{IsSmallest, IsSmallestWith, PassesBySmallest}
 use Rattle.rate_least.proofs.Asked.{AreKept}
 use Rattle.rate_least.proofs.Bends.{multiplier_same}

@@ -2,8 +2,6 @@
 use Rattle.std.proofs.Common.{ℕ, zero, suc, take, ◌+◌, ◌≤◌, List, [], ◌∷◌, length, drop, ap, arith, ⊎_elim, ◌↔◌}
 use Rattle.std.specs.List.{Contains}
 use Rattle.rate_least.specs.declared.outcome.WidePair.{WidePair}
-
-
 use Rattle.rate_least.specs.Layers.{Rises}
 use Rattle.rate_least.specs.Live.{Capped}
 use Rattle.rate_least.specs.Answers.{greatest, greatest_size}

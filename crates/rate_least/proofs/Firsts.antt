@@ -1,7 +1,7 @@
 -- The best choice from the layers.
-use Rattle.std.proofs.Common.{◌≡◌, ℕ, ◌+◌, ◌<◌, ◌≤◌, List, [], ◌∷◌, ◌++◌, length, take, drop, refl, sym, ap, ◌∙◌, subst, arith, ◌⊎◌, inl, inr, ⊎_elim}
+use Rattle.std.proofs.Common.{◌≡◌, ℕ, ◌+◌, ◌<◌, ◌≤◌, List, [], ◌∷◌, ◌++◌, take, drop, refl, sym, ap, ◌∙◌, subst, arith, ◌⊎◌, inl, inr, ⊎_elim}
 use Rattle.std.specs.List.{Contains, sum_by}
-use Rattle.std.proofs.lemmas.List.{take-append-drop, map_push}
+use Rattle.std.proofs.lemmas.List.{take-append-drop}
 use Rattle.std.proofs.lemmas.List.Sums.{sum_by-cons}
 use Rattle.std.proofs.lemmas.Bool.{cases_lt}
 use Rattle.rate_table.specs.declared.entry.Entry.{Entry}
@@ -12,10 +12,9 @@ use Rattle.rate_least.specs.Live.{Capped}
 use Rattle.rate_least.specs.Answers.{IsSmallest}
 use Rattle.rate_least.specs.First.{IsFirst, extended, IsFirstFrom, Leads}
 use Rattle.rate_least.specs.Pairs.{Dominates, joined, RisesAndFalls}
-use Rattle.rate_least.specs.Layers.{wide_of, Reaches, IsUndominated, IsFront}
-use Rattle.rate_least.proofs.Fronts.{same_pair, falls_tail, first_below}
-use Rattle.rate_table.proofs.Lists.{contains_cases, contains_head, contains_tail, contains_none}
-use Rattle.rate_least.proofs.Grown.{choice_last, choice_push, pair_push}
+use Rattle.rate_least.specs.Layers.{wide_of, Reaches, IsFront}
+use Rattle.rate_least.proofs.Fronts.{same_pair, first_below}
+use Rattle.rate_table.proofs.Lists.{contains_cases, contains_head}
 use Rattle.rate_least.proofs.Asked.{Fits, IsTest, At}
 use Rattle.rate_table.proofs.Entries.{index_same}
 

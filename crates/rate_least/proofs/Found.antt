@@ -1,12 +1,12 @@
 -- From found layers to the first choice with the goal's pair.
 use Rattle.std.proofs.Common.{◌≡◌, ℕ, suc, ◌+◌, ◌-◌, ◌^◌, ◌<◌, ◌≤◌, List, [], ◌∷◌, ◌++◌, Vec, Global, Bool, true, false, length, map, get_or, replicate, drop, refl, sym, ap, ◌∙◌, subst, arith, ⊎_elim}
 use Rattle.std.specs.List.{Contains}
-use Rattle.std.proofs.lemmas.List.{length-append, length-replicate, get_or_append_left, get_or_push, get_or-map, get_or_default, length_push, drop_all, map_push, append_assoc, append-nil}
+use Rattle.std.proofs.lemmas.List.{length-replicate, get_or_append_left, get_or_push, get_or-map, get_or_default, length_push, drop_all, map_push, append_assoc, append-nil}
 use Rattle.std.proofs.lemmas.Bool.{cases_lt}
 use Rattle.std.proofs.Math.Seq.{drop-cons}
 use Rattle.rate_table.specs.declared.entry.Entry.{Entry}
 use Rattle.rate_least.specs.declared.outcome.WidePair.{WidePair}
-use Rattle.rate_table.specs.Table.{IsSlice, IsChoice, size_of, error_of, indices, IndicesRise}
+use Rattle.rate_table.specs.Table.{IsChoice, size_of, error_of, indices, IndicesRise}
 use Rattle.rate_least.specs.Pairs.{joined}
 use Rattle.rate_least.specs.Live.{Capped}
 use Rattle.rate_least.specs.First.{IsFirst, extended, IsFirstFrom, Leads}

@@ -3,7 +3,6 @@ use Rattle.std.proofs.Common.{ℕ, ◌<◌, List, [], ◌∷◌, drop, ap, subst
 use Rattle.std.specs.List.{Contains}
 use Rattle.std.proofs.lemmas.Bool.{cases_lt}
 use Rattle.rate_least.specs.declared.outcome.WidePair.{WidePair}
-
 use Rattle.rate_least.specs.Layers.{Rises, IsFront}
 use Rattle.rate_least.specs.Live.{Capped}
 use Rattle.rate_least.specs.Pairs.{RisesAndFalls}

@@ -1,14 +1,13 @@
 -- Found layers under a smaller size.
-use Rattle.std.proofs.Common.{◌≡◌, ℕ, zero, suc, ◌+◌, ◌-◌, ◌*◌, ◌<◌, ◌≤◌, List, [], ◌∷◌, ◌++◌, Vec, Global, Bool, true, cond, length, get_or, set, drop, nat_lt, refl, sym, ap, ◌∙◌, subst, arith, ⊎_elim}
+use Rattle.std.proofs.Common.{◌≡◌, ℕ, zero, suc, ◌+◌, ◌-◌, ◌*◌, ◌<◌, ◌≤◌, List, [], ◌∷◌, Vec, Global, Bool, true, cond, length, get_or, set, drop, nat_lt, refl, sym, ap, ◌∙◌, subst, arith, ⊎_elim}
 use Rattle.std.specs.List.{filter}
 use Rattle.std.proofs.lemmas.Bool.{cases_lt, ltb-true, lt-ltb}
-use Rattle.std.proofs.lemmas.Nat.{mul-le}
 use Rattle.std.proofs.lemmas.List.{length-set, get_or-set_same, get_or-set_other, drop_all}
 use Rattle.rate_least.specs.declared.outcome.WidePair.{WidePair}
 use Rattle.rate_table.specs.Table.{size_of, error_of}
 use Rattle.rate_table.specs.Pairs.{rest}
 use Rattle.rate_least.specs.Live.{Capped, AreFound}
-use Rattle.rate_least.proofs.Asked.{IsKept, AreKept, Within}
+use Rattle.rate_least.proofs.Asked.{IsKept, AreKept}
 use Rattle.rate_least.proofs.Counts.{kept_less}
 use Rattle.rate_least.proofs.Wholes.{kept_same, kept_are_fewer}
 use Rattle.rate_least.proofs.Found.{items_of, element, goal_reached, goal_fits, goal_below}

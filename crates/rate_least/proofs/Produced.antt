@@ -8,12 +8,11 @@ use Rattle.std.proofs.Math.Seq.{take-suc}
 use Rattle.rate_table.specs.declared.entry.Entry.{Entry}
 use Rattle.rate_table.specs.Table.{IsChoice, IsSlice, size_of, error_of, indices}
 use Rattle.rate_table.specs.Pairs.{rest}
-use Rattle.rate_table.proofs.Lists.{contains_none}
 use Rattle.rate_table.proofs.Entries.{choice_same}
 use Rattle.rate_least.specs.declared.outcome.WidePair.{WidePair}
 use Rattle.rate_least.specs.Pairs.{joined, RisesAndFalls, least_error}
-use Rattle.rate_least.specs.Layers.{wide_of, Reaches, IsFront}
-use Rattle.rate_least.specs.Records.{Printed, IsCovered, Steps, AllStep, IsGoodFit}
+use Rattle.rate_least.specs.Layers.{Reaches, IsFront}
+use Rattle.rate_least.specs.Records.{Printed, IsCovered, Steps, IsGoodFit}
 use Rattle.rate_least.specs.Answers.{IsSmallest}
 use Rattle.rate_least.specs.First.{IsFirst}
 use Rattle.rate_least.specs.Live.{Capped}

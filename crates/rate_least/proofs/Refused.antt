@@ -1,5 +1,5 @@
 -- When layers are too many.
-use Rattle.std.proofs.Common.{ℕ, ◌+◌, ◌*◌, ◌^◌, ◌<◌, ◌≤◌, List, length, arith}
+use Rattle.std.proofs.Common.{ℕ, ◌^◌, ◌<◌, ◌≤◌, List, arith}
 use Rattle.rate_table.specs.declared.entry.Entry.{Entry}
 use Rattle.rate_table.specs.Table.{IsChoice, size_of, error_of}
 use Rattle.rate_least.specs.declared.outcome.WidePair.{WidePair}

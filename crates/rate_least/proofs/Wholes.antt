@@ -1,10 +1,9 @@
 -- All kept layers of a table together.
-use Rattle.std.proofs.Common.{◌≡◌, ℕ, zero, suc, ◌+◌, ◌*◌, ◌<◌, ◌≤◌, List, [], ◌∷◌, ◌++◌, length, get_or, take, drop, leb, ◌&&◌, sym, ◌∙◌, subst, arith, ⊎_elim}
+use Rattle.std.proofs.Common.{◌≡◌, ℕ, zero, suc, ◌+◌, ◌*◌, ◌<◌, ◌≤◌, List, [], ◌∷◌, ◌++◌, length, get_or, take, drop, leb, ◌&&◌, sym, subst, arith, ⊎_elim}
 use Rattle.std.proofs.lemmas.List.{get_or_append_left, get_or_push, length_push}
 use Rattle.std.proofs.lemmas.List.Sums.{sum_by-cons}
 use Rattle.std.proofs.lemmas.Bool.{cases_lt, leb-true, le-leb, and_parts, and_from}
 use Rattle.rate_least.specs.declared.outcome.WidePair.{WidePair}
-
 use Rattle.rate_table.specs.Pairs.{rest}
 use Rattle.rate_least.specs.Layers.{pairs_in}
 use Rattle.rate_least.specs.Pairs.{least_error}

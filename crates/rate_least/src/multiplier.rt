@@ -18,7 +18,8 @@ fn is_better(a: &Entry, first: u128, b: &Entry, second: u128) -> bool
     ensures yes { (m : ℕ) → first ≡ cost m a.now → second ≡ cost m b.now → IsTrue result → Wins m a.now b.now }
     ensures no { (m : ℕ) → first ≡ cost m a.now → second ≡ cost m b.now → (IsTrue result → ⊥) → Wins m b.now a.now }
 {
-    first < second || first == second && (a.error < b.error || a.error == b.error && a.index <= b.index)
+    first < second
+        || first == second && (a.error < b.error || a.error == b.error && a.index <= b.index)
 }
 
 /// The entry of least cost, then of least error, then of least index.

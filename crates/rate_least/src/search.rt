@@ -91,12 +91,7 @@ fn between(low: u64, most: u64, part: u64) -> u64
 /// The layers held under some size that a choice that meets the cap has. Small sizes are tried first: from a lower bound of all
 /// sizes a 4,096th of the way to the size of the multiplier's choice, then four times as far, up to that size, which that choice
 /// has. None is tried twice.
-fn find(
-    alloc: Global,
-    table: &FrameTable,
-    cap: u64,
-    multiplier: u64,
-) -> Result<Found, BestFault>
+fn find(alloc: Global, table: &FrameTable, cap: u64, multiplier: u64) -> Result<Found, BestFault>
     requires { IsMultiplier table.now.slices cap multiplier }
     ensures found { IfOk result (λ f. (u : ℕ) × AreFound (record { slices = table.now.slices; cap = cap }) multiplier u f.goal (map (λ l. l.items) f.layers.items)) }
     ensures full { IfErr result (λ e. e ≡ LayersFull → PassesByBend table.now.slices cap) }

@@ -1,4 +1,4 @@
-use Rattle.std.proofs.Common.{[], ◌∷◌, refl, arith}
+use Rattle.std.proofs.Common.{refl}
 use Rattle.rate_least.proofs.Concluded.{begins}
 use Rattle.rate_least.proofs.search.first_of.Goals as goal
 

@@ -1,6 +1,5 @@
-use Rattle.std.proofs.Common.{◌≡◌, ◌<◌, arith}
+use Rattle.std.proofs.Common.{◌≡◌, arith}
 use Rattle.rate_layers.specs.declared.fault.BestFault.TheVariants.{LayersFull}
-use Rattle.rate_least.specs.Pairs.{least_error}
 use Rattle.rate_least.specs.Answers.{PassesByBend, IsWide}
 use Rattle.rate_least.proofs.Concluded.{least_meets, none_meets, err_weaker}
 use Rattle.rate_least.proofs.Refused.{wide_passes}
