@@ -1,4 +1,4 @@
-//! Certificates that no choice under a cap on the error is smaller, and all undominated pairs.
+//! The smallest choice under a cap on the error, certificates that no choice is smaller, and all undominated pairs.
 #![tactic(auto)]
 
 mod bound;
