@@ -29,3 +29,16 @@ pub(crate) fn bytes_of(rt: &HostRuntime, word: &str) -> io::Result<Vec<u8>> {
     }
     Ok(bytes)
 }
+
+/// The word that stands for these bytes; a lone dash stands for none.
+pub(crate) fn word_of(rt: &HostRuntime, bytes: &[u8]) -> io::Result<String> {
+    let alloc = rt.alloc();
+    if bytes.is_empty() {
+        return Ok("-".to_string(alloc)?);
+    }
+    let mut word = String::new(alloc);
+    for byte in bytes {
+        word.push_str(&format!(in alloc; "{byte:02x}")?)?;
+    }
+    Ok(word)
+}

@@ -1,11 +1,11 @@
 //! A program for the gate alone. Each line of standard input is a case, and its answer is printed on one line: the exit status
-//! and what stands behind it, and the text with `\n` for each line feed. The cases and the answers that are compared with it are
+//! and what stands behind it, the text with `\n` for each line feed, and the certificate. The cases and the answers that are compared with it are
 //! worked ones, or those of an independent reference. A file stands in hexadecimal, or as a lone dash where it is empty.
 //!
-//! - `checkleast CERT`, `curve TABLE`: what the run answers over this file.
+//! - `least=CAP TABLE`, `checkleast CERT`, `curve TABLE`: what the run answers over this file.
 //! - `fronts COMMAND FILE`: what it answers over the fronts of this file: each answer behind the length of the first front that
 //!   has it, if the front before has another.
-//! - `failing COMMAND FILE`: whether each call of the file and of the text that fails, each of 7 bytes, is told, with a front of
+//! - `failing COMMAND FILE`: whether each call of the file, of the text and of the certificate that fails, each of 7 bytes, is told, with a front of
 //!   what the whole run writes; and the status of the whole run.
 #![tactic(auto)]
 

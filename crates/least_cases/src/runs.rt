@@ -2,24 +2,26 @@
 
 ghost use Rattle.std.specs.Prelude.{◌≤◌};
 
-use crate::hex::bytes_of;
+use crate::hex::{bytes_of, word_of};
 use pw_outside::{MemSink, MemSource};
-use rate_least::{LeastEnd, checkleast_run, curve_run};
+use rate_least::{LeastEnd, checkleast_run, curve_run, least_run};
 use std::io;
 
 /// The bytes that a call of a port moves in `fronts`.
 const MANY: usize = 4096;
 
-/// Which calls fail: that of the file or of the text with this number.
+/// Which calls fail: that of the file, of the text or of the certificate with this number.
 #[derive(Clone, Copy)]
 struct Fails {
     proof: Option<u64>,
     text: Option<u64>,
+    cert: Option<u64>,
 }
 
 const NONE: Fails = Fails {
     proof: None,
     text: None,
+    cert: None,
 };
 
 /// What a run answered and wrote.
@@ -27,6 +29,7 @@ const NONE: Fails = Fails {
 struct Ran {
     end: LeastEnd,
     text: Vec<u8>,
+    cert: Vec<u8>,
 }
 
 fn calls_of(rt: &HostRuntime, call: Option<u64>) -> io::Result<Vec<u64>> {
@@ -47,6 +50,17 @@ fn sink_of(rt: &HostRuntime, step: usize, call: Option<u64>) -> io::Result<MemSi
     }
 }
 
+/// The cap of `least` with its cap behind it, as `least=7`; other commands have none.
+fn cap_of(command: &str) -> io::Result<Option<u64>> {
+    match command.split_once('=') {
+        Some((_, word)) => match word.parse::<u64>() {
+            Ok(cap) => Ok(Some(cap)),
+            Err(_) => Err(io::Error::from(io::ErrorKind::InvalidData)),
+        },
+        None => Ok(None),
+    }
+}
+
 /// Runs a command over a file.
 fn run_over(
     rt: &HostRuntime,
@@ -60,14 +74,16 @@ fn run_over(
     let alloc = rt.alloc();
     let mut source = MemSource::new(proof.to_vec(alloc)?, step, calls_of(rt, fails.proof)?);
     let mut text = sink_of(rt, step, fails.text)?;
-    let end = if command == "checkleast" {
-        checkleast_run(alloc, &mut source, &mut text)
-    } else {
-        curve_run(alloc, &mut source, &mut text)
+    let mut cert = sink_of(rt, step, fails.cert)?;
+    let end = match cap_of(command)? {
+        Some(cap) => least_run(alloc, &mut source, cap, &mut cert, &mut text),
+        None if command == "checkleast" => checkleast_run(alloc, &mut source, &mut text),
+        None => curve_run(alloc, &mut source, &mut text),
     };
     Ok(Ran {
         end,
         text: text.bytes().to_vec(alloc)?,
+        cert: cert.bytes().to_vec(alloc)?,
     })
 }
 
@@ -106,7 +122,8 @@ fn text_line(rt: &HostRuntime, text: &[u8]) -> io::Result<String> {
 fn line_of(rt: &HostRuntime, run: &Ran) -> io::Result<String> {
     let status = status_of(rt, run.end)?;
     let text = text_line(rt, &run.text)?;
-    Ok(format!(in rt.alloc(); "{status} | {text}")?)
+    let cert = word_of(rt, &run.cert)?;
+    Ok(format!(in rt.alloc(); "{status} | {text} | {cert}")?)
 }
 
 /// The answer over a file whose ports move so many bytes a call.
@@ -153,7 +170,7 @@ pub(crate) fn fronts_told(rt: &HostRuntime, case: &str) -> io::Result<String> {
 
 /// Whether a run ended so, and wrote fronts of what the whole run wrote.
 fn ended_so(run: &Ran, whole: &Ran, end: LeastEnd) -> bool {
-    run.end == end && whole.text.starts_with(&run.text)
+    run.end == end && whole.text.starts_with(&run.text) && whole.cert.starts_with(&run.cert)
 }
 
 /// Whether each call of a port that fails ends the run so, up to the first number that no call has.
@@ -173,6 +190,7 @@ fn is_told(
         let fails = Fails {
             proof: if port == 0 { Some(call) } else { None },
             text: if port == 1 { Some(call) } else { None },
+            cert: if port == 2 { Some(call) } else { None },
         };
         let run = run_over(rt, command, proof, 7, fails)?;
         if !ended_so(&run, whole, end) {
@@ -186,7 +204,8 @@ pub(crate) fn failing_told(rt: &HostRuntime, case: &str) -> io::Result<String> {
     let (command, proof) = case_of(rt, case)?;
     let whole = run_over(rt, command, &proof, 7, NONE)?;
     let mut told = String::new(rt.alloc());
-    for port in 0..2 {
+    let ports = if cap_of(command)?.is_some() { 3 } else { 2 };
+    for port in 0..ports {
         let is_told = is_told(rt, command, &proof, &whole, port)?;
         told.push_str(if is_told { "told, " } else { "not told, " })?;
     }

@@ -21,7 +21,7 @@ use Rattle.rate_least.proofs.Exists.{front_of_all}
 
 -- ---- sums of choices are small
 
-size_small : (slices : List (List Entry)) → All IsSlice slices → (c : List Entry) → IsChoice slices c → size_of c ≤ length slices * 65535
+pub size_small : (slices : List (List Entry)) → All IsSlice slices → (c : List Entry) → IsChoice slices c → size_of c ≤ length slices * 65535
 size_small [] a [] h = omega arith
 size_small [] a (x ∷ c) h = absurd h
 size_small (s ∷ ss) a [] h = absurd h
@@ -30,7 +30,7 @@ size_small (s ∷ ss) a (x ∷ c) h =
     let b : IsEntry x = All-contains IsEntry s x i.limits h.0 in
     omega (arith, b.size, size_small ss (All-tail IsSlice s ss a) c h.1, sum_by-cons (λ (x : Entry). x.size) x c)
 
-error_small : (slices : List (List Entry)) → All IsSlice slices → (c : List Entry) → IsChoice slices c → error_of c ≤ length slices * 2 ^ 43
+pub error_small : (slices : List (List Entry)) → All IsSlice slices → (c : List Entry) → IsChoice slices c → error_of c ≤ length slices * 2 ^ 43
 error_small [] a [] h = omega arith
 error_small [] a (x ∷ c) h = absurd h
 error_small (s ∷ ss) a [] h = absurd h
@@ -42,7 +42,7 @@ error_small (s ∷ ss) a (x ∷ c) h =
 -- ---- layers by their numbers of pairs
 
 -- at most as many lists, each of at most as many pairs
-pairs_below : (xs ys : List (List WidePair)) → length xs ≤ length ys → ((k : ℕ) → k < length xs → length (get_or xs k []) ≤ length (get_or ys k [])) → pairs_in xs ≤ pairs_in ys
+pub pairs_below : (xs ys : List (List WidePair)) → length xs ≤ length ys → ((k : ℕ) → k < length xs → length (get_or xs k []) ≤ length (get_or ys k [])) → pairs_in xs ≤ pairs_in ys
 pairs_below [] ys n f = omega arith
 pairs_below (x ∷ xs) [] n f = absurd (omega arith)
 pairs_below (x ∷ xs) (y ∷ ys) n f =

@@ -1,6 +1,6 @@
 -- There is a layer of undominated pairs of any finite list of pairs.
-use Rattle.std.proofs.Common.{◌≡◌, ◌<◌, List, [], ◌∷◌, map, sym, ap, ◌∙◌, subst, arith, ◌⊎◌, inl, inr, ⊎_elim}
-use Rattle.std.specs.List.{Contains, flat_map}
+use Rattle.std.proofs.Common.{◌≡◌, ◌<◌, Bool, true, List, [], ◌∷◌, map, sym, ap, ◌∙◌, subst, arith, ◌⊎◌, inl, inr, ⊎_elim}
+use Rattle.std.specs.List.{Contains, filter, flat_map}
 use Rattle.std.proofs.lemmas.List.Sums.{sum_by-cons}
 use Rattle.std.proofs.lemmas.Bool.{cases_lt}
 use Rattle.rate_table.specs.declared.entry.Entry.{Entry}
@@ -9,6 +9,7 @@ use Rattle.rate_table.specs.Table.{IsChoice}
 use Rattle.rate_least.specs.Pairs.{Dominates, joined, RisesAndFalls}
 use Rattle.rate_least.specs.Layers.{wide_of, Reaches, IsFront}
 use Rattle.rate_table.proofs.Lists.{contains_cases, contains_head, contains_tail, contains_none, contains_map, map_contains, contains_flat, flat_contains}
+use Rattle.rate_least.proofs.Onward.{filter_has, has_filter}
 use Rattle.rate_least.proofs.Fronts.{dominates_self, dominates_trans, first_below, same_pair, falls_tail}
 
 build : (q : WidePair) (ps : List WidePair) → RisesAndFalls ps → ((x : WidePair) → Contains ps x → (q.size < x.size) × (x.error < q.error)) → RisesAndFalls (q ∷ ps)
@@ -130,3 +131,16 @@ front_of_all slices =
         covers = λ p h. f.1.covers p (subst (λ q. Contains (pairs slices) q) h.2 (reach_pairs slices h.0 h.1));
       },
     )
+
+module _ (slices : List (List Entry)) (Fine : WidePair → Type 0) (test : WidePair → Bool) where
+  -- the layer of the pairs of all choices that pass a test
+  pub front_of_tested : ((p : WidePair) → test p ≡ true → Fine p) → ((p : WidePair) → Fine p → test p ≡ true) → (layer : List WidePair) × IsFront (λ p. Reaches slices p × Fine p) layer
+  front_of_tested there back =
+      let f = front_of (filter test (pairs slices)) in (
+        f.0,
+        record {
+          order = f.1.order;
+          only = λ p c. let i = filter_has test (pairs slices) p (f.1.only p c) in (pairs_reach slices p i.0, there p i.1);
+          covers = λ p h. f.1.covers p (has_filter test (pairs slices) p (subst (λ q. Contains (pairs slices) q) h.0.2 (reach_pairs slices h.0.0 h.0.1)) (back p h.1));
+        },
+      )

@@ -10,3 +10,9 @@ pub mod Curve
 pub mod Ends
 pub mod Runs
 pub mod Laws
+pub mod Held
+pub mod Answers
+pub mod Leasting
+pub mod First
+pub mod Live
+pub mod Bent

@@ -2,7 +2,7 @@
 
 ghost use Rattle.std.specs.Prelude.{◌≡◌, ◌*◌, ◌<◌, ◌≤◌, ◌^◌, length};
 ghost use Rattle.std.specs.List.{All};
-ghost use Rattle.rate_table.specs.Table.{IsSlice, IsEntry, least};
+ghost use Rattle.rate_table.specs.Table.{IsTable, IsSlice, IsEntry, least};
 ghost use Rattle.rate_least.specs.Pairs.{least_error};
 
 use rate_table::{Entry, FrameTable, SliceTable};
@@ -38,6 +38,8 @@ fn errors_of(slices: &[SliceTable]) -> u64
 pub fn least_errors(table: &FrameTable) -> u64
     ensures value { result ≡ least_error table.now.slices }
     ensures small { result < 2 ^ 61 }
+    // A table is within the limits.
+    ensures table { IsTable table.now }
 {
     errors_of(table.slices.as_slice())
 }

@@ -1,4 +1,4 @@
-//! Certificates that no choice under a cap on the error is smaller, and all undominated pairs.
+//! The smallest choice under a cap on the error, certificates that no choice is smaller, and all undominated pairs.
 #![tactic(auto)]
 
 mod bound;
@@ -6,13 +6,21 @@ mod check;
 mod covering;
 mod end;
 mod errors;
+mod held;
 mod laws;
 mod layers;
+mod leasting;
+mod live;
+mod marks;
 mod merge;
+mod multiplier;
+mod narrowed;
 mod outcome;
+mod places;
 mod points;
 mod reading;
 mod runs;
+mod search;
 mod steps;
 #[cfg(test)]
 mod tests;
@@ -22,8 +30,10 @@ mod writing;
 pub use check::check_least;
 pub use end::LeastEnd;
 pub use laws::{certificate_is_read_again, curve_is_one, good_is_true};
+pub use leasting::least_run;
 pub use outcome::{LeastOutcome, LeastProof, WidePair};
 pub use points::curve;
 pub use reading::read_least;
 pub use runs::{checkleast_run, curve_run};
+pub use search::least_size;
 pub use writing::write_least;

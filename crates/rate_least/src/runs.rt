@@ -22,7 +22,7 @@ use rate_table::read_file;
 use std::alloc::Global;
 
 /// Writes all of the lines, and settles them.
-fn print<K: ByteSink>(sink: &mut K, lines: &[u8]) -> LeastEnd
+pub(crate) fn print<K: ByteSink>(sink: &mut K, lines: &[u8]) -> LeastEnd
     ensures answer { AnswersUnlessOutside result ends.Done }
     ensures reads { is_read_fault result ≡ false }
     ensures end { IsPrintersEnd result }

@@ -1,6 +1,6 @@
 //! Certificates and curves over ports in memory.
 
-use crate::{LeastEnd, checkleast_run, curve_run, read_least, write_least};
+use crate::{LeastEnd, checkleast_run, curve_run, least_run, read_least, write_least};
 use pw_outside::{MemSink, MemSource};
 use rate_table::ProofKind;
 use std::test::Fail;
@@ -95,5 +95,48 @@ fn prints_all_undominated_pairs(rt: HostRuntime) -> Result<(), Fail> {
     assert_eq!(&rt; curve_run(alloc, &mut proof, &mut text), LeastEnd::Done);
     let lines = b"point 9 16\npoint 13 10\npoint 15 6\npoint 19 0\npoints 4\n";
     assert!(&rt; text.bytes() == lines.as_slice());
+    Ok(())
+}
+
+/// How the smallest choice of this table under this cap is told, with its certificate.
+fn least_of(
+    rt: &HostRuntime,
+    table: &[u8],
+    cap: u64,
+) -> Result<(LeastEnd, Vec<u8>, Vec<u8>), Fail> {
+    let alloc = rt.alloc();
+    let mut proof = MemSource::new(table.to_vec(alloc)?, 7, Vec::new(alloc));
+    let mut cert = MemSink::new(alloc, 64, 7, Vec::new(alloc))?;
+    let mut text = MemSink::new(alloc, 64, 7, Vec::new(alloc))?;
+    let end = least_run(alloc, &mut proof, cap, &mut cert, &mut text);
+    Ok((
+        end,
+        cert.bytes().to_vec(alloc)?,
+        text.bytes().to_vec(alloc)?,
+    ))
+}
+
+// budget 10, nothing fixed, and the slice {1: 4/5, 2: 3/5}
+const ONE: &[u8] = b"PWTB\x01\0\0\0\x0a\0\0\0\0\0\0\0\x01\
+    \x02\x01\0\x04\0\0\0\0\0\0\0\x05\x02\0\x03\0\0\0\0\0\0\0\x05";
+
+#[test]
+fn finds_the_smallest_choice(rt: HostRuntime) -> Result<(), Fail> {
+    let cases: [(&[u8], u64, &[u8]); 5] = [
+        (TABLE, 10, b"choice 2 1\nsize 13\nerror 10\n"),
+        (TABLE, 9, b"choice 1 2\nsize 15\nerror 6\n"),
+        (TABLE, 16, b"choice 2 2\nsize 9\nerror 16\n"),
+        (ONE, 4, b"none least-error 5\n"),
+        (ONE, 5, b"choice 2\nsize 3\nerror 5\n"),
+    ];
+    for (table, cap, lines) in cases {
+        let (end, _cert, text) = least_of(&rt, table, cap)?;
+        assert_eq!(&rt; end, LeastEnd::Done);
+        assert!(&rt; text.as_slice() == lines);
+    }
+    let mut want = FRONT.to_vec(rt.alloc())?;
+    want.extend_from_slice(LAST)?;
+    let (_end, cert, _text) = least_of(&rt, TABLE, 10)?;
+    assert!(&rt; cert.as_slice() == want.as_slice());
     Ok(())
 }

@@ -1,0 +1,12 @@
+use Rattle.std.proofs.Common.{◌≡◌, ◌<◌, ◌^◌, map, drop}
+use Rattle.rate_table.specs.Pairs.{rest}
+use Rattle.rate_least.proofs.Lessened.{Lessened}
+use Rattle.rate_least.proofs.narrowed.narrow.Given as goal
+
+-- the layers so far, and the least costs of the slices to come
+abbrev pub invariant-loop-k : goal.invariant-loop-k
+invariant-loop-k l = record {
+  layers : Lessened (record { slices = l.fn.table.slices; cap = l.fn.cap }) l.fn.multiplier l.fn.goal.size (map (λ v. v.items) l.fn.layers.items) (map (λ v. v.items) l.layers.items) l.k;
+  costs : l.costs ≡ rest l.fn.multiplier (drop l.k l.fn.table.slices);
+  small : l.costs < 2 ^ 98;
+}

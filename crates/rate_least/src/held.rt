@@ -1,0 +1,104 @@
+//! All layers held under a size.
+
+ghost use Rattle.std.specs.Prelude.{◌≡◌, ◌+◌, ◌<◌, ◌≤◌, ◌^◌, ℕ, List, [], ◌∷◌, ◌++◌, OnOk, IfOk, IfErr, length, map};
+ghost use Rattle.rate_layers.specs.declared.fault.BestFault.TheVariants.{LayersFull};
+ghost use Rattle.rate_least.specs.declared.outcome.WidePair.{WidePair};
+ghost use Rattle.rate_least.specs.Layers.{IsFront, pairs_in};
+ghost use Rattle.rate_least.specs.Held.{AreHeld};
+ghost use Rattle.rate_least.specs.Covering.{IsSmall};
+ghost use Rattle.rate_least.specs.Merge.{Passes};
+
+use crate::bound::Bound;
+use crate::covering::counts;
+use crate::errors::{least_error_of, least_errors};
+use crate::merge::merge_all;
+use crate::outcome::WidePair;
+use rate_layers::BestFault;
+use rate_table::{FrameTable, least_cost, least_costs};
+use std::alloc::{AllocError, Global};
+
+/// Layers may number so many pairs.
+const MOST: usize = 1 << 25;
+
+/// The pair of nothing, where it passes.
+fn first_layer(alloc: Global, bound: &Bound) -> Result<Vec<WidePair>, AllocError>
+    requires { IsSmall bound.now }
+    ensures { IfOk result (λ v. IsFront (λ p. (p ≡ record { size = 0; error = 0 }) × Passes bound.now p) v.items) }
+{
+    let mut layer = Vec::new(alloc);
+    if counts(bound, 0, 0) {
+        layer.push(WidePair { size: 0, error: 0 })?;
+    }
+    Ok(layer)
+}
+
+/// A copy that takes no more room than its pairs.
+fn exact(alloc: Global, layer: &[WidePair]) -> Result<Vec<WidePair>, AllocError>
+    ensures { IfOk result (λ v. v.items ≡ layer.now) }
+{
+    let mut copy = Vec::with_capacity(alloc, layer.len())?;
+    copy.extend_from_slice(layer)?;
+    Ok(copy)
+}
+
+/// Puts a finished layer behind the others, and counts its pairs; not where there are too many.
+fn put_layer(
+    alloc: Global,
+    layers: &mut Vec<Vec<WidePair>>,
+    pairs: &mut usize,
+    next: &[WidePair],
+) -> Result<(), BestFault>
+    requires { pairs.old ≤ 2 ^ 25 }
+    ensures layers { OnOk result (map (λ l. l.items) layers.new.items ≡ map (λ l. l.items) layers.old.items ++ next.now ∷ []) }
+    ensures pairs { OnOk result (pairs.new ≡ pairs.old + length next.now) }
+    ensures few { OnOk result (pairs.new ≤ 2 ^ 25) }
+    ensures full { IfErr result (λ e. e ≡ LayersFull → 2 ^ 25 < pairs.old + length next.now) }
+{
+    if MOST - *pairs < next.len() {
+        return Err(BestFault::LayersFull);
+    }
+    *pairs += next.len();
+    layers.push(exact(alloc, next)?)?;
+    Ok(())
+}
+
+/// The layers held under a size: after each number of slices the pairs that no other dominates, of those that can still meet
+/// the cap and stay within the bound by the multiplier, by rising size. They take 16 bytes a pair, and the two vectors of the
+/// layer at work up to 32 bytes for each pair of the longest half-merged layer.
+///
+/// The errors are `LayersFull` where finished layers number more than 2^25 pairs, and `NoMemory`.
+pub fn held_layers(
+    alloc: Global,
+    table: &FrameTable,
+    cap: u64,
+    multiplier: u64,
+    size: u64,
+) -> Result<Vec<Vec<WidePair>>, BestFault>
+    ensures held { IfOk result (λ v. AreHeld table.now.slices cap multiplier size (map (λ l. l.items) v.items)) }
+    ensures few { IfOk result (λ v. pairs_in (map (λ l. l.items) v.items) ≤ 2 ^ 25) }
+    // The error is `LayersFull` only where the held layers number more.
+    ensures full { IfErr result (λ e. e ≡ LayersFull → (layers : List (List WidePair)) → AreHeld table.now.slices cap multiplier size layers → 2 ^ 25 < pairs_in layers) }
+{
+    let slices = table.slices.as_slice();
+    let mut bound = Bound {
+        errors: least_errors(table),
+        cap,
+        floor: least_costs(table, multiplier),
+        most: u128::from(cap) + u128::from(multiplier) * u128::from(size),
+        multiplier,
+    };
+    let first = first_layer(alloc, &bound)?;
+    let mut layers = Vec::new(alloc);
+    let mut pairs = 0;
+    put_layer(alloc, &mut layers, &mut pairs, &first)?;
+    let mut next = Vec::new(alloc);
+    let mut spare = Vec::new(alloc);
+    for k in 0..slices.len() {
+        let entries = slices[k].entries();
+        bound.errors -= least_error_of(entries);
+        bound.floor -= least_cost(entries, multiplier);
+        merge_all(&mut next, &mut spare, &bound, &layers[k], entries)?;
+        put_layer(alloc, &mut layers, &mut pairs, &next)?;
+    }
+    Ok(layers)
+}

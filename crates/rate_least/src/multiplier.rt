@@ -1,0 +1,95 @@
+//! The greatest multiplier whose choice meets the cap.
+
+ghost use Rattle.std.specs.Prelude.{◌≡◌, ◌+◌, ◌*◌, ◌<◌, ◌≤◌, ◌^◌, ◌↔◌, IsTrue, ℕ, List, length};
+ghost use Rattle.std.specs.List.{All};
+ghost use Rattle.rate_table.specs.declared.entry.Entry.{Entry};
+ghost use Rattle.rate_table.specs.Table.{IsSlice, IsChoice, size_of, error_of};
+ghost use Rattle.rate_table.specs.Pairs.{cost};
+ghost use Rattle.rate_least.specs.Held.{IsBent, IsBend, BendMeets, IsMultiplier};
+ghost use Rattle.rate_least.specs.Bent.{Wins};
+
+use rate_table::{Entry, FrameTable, SliceTable, cost_of};
+
+/// Multipliers go up to this.
+const GREATEST: u64 = 1 << 43;
+
+/// Whether one entry is taken rather than another, or is the other; these are their costs.
+fn is_better(a: &Entry, first: u128, b: &Entry, second: u128) -> bool
+    ensures yes { (m : ℕ) → first ≡ cost m a.now → second ≡ cost m b.now → IsTrue result → Wins m a.now b.now }
+    ensures no { (m : ℕ) → first ≡ cost m a.now → second ≡ cost m b.now → (IsTrue result → ⊥) → Wins m b.now a.now }
+{
+    first < second
+        || first == second && (a.error < b.error || a.error == b.error && a.index <= b.index)
+}
+
+/// The entry of least cost, then of least error, then of least index.
+fn bent(entries: &[Entry], multiplier: u64) -> Entry
+    requires { 0 < length entries.now }
+    ensures { IsBent multiplier entries.now result }
+{
+    let mut best = entries[0];
+    let mut least = cost_of(&best, multiplier);
+    for x in entries {
+        let cost = cost_of(x, multiplier);
+        if !is_better(&best, least, x, cost) {
+            best = *x;
+            least = cost;
+        }
+    }
+    best
+}
+
+/// Size and error of the choice by this multiplier: in each slice the entry of least cost, then of least error, then of least
+/// index.
+fn sums_of(slices: &[SliceTable], multiplier: u64) -> (u64, u64)
+    requires few { length slices.now ≤ 131070 }
+    requires each { All IsSlice slices.now }
+    ensures bend { (c : List Entry) × IsBend multiplier slices.now c × (result.0 ≡ size_of c) × (result.1 ≡ error_of c) }
+    ensures size { result.0 < 2 ^ 34 }
+    ensures error { result.1 < 2 ^ 61 }
+{
+    let mut size: u64 = 0;
+    let mut error: u64 = 0;
+    for slice in slices {
+        let x = bent(slice.entries(), multiplier);
+        size += u64::from(x.size);
+        error += x.error;
+    }
+    (size, error)
+}
+
+/// The size of the choice by this multiplier. No memory is taken.
+pub fn bend_size(table: &FrameTable, multiplier: u64) -> u64
+    ensures bend { (c : List Entry) × IsBend multiplier table.now.slices c × (result ≡ size_of c) }
+    ensures small { result < 2 ^ 34 }
+{
+    sums_of(table.slices.as_slice(), multiplier).0
+}
+
+/// Whether the choice by this multiplier meets the cap.
+fn bend_meets(slices: &[SliceTable], multiplier: u64, cap: u64) -> bool
+    requires few { length slices.now ≤ 131070 }
+    requires each { All IsSlice slices.now }
+    ensures { IsTrue result ↔ BendMeets slices.now cap multiplier }
+{
+    sums_of(slices, multiplier).1 <= cap
+}
+
+/// The greatest multiplier up to 2^43 whose choice meets the cap, of a table where some choice does. No memory is taken.
+pub fn greatest_multiplier(table: &FrameTable, cap: u64) -> u64
+    requires meets { (c : List Entry) × IsChoice table.now.slices c × (error_of c ≤ cap) }
+    ensures { IsMultiplier table.now.slices cap result }
+{
+    let slices = table.slices.as_slice();
+    let mut low: u64 = 0;
+    let mut high = GREATEST;
+    while low < high {
+        let middle = high - (high - low) / 2;
+        if bend_meets(slices, middle, cap) {
+            low = middle;
+        } else {
+            high = middle - 1;
+        }
+    }
+    low
+}

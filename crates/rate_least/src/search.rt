@@ -1,0 +1,165 @@
+//! The smallest choice under a cap.
+
+ghost use Rattle.std.specs.Prelude.{◌≡◌, ◌-◌, ◌+◌, ◌*◌, ◌<◌, ◌≤◌, ◌^◌, ℕ, List, [], ◌∷◌, IfOk, IfErr, IfSome, IfNone, IsErr, length, map, slice_index_or};
+ghost use Rattle.rate_table.specs.declared.entry.Entry.{Entry};
+ghost use Rattle.rate_table.specs.Table.{IsTable, IsChoice, size_of, error_of};
+ghost use Rattle.rate_layers.specs.declared.fault.BestFault.TheVariants.{LayersFull};
+ghost use Rattle.rate_least.specs.declared.outcome.WidePair.{WidePair};
+ghost use Rattle.rate_least.specs.Layers.{pairs_in};
+ghost use Rattle.rate_least.specs.Held.{AreHeld, IsMultiplier};
+ghost use Rattle.rate_least.specs.Live.{AreFound};
+ghost use Rattle.rate_least.specs.Records.{said_by, IsGood};
+ghost use Rattle.rate_least.specs.Files.{CanBeSaid, AreWide};
+ghost use Rattle.rate_least.specs.Answers.{IsAnswer, PassesByBend, PassesBySmallest, IsWide};
+
+use crate::errors::least_errors;
+use crate::held::held_layers;
+use crate::live::first_choice;
+use crate::multiplier::{bend_size, greatest_multiplier};
+use crate::narrowed::narrow;
+use crate::outcome::{LeastOutcome, WidePair};
+use rate_layers::BestFault;
+use rate_table::{FrameTable, least_costs};
+use std::alloc::Global;
+
+/// Layers, and the pair of the smallest choice, which is the first one of the last layer.
+#[derive(Drop)]
+struct Found {
+    layers: Vec<Vec<WidePair>>,
+    goal: WidePair,
+}
+
+/// The first pair of a layer.
+fn first_of(layer: &[WidePair]) -> Option<WidePair>
+    ensures some { IfSome result (λ p. (back : List WidePair) × (layer.now ≡ p ∷ back)) }
+    ensures none { IfNone result (layer.now ≡ []) }
+{
+    if 0 < layer.len() {
+        Some(layer[0])
+    } else {
+        None
+    }
+}
+
+/// The first pair of the last layer.
+fn first_pair(layers: &[Vec<WidePair>]) -> Option<WidePair>
+    ensures some { IfSome result (λ p. (back : List WidePair) × (slice_index_or (map (λ l. l.items) layers.now) (length layers.now - 1) [] ≡ p ∷ back)) }
+    ensures none { IfNone result (slice_index_or (map (λ l. l.items) layers.now) (length layers.now - 1) [] ≡ []) }
+{
+    match layers.last() {
+        Some(layer) => first_of(layer),
+        None => None,
+    }
+}
+
+/// The layers held under this size, if a choice that meets the cap has no more.
+fn found_within(
+    alloc: Global,
+    table: &FrameTable,
+    cap: u64,
+    multiplier: u64,
+    size: u64,
+) -> Result<Option<Found>, BestFault>
+    ensures some { IfOk result (λ o. IfSome o (λ f. AreFound (record { slices = table.now.slices; cap = cap }) multiplier size f.goal (map (λ l. l.items) f.layers.items))) }
+    ensures none { IfOk result (λ o. IfNone o ((c : List Entry) → IsChoice table.now.slices c → error_of c ≤ cap → size < size_of c)) }
+    ensures full { IfErr result (λ e. e ≡ LayersFull → (layers : List (List WidePair)) → AreHeld table.now.slices cap multiplier size layers → 2 ^ 25 < pairs_in layers) }
+{
+    let layers = held_layers(alloc, table, cap, multiplier, size)?;
+    match first_pair(&layers) {
+        Some(goal) if goal.size <= size => Ok(Some(Found { layers, goal })),
+        _ => Ok(None),
+    }
+}
+
+/// No choice that meets the cap is smaller, where the multiplier isn't 0: by what each byte counts for, the least costs are no
+/// more than the cap and its size.
+fn lower_bound(table: &FrameTable, cap: u64, multiplier: u64) -> u128 {
+    let costs = least_costs(table, multiplier).saturating_sub(u128::from(cap));
+    costs.div_ceil(u128::from(multiplier.max(1)))
+}
+
+/// The size one part of the way from the lower to the greater.
+fn between(low: u64, most: u64, part: u64) -> u64
+    requires order { low ≤ most }
+    requires part { 1 ≤ part }
+    ensures least { low ≤ result }
+    ensures most { result ≤ most }
+{
+    low + (most - low) / part
+}
+
+/// The layers held under some size that a choice that meets the cap has. Small sizes are tried first: from a lower bound of all
+/// sizes a 4,096th of the way to the size of the multiplier's choice, then four times as far, up to that size, which that choice
+/// has. None is tried twice.
+fn find(alloc: Global, table: &FrameTable, cap: u64, multiplier: u64) -> Result<Found, BestFault>
+    requires { IsMultiplier table.now.slices cap multiplier }
+    ensures found { IfOk result (λ f. (u : ℕ) × AreFound (record { slices = table.now.slices; cap = cap }) multiplier u f.goal (map (λ l. l.items) f.layers.items)) }
+    ensures full { IfErr result (λ e. e ≡ LayersFull → PassesByBend table.now.slices cap) }
+{
+    let most = bend_size(table, multiplier);
+    let low = lower_bound(table, cap, multiplier).min(u128::from(most)) as u64;
+    let mut untried = low;
+    for part in [4096, 1024, 256, 64, 16, 4] {
+        let size = between(low, most, part);
+        if untried <= size {
+            let found = found_within(alloc, table, cap, multiplier, size)?;
+            if let Some(found) = found {
+                return Ok(found);
+            }
+            untried = size + 1;
+        }
+    }
+    match found_within(alloc, table, cap, multiplier, most)? {
+        Some(found) => Ok(found),
+        None => unreachable!(),
+    }
+}
+
+/// The smallest choice of a table where one meets the cap.
+fn smallest_fit(alloc: Global, table: &FrameTable, cap: u64) -> Result<LeastOutcome, BestFault>
+    requires table { IsTable table.now }
+    requires some { (c : List Entry) × IsChoice table.now.slices c × (error_of c ≤ cap) }
+    ensures answer { IfOk result (λ o. IsAnswer table.now.slices cap (said_by o)) }
+    ensures good { IfOk result (λ o. IsGood table.now.slices cap (said_by o)) }
+    ensures said { IfOk result (λ o. CanBeSaid table.now (said_by o)) }
+    ensures widths { IfOk result (λ o. AreWide (said_by o)) }
+    ensures full_only { IfErr result (λ e. e ≡ LayersFull → PassesByBend table.now.slices cap) }
+    ensures full_always { PassesBySmallest table.now.slices cap → IsErr result }
+{
+    let multiplier = greatest_multiplier(table, cap);
+    let Found { mut layers, goal } = find(alloc, table, cap, multiplier)?;
+    narrow(table, cap, multiplier, goal, &mut layers);
+    let choice = first_choice(alloc, table, &layers, goal)?;
+    Ok(LeastOutcome::Fits {
+        choice,
+        size: goal.size,
+        error: goal.error,
+        layers,
+        multiplier,
+    })
+}
+
+/// The smallest choice of error at most the cap: of least size, then of least error, then the first in the order of index lists;
+/// with the layers and the multiplier that show that none is smaller. `None` where no choice meets the cap. The table's budget and
+/// fixed bytes aren't asked.
+///
+/// The errors are `LayersFull` where the layers number more than 2^25 pairs, and `NoMemory`.
+pub fn least_size(alloc: Global, table: &FrameTable, cap: u64) -> Result<LeastOutcome, BestFault>
+    ensures answer { IfOk result (λ o. IsAnswer table.now.slices cap (said_by o)) }
+    // What is answered passes all clauses of a certificate, and can be written as one.
+    ensures good { IfOk result (λ o. IsGood table.now.slices cap (said_by o)) }
+    ensures said { IfOk result (λ o. CanBeSaid table.now (said_by o)) }
+    ensures widths { IfOk result (λ o. AreWide (said_by o)) }
+    // `LayersFull` comes only where the layers held under the size of the multiplier's choice number more than 2^25 pairs.
+    ensures full_only { IfErr result (λ e. e ≡ LayersFull → PassesByBend table.now.slices cap) }
+    // Where those held under the smallest choice's own size do, there is no other answer than `LayersFull` and `NoMemory`.
+    ensures full_always { PassesBySmallest table.now.slices cap → IsErr result }
+    // With few sizes and slices it never comes.
+    ensures full_wide { IfErr result (λ e. e ≡ LayersFull → IsWide table.now.slices) }
+{
+    let least_error = least_errors(table);
+    if cap < least_error {
+        return Ok(LeastOutcome::None { least_error });
+    }
+    smallest_fit(alloc, table, cap)
+}
