@@ -2,3 +2,4 @@ pub mod Ends
 pub mod Listing
 pub mod Checking
 pub mod Reproofing
+pub mod Agreeing

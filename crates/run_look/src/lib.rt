@@ -1,6 +1,7 @@
 //! The commands that look at files: listing a movie, checking a proof, and writing one again.
 #![tactic(auto)]
 
+mod agreeing;
 mod checking;
 mod end;
 mod laws;
@@ -10,6 +11,7 @@ mod reproof;
 #[cfg(test)]
 mod tests;
 
+pub use agreeing::check_run;
 pub use checking::check_proof_run;
 pub use end::LookEnd;
 pub use laws::checking_ends_once;
