@@ -5,3 +5,5 @@ pub mod Once
 pub mod Orders
 pub mod Rewriting
 pub mod Reproofed
+pub mod Alike
+pub mod Parts

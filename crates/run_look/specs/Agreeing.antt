@@ -258,6 +258,16 @@ pub record CountsReads (before now before' now' before'' now'' : ℕ) (failed : 
 
 -- ---- the parts of a run
 
+-- headers with the same fields
+abbrev pub SameForm : FrameHeader → FrameHeader → Type 0
+SameForm a b = (a.version ≡ b.version) × (a.encoder ≡ b.encoder) × (a.width ≡ b.width) × (a.height ≡ b.height) × (a.chroma ≡ b.chroma) × (a.interlace ≡ b.interlace) × (a.alpha ≡ b.alpha)
+
+abbrev pub SameCodes : FrameHeader → FrameHeader → Type 0
+SameCodes a b = (a.aspect ≡ b.aspect) × (a.rate ≡ b.rate) × (a.primaries ≡ b.primaries) × (a.transfer ≡ b.transfer) × (a.matrix ≡ b.matrix)
+
+abbrev pub SameWeights : FrameHeader → FrameHeader → Type 0
+SameWeights a b = (a.luma ≡ b.luma) × (a.chroma_weights ≡ b.chroma_weights)
+
 -- What was read of the sample of a number: the frame that it stands for, or its fault.
 abbrev pub ReadsSample : List ℕ → Sample → ℕ → Result CodedFrame LookEnd → Type 0
 ReadsSample file x n (Ok f) = IsSampleOf file x f

@@ -3,6 +3,8 @@
 
 mod agreeing;
 mod checking;
+mod coded;
+mod comparing;
 mod end;
 mod laws;
 mod lines;
