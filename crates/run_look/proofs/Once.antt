@@ -71,7 +71,7 @@ has_counts : (t : Table) (s : Said) → IsGoodVerdict t s → HasCountsOf t s
 has_counts t (fits r) g = g.counts
 has_counts t (none least) g = tt
 
-fails_none : (s : Settings) (r : Record) (n : ℕ) → IsGood s r → Fails s r n → ⊥
+pub fails_none : (s : Settings) (r : Record) (n : ℕ) → IsGood s r → Fails s r n → ⊥
 fails_none s r n g a = asks_not 1 (IsTableOf s r.table × HasCountsOf r.table r.said) (FailsVerdict r.table r.said) n (g.table, has_counts r.table r.said g.verdict) (verdict_fails_none r.table r.said n g.verdict) a
 
 -- ---- the records

@@ -245,6 +245,10 @@ ChecksOn file shown format s rest end records =
 abbrev pub Checks : (bytes file shown : List ℕ) → LookEnd → ℕ → Type 0
 Checks bytes file shown end records = HeadIs end (λ head rest. ChecksOn file shown head.0 head.1 rest end records) (head_at (record { place = 0; bytes = bytes }))
 
+-- Where checking a proof with a movie and pictures is done, it ends in no other way.
+abbrev pub DoneOnce : Type 0
+DoneOnce = (bytes file shown : List ℕ) (end : LookEnd) (m n : ℕ) → Checks bytes file shown end m → Checks bytes file shown ends.Done n → end ≡ ends.Done
+
 -- ---- what a run does
 
 -- The counts of faults of three ports that are read never fall. One of them has risen where reading failed, and else all are as they

@@ -1,6 +1,6 @@
 //! Comparing a frame's sample and its picture with what a record says of the frame.
 
-ghost use Rattle.std.specs.Prelude.{◌≡◌, ◌↔◌, ◌++◌, ◌*◌, ◌<◌, ◌≤◌, ℕ, List, length, map, take, drop, ◌+◌, IfOk, IfSome, IfNone, IsTrue, OnOk};
+ghost use Rattle.std.specs.Prelude.{◌≡◌, ◌↔◌, ◌++◌, ◌*◌, ◌/◌, ◌<◌, ◌≤◌, ℕ, List, length, map, take, drop, ◌+◌, IfOk, IfSome, IfNone, IsTrue, OnOk};
 ghost use Rattle.std.specs.List.{All};
 ghost use Rattle.pic_raw.specs.Raw.{IsPicture};
 ghost use Rattle.pr_frame.specs.declared.coded.CodedPicture.{CodedPicture};
@@ -143,6 +143,16 @@ fn has_size(slices: &[SliceTable], part: &[u8], share: u32, size: u32) -> bool
     }
 }
 
+/// A frame's share of the fixed bytes of a good record.
+fn share_of(settings: &Settings, group: &FrameProof) -> u32
+    requires settings { IsSettings settings.now }
+    requires good { IsGood settings.now group.now }
+    requires some { 0 < frames_in settings.now group.now }
+    ensures { result ≡ group.now.table.fixed / frames_in settings.now group.now }
+{
+    group.table.fixed / frames_of(settings, group)
+}
+
 /// Whether two lists of indices are the same.
 fn same_indices(some: &[u8], others: &[u8]) -> bool
     ensures { IsTrue result ↔ (some.now ≡ others.now) }
@@ -179,7 +189,7 @@ pub(crate) fn is_as_said(
     if !same_indices(indices.as_slice(), part) {
         return Ok(false);
     }
-    let share = group.table.fixed / frames_of(settings, group);
+    let share = share_of(settings, group);
     Ok(has_size(slices_for(settings, group, k), part, share, size))
 }
 

@@ -1,8 +1,19 @@
 //! Laws over the definitions alone.
 
 ghost use Rattle.run_look.specs.Checking.{EndsOnce};
+ghost use Rattle.run_look.specs.Agreeing.{DoneOnce};
+
+use pr_frame::{frame_has_no_fault, one_frame};
 
 /// Checking a proof ends in one way, and where it is done, its records are counted in one way.
 pub fn checking_ends_once()
     ensures { EndsOnce }
 {}
+
+/// Where checking a proof with a movie and pictures is done, it ends in no other way.
+pub fn agreeing_is_done_once()
+    ensures { DoneOnce }
+{
+    one_frame();
+    frame_has_no_fault();
+}

@@ -16,6 +16,6 @@ mod tests;
 pub use agreeing::check_run;
 pub use checking::check_proof_run;
 pub use end::LookEnd;
-pub use laws::checking_ends_once;
+pub use laws::{agreeing_is_done_once, checking_ends_once};
 pub use listing::list_run;
 pub use reproof::reproof_run;

@@ -6,13 +6,13 @@ use Rattle.run_look.proofs.Alike.{step}
 use Rattle.run_look.proofs.comparing.same_entries.Goals as goal
 
 pub returns-then-not-same_entry : goal.returns-then-not-same_entry
-returns-then-not-same_entry c = no (λ e. denied c.same_entry.result c.same_entry.ensures c.if-not-same_entry.true (ap (λ l. get_or l c.loop-i.i _) e))
+returns-then-not-same_entry c = no (λ e. denied c.same_entry.result c.same_entry.ensures c.if-not-same_entry.true (ap (λ l. get_or l c.loop-i.i (record { index = 0; size = 0; error = 0 })) e))
 
 pub loop-i-preserved : goal.loop-i-preserved
 loop-i-preserved c = λ k d.
     let i = c.loop-i.i in
-    let a = get_or_default c.args.some.now i _ d c.loop-i-test.true in
-    let b = get_or_default c.args.others.now i _ d (omega (arith, c.loop-i-test.true, c.if-some-others.false)) in
+    let a = get_or_default c.args.some.now i (record { index = 0; size = 0; error = 0 }) d c.loop-i-test.true in
+    let b = get_or_default c.args.others.now i (record { index = 0; size = 0; error = 0 }) d (omega (arith, c.loop-i-test.true, c.if-some-others.false)) in
     let same = granted c.same_entry.result c.same_entry.ensures c.if-not-same_entry.false in
     step (λ k. get_or c.args.some.now k d ≡ get_or c.args.others.now k d) i (λ k l. c.loop-i.invariant k d l) (sym a ∙ same ∙ b) k
 

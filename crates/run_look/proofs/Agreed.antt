@@ -1,0 +1,118 @@
+-- Samples and pictures beside the records, one after the other.
+use Rattle.std.proofs.Common.{◌≡◌, refl, ℕ, zero, suc, ◌+◌, ◌<◌, ◌≤◌, inl, inr, List, [], ◌∷◌, ◌++◌, length, drop, get_or, Option, None, Some, Result, Ok, Err, ap, sym, subst, ◌∙◌, arith}
+use Rattle.std.specs.Prelude.{◌⊎◌, slice_get}
+use Rattle.pw_outside.specs.Reading.{Fault, Rest, Read, bad}
+use Rattle.pw_planes.specs.declared.picture.Picture.{Picture}
+use Rattle.pic_y4m.specs.declared.fault.PictureKind.{PictureKind}
+use Rattle.pic_y4m.specs.Frames.{Pictures, first_and}
+use Rattle.pr_geom.specs.declared.layout.Layout.{Layout}
+use Rattle.pr_frame.specs.declared.coded.CodedFrame.{CodedFrame}
+use Rattle.pr_frame.specs.Laws.{OneFrame}
+use Rattle.qt_tables.specs.declared.runs.Sample.{Sample}
+use Rattle.rate_cert.specs.declared.settings.Settings.{Settings}
+use Rattle.rate_cert.specs.Records.{Record}
+use Rattle.run_look.specs.declared.end.LookEnd.{LookEnd}
+use Rattle.run_look.specs.declared.end.LookEnd.TheVariants as ends
+use Rattle.run_look.specs.Ends.{AnswersEnd}
+use Rattle.run_look.specs.Agreeing.{Given, picture_or, picture_in, sample_in, sample_bytes, IsSampleOf, IsAsSaid, HasFrame, AreFrames, ReadsSample, TakesSample, SampleEnds, IsPictureOf, PictureAgrees, PictureEnds, AreLeft, GivesPicture, TakesPicture}
+
+-- ---- what stands at a number
+
+none_at : (ps : List Picture) (n : ℕ) → [] ≡ drop n ps → slice_get ps n ≡ None
+none_at [] n e = refl
+none_at (p ∷ ps) zero e = absurd cc
+none_at (p ∷ ps) (suc n) e = none_at ps n e
+
+some_at : (ps : List Picture) (n : ℕ) (p : Picture) (others : List Picture) → p ∷ others ≡ drop n ps → (slice_get ps n ≡ Some p) × (others ≡ drop (n + 1) ps)
+some_at [] zero p others e = absurd cc
+some_at [] (suc n) p others e = absurd cc
+some_at (q ∷ qs) zero p others e = (cc, cc)
+some_at (q ∷ qs) (suc n) p others e =
+    let behind = some_at qs n p others e in
+    let one : suc (n + 1) ≡ suc n + 1 = omega arith in
+    (behind.0, behind.1 ∙ ap (λ k. drop k (q ∷ qs)) one)
+
+-- the answer of a reader of pictures of which these are left
+picture_end : Fault PictureKind → LookEnd
+picture_end f = ends.BadPictures f.kind f.place
+
+pub left_fault : (g : Given) (n : ℕ) (f : Fault PictureKind) (others : Rest → Pictures) → AreLeft g n (first_and (Err f) others) → picture_in g n ≡ Err f
+left_fault g n f others e =
+    let none = none_at g.pictures.pictures n (ap (λ (x : Pictures). x.pictures) e) in
+    let fault = ap (λ (x : Pictures). x.fault) e in
+    ap (λ o. picture_or o g.pictures.fault) none ∙ ap (picture_or None) (sym fault)
+
+pub left_none : (g : Given) (n : ℕ) (rest : Rest) (others : Rest → Pictures) → AreLeft g n (first_and (Ok (None, rest)) others) → picture_in g n ≡ Ok None
+left_none g n rest others e =
+    let none = none_at g.pictures.pictures n (ap (λ (x : Pictures). x.pictures) e) in
+    let fault = ap (λ (x : Pictures). x.fault) e in
+    ap (λ o. picture_or o g.pictures.fault) none ∙ ap (picture_or None) (sym fault)
+
+pub left_some : (g : Given) (n : ℕ) (p : Picture) (rest : Rest) (others : Rest → Pictures) → AreLeft g n (first_and (Ok (Some p, rest)) others)
+    → (picture_in g n ≡ Ok (Some p)) × AreLeft g (n + 1) (others rest)
+left_some g n p rest others e =
+    let some = some_at g.pictures.pictures n p (others rest).pictures (ap (λ (x : Pictures). x.pictures) e) in
+    let fault = ap (λ (x : Pictures). x.fault) e in
+    (ap (λ o. picture_or o g.pictures.fault) some.0, λ i. record { pictures = some.1 i; fault = fault i })
+
+-- ---- one picture
+
+pub same_sample : (o : Option Sample) (x y : Sample) → o ≡ Some x → o ≡ Some y → x ≡ y
+same_sample o x y a b = cc
+
+pub same_picture : (o : Result (Option Picture) (Fault PictureKind)) (p q : Picture) → o ≡ Ok (Some p) → o ≡ Ok (Some q) → p ≡ q
+same_picture o p q a b = cc
+
+-- a frame that isn't coded of the picture of its number doesn't agree
+pub disagrees : OneFrame → (g : Given) (l : Layout) (s : Settings) (r : Record) (first k : ℕ) (f : CodedFrame) (p : Picture) → HasFrame g (first + k) f
+    → picture_in g (first + k) ≡ Ok (Some p) → (IsPictureOf l s r k f p → ⊥) → PictureAgrees g l s r first k → ⊥
+disagrees one g l s r first k f p (x, there, of) picture other agrees =
+    let sample = same_sample (sample_in g (first + k)) agrees.sample x agrees.sample_there there in
+    let frame : agrees.frame ≡ f = one (sample_bytes g.file x) agrees.frame f (subst (λ y. IsSampleOf g.file y agrees.frame) sample agrees.of).stands of.stands in
+    let same = same_picture (picture_in g (first + k)) agrees.picture p agrees.there picture in
+    other (subst (λ y. IsPictureOf l s r k f y) same (subst (λ y. IsPictureOf l s r k y agrees.picture) frame agrees.pictured))
+
+pub ends_there : (g : Given) (l : Layout) (s : Settings) (r : Record) (first k : ℕ) (end : LookEnd) (left : Pictures) → GivesPicture g (first + k) (Err end) left → AnswersEnd end (PictureEnds g l s r first k)
+ends_there g l s r first k ends.Done left h = absurd h
+ends_there g l s r first k ends.NoMemory left h = tt
+ends_there g l s r first k ends.ReadFault left h = tt
+ends_there g l s r first k ends.WriteFault left h = tt
+ends_there g l s r first k (ends.BadPictures kind place) left h = h
+ends_there g l s r first k (ends.BadMovie kind place) left h = absurd h
+ends_there g l s r first k (ends.BadFrame sample kind place) left h = absurd h
+ends_there g l s r first k (ends.BadProof kind place) left h = absurd h
+ends_there g l s r first k (ends.Refused frame clause) left h = absurd h
+
+-- ---- one sample
+
+pub sample_there : (g : Given) (s : Settings) (r : Record) (first k : ℕ) (x : Sample) (f : CodedFrame) → sample_in g (first + k) ≡ Some x → IsSampleOf g.file x f → IsAsSaid s r k x.size f
+    → TakesSample g s r first k (Ok f)
+sample_there g s r first k x f there of said = (record { sample = x; there = there; frame = f; of = of; said = said }, (x, there, of))
+
+pub sample_ends : (g : Given) (s : Settings) (r : Record) (first k n : ℕ) (x : Sample) (end : LookEnd) → n ≡ first + k → sample_in g (first + k) ≡ Some x → ReadsSample g.file x n (Err end)
+    → AnswersEnd end (SampleEnds g s r first k)
+sample_ends g s r first k n x ends.Done is there h = absurd h
+sample_ends g s r first k n x ends.NoMemory is there h = tt
+sample_ends g s r first k n x ends.ReadFault is there h = tt
+sample_ends g s r first k n x ends.WriteFault is there h = tt
+sample_ends g s r first k n x (ends.BadPictures kind place) is there h = absurd h
+sample_ends g s r first k n x (ends.BadMovie kind place) is there h = (x, there, h)
+sample_ends g s r first k n x (ends.BadFrame number kind place) is there h = (h.0 ∙ is, x, there, h.1, h.2)
+sample_ends g s r first k n x (ends.BadProof kind place) is there h = absurd h
+sample_ends g s r first k n x (ends.Refused frame clause) is there h = absurd h
+
+-- ---- frames in front of further ones
+
+pub frames_more : (g : Given) (first : ℕ) (fs : List CodedFrame) (f : CodedFrame) → AreFrames g first fs → HasFrame g (first + length fs) f → AreFrames g first (fs ++ f ∷ [])
+frames_more g first fs f are is = All-push-at fs f first are is
+  where
+    All-push-at : (fs : List CodedFrame) (f : CodedFrame) (first : ℕ) → AreFrames g first fs → HasFrame g (first + length fs) f → AreFrames g first (fs ++ f ∷ [])
+    All-push-at [] f first are is zero d l = is
+    All-push-at [] f first are is (suc k) d l = absurd (omega (arith, l))
+    All-push-at (x ∷ xs) f first are is zero d l = are zero d (omega arith)
+    All-push-at (x ∷ xs) f first are is (suc k) d l =
+        let e : first + suc k ≡ first + 1 + k = omega arith in
+        let there : (k : ℕ) (d : CodedFrame) → k < length xs → HasFrame g (first + 1 + k) (get_or xs k d) =
+        λ k d m. subst (λ n. HasFrame g n (get_or xs k d)) (let e : first + suc k ≡ first + 1 + k = omega arith in e) (are (suc k) d (omega (arith, m))) in
+        subst (λ n. HasFrame g n (get_or (xs ++ f ∷ []) k d)) (sym e)
+        (All-push-at xs f (first + 1) there (subst (λ n. HasFrame g n f) (let e : first + length (x ∷ xs) ≡ first + 1 + length xs = omega arith in e) is) k d (omega (arith, l)))
