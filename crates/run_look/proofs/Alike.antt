@@ -1,11 +1,11 @@
 -- Lists of coded blocks, slices and pictures that are compared one by one.
-use Rattle.std.proofs.Common.{◌≡◌, refl, ℕ, zero, suc, ◌+◌, ◌-◌, ◌*◌, ◌<◌, ◌≤◌, List, [], ◌∷◌, ◌++◌, length, map, take, drop, get_or, ℤ, pos, ap, sym, subst, ◌∙◌, arith, ⊎_elim}
+use Rattle.std.proofs.Common.{◌≡◌, refl, ℕ, zero, suc, ◌+◌, ◌-◌, ◌*◌, ◌<◌, List, [], ◌∷◌, length, map, take, drop, get_or, ℤ, pos, ap, sym, subst, ◌∙◌, arith, ⊎_elim}
 use Rattle.std.specs.Prelude.{IsTrue, ◌↔◌, Bool, true, false}
 use Rattle.std.specs.Bool.{Decides}
 use Rattle.rate_check.proofs.Answered.{yes, no}
 use Rattle.std.specs.List.{range_with_len}
 use Rattle.std.proofs.lemmas.Bool.{cases_lt}
-use Rattle.std.proofs.lemmas.List.{ext_get_or, same_lists, get_or-map, length-map, take_all}
+use Rattle.std.proofs.lemmas.List.{ext_get_or, same_lists, get_or-map, length-map}
 use Rattle.std.proofs.lemmas.List.FromFn.{get_or-map-range_with_len, length-map-range_with_len}
 use Rattle.pr_geom.specs.Layout.{slices_of}
 use Rattle.pr_geom.specs.Slices.{pictures_of}

@@ -8,5 +8,4 @@ pub mod Reproofed
 pub mod Alike
 pub mod Parts
 pub mod Placed
-pub mod Agreed
 pub mod OnceWith

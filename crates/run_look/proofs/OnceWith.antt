@@ -1,7 +1,6 @@
 -- Checking a proof with a movie and pictures, where it is done, ends in no other way.
-use Rattle.std.proofs.Common.{◌≡◌, refl, ℕ, zero, suc, ◌+◌, ◌*◌, ◌/◌, ◌<◌, ◌≤◌, inl, inr, List, [], ◌∷◌, length, map, take, drop, Option, None, Some, Result, Ok, Err, Bool, true, false, ap, sym, subst, ◌∙◌, arith}
-use Rattle.std.specs.Prelude.{◌⊎◌, ◌==◌}
-use Rattle.std.specs.Bool.{OnTrue}
+use Rattle.std.proofs.Common.{◌≡◌, ℕ, zero, suc, ◌+◌, ◌*◌, ◌/◌, inl, inr, List, length, map, take, drop, Option, None, Some, Result, Ok, Err, Bool, true, false, ap, sym, subst, ◌∙◌}
+use Rattle.std.specs.Prelude.{◌==◌}
 use Rattle.std.specs.List.{flat_map, range_with_len}
 use Rattle.pw_outside.specs.Reading.{Fault, Rest, bad}
 use Rattle.pw_planes.specs.declared.picture.Picture.{Picture}
@@ -28,16 +27,14 @@ use Rattle.rate_build.specs.Coefficients.{frame_coefficients, picture_coefficien
 use Rattle.rate_build.specs.Coding.{coded_slices, coded_picture, coded_frame, weights_in}
 use Rattle.rate_build.specs.Tables.{entries_of, fixed_bytes}
 use Rattle.rate_cert.specs.declared.settings.Settings.{Settings}
-use Rattle.rate_cert.specs.Records.{Record, IsGood, Fails}
+use Rattle.rate_cert.specs.Records.{Record}
 use Rattle.rate_cert.specs.Head.{head_at}
 use Rattle.rate_cert.specs.Files.{Progress, no_records, after, next_at, most_records}
 use Rattle.run_look.specs.declared.end.LookEnd.{LookEnd}
 use Rattle.run_look.specs.declared.end.LookEnd.TheVariants as ends
-use Rattle.run_look.specs.Ends.{AnswersEnd, is_read_fault, is_write_fault}
-use Rattle.run_look.specs.Checking.{frames_in, Step, ended, went, RecordIs, NextIs, RecordsAre, HeadIs, CompletesCheck}
-use Rattle.run_look.specs.Agreeing.{Given, given, weights_of, header_of, coefficients_in, picture_in, sample_in, sample_bytes, IsSampleOf, IsAsSaid, IsPictureOf, SampleAgrees, SampleEnds, PictureAgrees, PictureEnds, AreBeside, nothing_further, pictures_head, form_of, AreHeaded, HasPictures, IsMovie, RecordsWith, ChecksOn, Checks}
+use Rattle.run_look.specs.Checking.{frames_in, ended, went, RecordIs, NextIs, RecordsAre, HeadIs}
+use Rattle.run_look.specs.Agreeing.{Given, given, weights_of, header_of, coefficients_in, picture_in, sample_in, sample_bytes, IsSampleOf, IsAsSaid, IsPictureOf, SampleAgrees, SampleEnds, PictureAgrees, PictureEnds, AreBeside, nothing_further, form_of, AreHeaded, HasPictures, IsMovie, RecordsWith, ChecksOn, Checks}
 use Rattle.run_look.proofs.Once.{fails_none}
-use Rattle.run_look.proofs.Agreed.{same_sample, same_picture}
 use Rattle.run_look.proofs.Placed.{not_outside}
 
 -- ---- layouts of the same settings say the same
@@ -89,6 +86,9 @@ module _ (l m : Layout) (w h n : ℕ) (mode : Interlace) (format : Chroma) (a : 
 
 no_fault : (o : Option (Fault FrameKind)) (f : Fault FrameKind) → o ≡ Some f → o ≡ None → ⊥
 no_fault o f a b = cc
+
+same_sample : (o : Option Sample) (x y : Sample) → o ≡ Some x → o ≡ Some y → x ≡ y
+same_sample o x y a b = cc
 
 none_some : (o : Option Sample) (x : Sample) → o ≡ None → o ≡ Some x → ⊥
 none_some o x a b = cc

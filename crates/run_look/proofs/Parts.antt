@@ -1,7 +1,7 @@
 -- A frame's part of a record.
-use Rattle.std.proofs.Common.{◌≡◌, refl, ℕ, ◌+◌, ◌-◌, ◌*◌, ◌/◌, ◌<◌, ◌≤◌, Bool, true, false, List, [], ◌∷◌, length, take, drop, map, rules, ap, sym, subst, ◌∙◌, arith, mul-div_cancel, length-take-le}
+use Rattle.std.proofs.Common.{◌≡◌, ℕ, ◌+◌, ◌-◌, ◌*◌, ◌/◌, ◌<◌, ◌≤◌, true, List, [], ◌∷◌, length, take, drop, rules, ap, sym, subst, ◌∙◌, arith, mul-div_cancel, length-take-le}
 use Rattle.std.specs.Prelude.{IsTrue, ◌↔◌, nat_eq}
-use Rattle.std.specs.List.{All, AllZip, Contains}
+use Rattle.std.specs.List.{All}
 use Rattle.std.proofs.lemmas.Bool.{eqb-true, eq-eqb}
 use Rattle.std.proofs.lemmas.Nat.{mul-le}
 use Rattle.std.proofs.lemmas.List.{length-drop}

@@ -1,4 +1,4 @@
-use Rattle.std.proofs.Common.{rules, ◌≡◌, ◌+◌, ◌*◌, ◌<◌, ◌≤◌, length, get_or, sym, subst, ap, ◌∙◌, arith}
+use Rattle.std.proofs.Common.{◌+◌, ◌*◌, ◌<◌, ◌≤◌, length, get_or, sym, subst, ap, ◌∙◌, arith}
 use Rattle.pr_geom.specs.Layout.{slices_of}
 use Rattle.pr_geom.specs.Slices.{pictures_of}
 use Rattle.rate_build.specs.Coefficients.{FrameCoefficients}

@@ -1,4 +1,4 @@
-use Rattle.std.proofs.Common.{get_or, pos, ap, ◌∙◌, refl, rules, arith}
+use Rattle.std.proofs.Common.{get_or, pos, ap, ◌∙◌, refl, arith}
 use Rattle.pr_quant.specs.Quantised.{quantised}
 use Rattle.rate_build.proofs.Quantising.{block_filled, kept, value_more}
 use Rattle.run_look.proofs.coded.quantise_block.Goals as goal

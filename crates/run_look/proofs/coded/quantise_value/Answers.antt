@@ -1,4 +1,4 @@
-use Rattle.std.proofs.Common.{◌≡◌, ◌≤◌, nat_abs, to_z, of_z, w16, w32, ap, ◌∙◌, arith}
+use Rattle.std.proofs.Common.{◌≡◌, to_z, of_z, w16, w32, ap, ◌∙◌, arith}
 use Rattle.std.proofs.lemmas.Int.{to_z-of_z, fits_signed_from_abs}
 use Rattle.pr_quant.specs.Quantised.{quantised}
 use Rattle.run_look.proofs.coded.quantise_value.Goals as goal

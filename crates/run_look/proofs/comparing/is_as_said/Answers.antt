@@ -1,4 +1,4 @@
-use Rattle.std.proofs.Common.{◌≡◌, ◌/◌, ◌<◌, ℕ, length, get_or, subst, sym, ap, ◌∙◌}
+use Rattle.std.proofs.Common.{◌≡◌, ◌/◌, subst, sym, ◌∙◌}
 use Rattle.std.specs.List.{All}
 use Rattle.pr_frame.specs.declared.coded.CodedPicture.{CodedPicture}
 use Rattle.rate_check.proofs.Answered.{granted}
@@ -15,8 +15,7 @@ returns c =
     let to : HasSize c.slices_for.result.now part c.share_of-share.result c.args.size → HasSize (slices_in s r c.args.k) part (r.table.fixed / frames_in s r) c.args.size =
     λ h. subst (λ n. HasSize (slices_in s r c.args.k) part n c.args.size) c.share_of-share.ensures (subst (λ l. HasSize l part c.share_of-share.result c.args.size) c.slices_for.ensures.value h) in
     let from : HasSize (slices_in s r c.args.k) part (r.table.fixed / frames_in s r) c.args.size → HasSize c.slices_for.result.now part c.share_of-share.result c.args.size =
-    λ h. subst (λ l. HasSize l part c.share_of-share.result c.args.size) (sym c.slices_for.ensures.value) (subst (λ n. HasSize (slices_in s r c.args.k) part n c.args.size) (sym c.share_of-share.ensures) h) in
-    (
+    λ h. subst (λ l. HasSize l part c.share_of-share.result c.args.size) (sym c.slices_for.ensures.value) (subst (λ n. HasSize (slices_in s r c.args.k) part n c.args.size) (sym c.share_of-share.ensures) h) in (
       (λ t. record {
         header = granted c.same_header.result c.same_header.ensures c.if-not-same_header.false ∙ c.header_for.ensures;
         slicing = subst (All (λ (x : CodedPicture). x.log2 ≡ s.log2)) c.as_slice.ensures (granted c.have_slicing.result c.have_slicing.ensures c.if-not-have_slicing.false);

@@ -1,6 +1,5 @@
-use Rattle.std.proofs.Common.{◌≡◌, length, ap, sym, subst, ◌∙◌, arith, ◌+◌, ◌*◌, ◌≤◌}
-use Rattle.rate_cert.specs.declared.proof.Verdict.{Verdict}
-use Rattle.rate_cert.specs.Records.{Record, Said, said_by, fits}
+use Rattle.std.proofs.Common.{length, ap, sym, ◌∙◌, arith}
+use Rattle.rate_cert.specs.Records.{Record, said_by}
 use Rattle.run_look.proofs.Parts.{part_inside, choice_long, cut_long}
 use Rattle.run_look.proofs.comparing.part_for.Goals as goal
 

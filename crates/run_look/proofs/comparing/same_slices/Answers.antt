@@ -1,6 +1,5 @@
-use Rattle.std.proofs.Common.{◌≡◌, ℕ, List, get_or, sym, ap, ◌∙◌, arith}
+use Rattle.std.proofs.Common.{◌≡◌, get_or, sym, ap, ◌∙◌, arith}
 use Rattle.std.proofs.lemmas.List.{same_lists, get_or_default}
-use Rattle.rate_table.specs.declared.entry.Entry.{Entry}
 use Rattle.rate_check.proofs.Answered.{yes, no, granted, denied}
 use Rattle.run_look.proofs.Alike.{step}
 use Rattle.run_look.proofs.comparing.same_slices.Goals as goal

@@ -1,5 +1,4 @@
-use Rattle.std.proofs.Common.{rules, ◌≡◌, ◌+◌, ◌*◌, ◌≤◌, length, ap, sym, subst, ◌∙◌, arith}
-use Rattle.rate_cert.specs.Records.{Record}
+use Rattle.std.proofs.Common.{rules, ◌≡◌, length, ap, ◌∙◌, arith}
 use Rattle.run_look.proofs.Parts.{part_inside, cut_long}
 use Rattle.run_look.proofs.comparing.slices_for.Goals as goal
 
