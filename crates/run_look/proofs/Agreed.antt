@@ -57,10 +57,10 @@ left_some g n p rest others e =
 
 -- ---- one picture
 
-pub same_sample : (o : Option Sample) (x y : Sample) → o ≡ Some x → o ≡ Some y → x ≡ y
+same_sample : (o : Option Sample) (x y : Sample) → o ≡ Some x → o ≡ Some y → x ≡ y
 same_sample o x y a b = cc
 
-pub same_picture : (o : Result (Option Picture) (Fault PictureKind)) (p q : Picture) → o ≡ Ok (Some p) → o ≡ Ok (Some q) → p ≡ q
+same_picture : (o : Result (Option Picture) (Fault PictureKind)) (p q : Picture) → o ≡ Ok (Some p) → o ≡ Ok (Some q) → p ≡ q
 same_picture o p q a b = cc
 
 -- a frame that isn't coded of the picture of its number doesn't agree
