@@ -1,7 +1,7 @@
 -- Samples and pictures beside the records, one after the other.
 use Rattle.std.proofs.Common.{◌≡◌, refl, ℕ, zero, suc, ◌+◌, ◌<◌, ◌≤◌, inl, inr, List, [], ◌∷◌, ◌++◌, length, drop, get_or, Option, None, Some, Result, Ok, Err, ap, sym, subst, ◌∙◌, arith}
-use Rattle.std.specs.Prelude.{◌⊎◌, slice_get}
-use Rattle.pw_outside.specs.Reading.{Fault, Rest, Read, bad}
+use Rattle.std.specs.Prelude.{◌⊎◌, slice_get, IsSome}
+use Rattle.pw_outside.specs.Reading.{Fault, Rest, Read, Told, bytes_of, rest_of, bad}
 use Rattle.pw_planes.specs.declared.picture.Picture.{Picture}
 use Rattle.pic_y4m.specs.declared.fault.PictureKind.{PictureKind}
 use Rattle.pic_y4m.specs.Frames.{Pictures, first_and}
@@ -14,7 +14,10 @@ use Rattle.rate_cert.specs.Records.{Record}
 use Rattle.run_look.specs.declared.end.LookEnd.{LookEnd}
 use Rattle.run_look.specs.declared.end.LookEnd.TheVariants as ends
 use Rattle.run_look.specs.Ends.{AnswersEnd}
-use Rattle.run_look.specs.Agreeing.{Given, picture_or, picture_in, sample_in, sample_bytes, IsSampleOf, IsAsSaid, HasFrame, AreFrames, ReadsSample, TakesSample, SampleEnds, IsPictureOf, PictureAgrees, PictureEnds, AreLeft, GivesPicture, TakesPicture}
+use Rattle.run_look.specs.Checking.{frames_in}
+use Rattle.run_look.specs.Agreeing.{Given, given, SamplesAgree, SamplesEnd, PicturesAgree, PicturesEnd, TakesPictures, left_by, picture_or, picture_in, sample_in, sample_bytes, IsSampleOf, IsAsSaid, HasFrame, AreFrames, ReadsSample, TakesSample, SampleEnds, SampleAgrees, IsPictureOf, PictureAgrees, PictureEnds, AreLeft, GivesPicture, TakesPicture}
+use Rattle.run_look.proofs.Alone.{answers_end}
+use Rattle.run_look.proofs.Alike.{step}
 
 -- ---- what stands at a number
 
@@ -116,3 +119,33 @@ frames_more g first fs f are is = All-push-at fs f first are is
         λ k d m. subst (λ n. HasFrame g n (get_or xs k d)) (let e : first + suc k ≡ first + 1 + k = omega arith in e) (are (suc k) d (omega (arith, m))) in
         subst (λ n. HasFrame g n (get_or (xs ++ f ∷ []) k d)) (sym e)
         (All-push-at xs f (first + 1) there (subst (λ n. HasFrame g n f) (let e : first + length (x ∷ xs) ≡ first + 1 + length xs = omega arith in e) is) k d (omega (arith, l)))
+
+-- ---- one sample after the other
+
+-- checking ends at the sample of a frame
+pub samples_stop : (b b' : Option (List ℕ)) (ss : List Sample) (s : Settings) (r : Record) (first k : ℕ) (end : LookEnd) → b' ≡ b → k < frames_in s r
+    → (IsSome b → (ps : Pictures) → SamplesAgree (given (bytes_of b) ss ps) s r first k)
+    → Told b' (λ file. (ps : Pictures) → TakesSample (given file ss ps) s r first k (Err end)) → Told b (λ file. (ps : Pictures) → AnswersEnd end (SamplesEnd (given file ss ps) s r first))
+samples_stop b b' ss s r first k end e lt agree takes = λ told ps.
+    let here : Told b (λ file. (ps : Pictures) → TakesSample (given file ss ps) s r first k (Err end)) =
+    subst (λ x. Told x (λ file. (ps : Pictures) → TakesSample (given file ss ps) s r first k (Err end))) e takes in
+    answers_end end (SampleEnds (given (bytes_of b) ss ps) s r first k) (SamplesEnd (given (bytes_of b) ss ps) s r first) (λ x h. (k, lt, agree told ps, h)) (here told ps)
+
+-- the sample of a frame agrees
+pub samples_further : (b b' : Option (List ℕ)) (ss : List Sample) (s : Settings) (r : Record) (first k : ℕ) (f : CodedFrame) → b' ≡ b
+    → (IsSome b → (ps : Pictures) → SamplesAgree (given (bytes_of b) ss ps) s r first k)
+    → Told b' (λ file. (ps : Pictures) → TakesSample (given file ss ps) s r first k (Ok f)) → IsSome b → (ps : Pictures) → SamplesAgree (given (bytes_of b) ss ps) s r first (k + 1)
+samples_further b b' ss s r first k f e agree takes told ps =
+    let here : Told b (λ file. (ps : Pictures) → TakesSample (given file ss ps) s r first k (Ok f)) =
+    subst (λ x. Told x (λ file. (ps : Pictures) → TakesSample (given file ss ps) s r first k (Ok f))) e takes in
+    step (λ j. SampleAgrees (given (bytes_of b) ss ps) s r first j) k (agree told ps) (here told ps).0
+
+-- and its frame stands behind those in front of it
+pub frames_further : (b b' : Option (List ℕ)) (ss : List Sample) (s : Settings) (r : Record) (first k : ℕ) (fs fs' : List CodedFrame) (f : CodedFrame) → b' ≡ b → length fs ≡ k → fs' ≡ fs ++ f ∷ []
+    → (IsSome b → (ps : Pictures) → AreFrames (given (bytes_of b) ss ps) first fs)
+    → Told b' (λ file. (ps : Pictures) → TakesSample (given file ss ps) s r first k (Ok f)) → IsSome b → (ps : Pictures) → AreFrames (given (bytes_of b) ss ps) first fs'
+frames_further b b' ss s r first k fs fs' f e n is are takes told ps =
+    let here : Told b (λ file. (ps : Pictures) → TakesSample (given file ss ps) s r first k (Ok f)) =
+    subst (λ x. Told x (λ file. (ps : Pictures) → TakesSample (given file ss ps) s r first k (Ok f))) e takes in
+    let frame : HasFrame (given (bytes_of b) ss ps) (first + length fs) f = subst (λ j. HasFrame (given (bytes_of b) ss ps) (first + j) f) (sym n) (here told ps).1 in
+    subst (λ l. AreFrames (given (bytes_of b) ss ps) first l) (sym is) (frames_more (given (bytes_of b) ss ps) first fs f (are told ps) frame)

@@ -23,7 +23,7 @@ ghost use Rattle.run_look.specs.Ends.{is_done, is_read_fault, is_write_fault, is
 ghost use Rattle.run_look.specs.Listing.{Extends};
 ghost use Rattle.run_look.specs.Checking.{frames_in, PrintsCheck, CompletesCheck, Counts};
 ghost use Rattle.run_look.specs.Reproofing.{CountsFaults};
-ghost use Rattle.run_look.specs.Agreeing.{Given, given, left_by, pictures_head, ReadsSample, HasFrame, TakesSample, TakesSamples, SamplesEnd, TakesPicture, TakesPictures, TakesGroup, TakesEnd, GivesPicture, AreLeft, AreFrames, Checks, CountsReads};
+ghost use Rattle.run_look.specs.Agreeing.{Given, given, left_by, pictures_head, ReadsSample, HasFrame, TakesSample, TakesSamples, SamplesEnd, TakesPicture, TakesPictures, TakesGroup, TakesEnd, GivesPicture, AreLeft, AreFrames, RecordsWith, ChecksOn, Checks, CountsReads};
 
 use crate::checking::{frames_of, next_good, print_records};
 use crate::comparing::{is_as_said, is_picture_of};
@@ -344,24 +344,38 @@ fn take_end<S: ByteSource>(
 fn check_groups<S: ByteSource, M: ByteStore>(
     alloc: Global,
     layout: &Layout,
-    records_reader: &mut ProofReader,
+    records: &mut ProofReader,
     proof: &mut S,
     reader: &MovieReader,
     movie: &mut M,
     shown: &mut AnyReader,
     pictures: &mut S,
 ) -> Result<u32, LookEnd>
+    requires settings { IsSettings records.old.settings }
+    requires fresh { records.old.progress ≡ no_records }
+    requires going { records.old.ended ≡ false }
+    requires layout { IsLayoutOf layout.now records.old.settings.width records.old.settings.height records.old.settings.log2 records.old.settings.interlace records.old.settings.chroma }
+    requires tables { AreTables reader.now.tables }
+    requires head { head_of shown.old ≡ pictures_head records.old.settings }
+    requires reader { IsReader shown.old }
+    ensures answer { IsSome (S.left proof.old) → Told (M.bytes movie.old) (λ file. IsSome (S.left pictures.old) → (ps : Pictures) → ps ≡ left_by shown.old (S.left pictures.old)
+        → Counts (RecordsWith (given file (samples reader.now.tables) ps) records.old.format records.old.settings (rest_of records.old.place (S.left proof.old))) result) }
+    ensures few { IfOk result (λ n. n ≤ most_records) }
+    ensures end { IfErr result IsReadersEnd }
+    ensures whole { OnOk result (IsAtEnd (S.left proof.new) × IsAtEnd (S.left pictures.new)) }
+    ensures bytes { M.bytes movie.new ≡ M.bytes movie.old }
+    ensures cause { CountsReads (S.faults proof.old) (S.faults proof.new) (M.faults movie.old) (M.faults movie.new) (S.faults pictures.old) (S.faults pictures.new) (is_stopped_by_source result) }
 {
-    let settings = records_reader.settings();
-    let mut records: u32 = 0;
+    let settings = records.settings();
+    let mut count: u32 = 0;
     let mut frames: u32 = 0;
-    while let Some(group) = next_good(alloc, records_reader, proof, frames)? {
+    while let Some(group) = next_good(alloc, records, proof, frames)? {
         take_group(alloc, &settings, layout, &group, frames, reader, movie, shown, pictures)?;
-        records += 1;
+        count += 1;
         frames += frames_of(&settings, &group);
     }
     take_end(alloc, frames, reader, shown, pictures)?;
-    Ok(records)
+    Ok(count)
 }
 
 /// The head of pictures of these settings.
@@ -390,6 +404,16 @@ fn check_with<S: ByteSource, M: ByteStore>(
     pictures: &mut S,
     movie: &mut M,
 ) -> Result<u32, LookEnd>
+    requires settings { IsSettings records.old.settings }
+    requires fresh { records.old.progress ≡ no_records }
+    requires going { records.old.ended ≡ false }
+    ensures answer { IsSome (S.left proof.old) → Told (M.bytes movie.old) (λ file. Told (S.left pictures.old) (λ shown.
+        Counts (ChecksOn file shown records.old.format records.old.settings (rest_of records.old.place (S.left proof.old))) result)) }
+    ensures few { IfOk result (λ n. n ≤ most_records) }
+    ensures end { IfErr result IsReadersEnd }
+    ensures whole { OnOk result (IsAtEnd (S.left proof.new) × IsAtEnd (S.left pictures.new)) }
+    ensures bytes { M.bytes movie.new ≡ M.bytes movie.old }
+    ensures cause { CountsReads (S.faults proof.old) (S.faults proof.new) (M.faults movie.old) (M.faults movie.new) (S.faults pictures.old) (S.faults pictures.new) (is_stopped_by_source result) }
 {
     let settings = records.settings();
     let reader = match MovieReader::start(alloc, movie) {
@@ -437,6 +461,12 @@ fn check_given<S: ByteSource, M: ByteStore>(
     pictures: &mut S,
     movie: &mut M,
 ) -> Result<u32, LookEnd>
+    ensures answer { Told (S.left proof.old) (λ bytes. Told (M.bytes movie.old) (λ file. Told (S.left pictures.old) (λ shown. Counts (Checks bytes file shown) result))) }
+    ensures few { IfOk result (λ n. n ≤ most_records) }
+    ensures end { IfErr result IsReadersEnd }
+    ensures whole { OnOk result (IsAtEnd (S.left proof.new) × IsAtEnd (S.left pictures.new)) }
+    ensures bytes { M.bytes movie.new ≡ M.bytes movie.old }
+    ensures cause { CountsReads (S.faults proof.old) (S.faults proof.new) (M.faults movie.old) (M.faults movie.new) (S.faults pictures.old) (S.faults pictures.new) (is_stopped_by_source result) }
 {
     let mut records = ProofReader::start(proof)?;
     check_with(alloc, &mut records, proof, pictures, movie)
