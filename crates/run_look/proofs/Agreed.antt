@@ -4,7 +4,12 @@ use Rattle.std.specs.Prelude.{◌⊎◌, slice_get, IsSome}
 use Rattle.pw_outside.specs.Reading.{Fault, Rest, Read, Told, bytes_of, rest_of, bad}
 use Rattle.pw_planes.specs.declared.picture.Picture.{Picture}
 use Rattle.pic_y4m.specs.declared.fault.PictureKind.{PictureKind}
+use Rattle.pic_y4m.specs.declared.fault.PictureFault.{PictureFault}
+use Rattle.pic_y4m.specs.declared.head.TheConstants.{MAX_FRAMES}
 use Rattle.pic_y4m.specs.Frames.{Pictures, first_and}
+use Rattle.pic_raw.specs.declared.any.AnyReader.{AnyReader}
+use Rattle.pic_raw.specs.declared.any.AnyReader.TheVariants.{Y4m, Raw}
+use Rattle.pic_raw.specs.Any.{IsReader, IsAfter, NextIsFirst, advanced, frames_of, left_of, next_of, place_of}
 use Rattle.pr_geom.specs.declared.layout.Layout.{Layout}
 use Rattle.pr_frame.specs.declared.coded.CodedFrame.{CodedFrame}
 use Rattle.pr_frame.specs.Laws.{OneFrame}
@@ -14,8 +19,8 @@ use Rattle.rate_cert.specs.Records.{Record}
 use Rattle.run_look.specs.declared.end.LookEnd.{LookEnd}
 use Rattle.run_look.specs.declared.end.LookEnd.TheVariants as ends
 use Rattle.run_look.specs.Ends.{AnswersEnd}
-use Rattle.run_look.specs.Checking.{frames_in}
-use Rattle.run_look.specs.Agreeing.{Given, given, SamplesAgree, SamplesEnd, PicturesAgree, PicturesEnd, TakesPictures, left_by, picture_or, picture_in, sample_in, sample_bytes, IsSampleOf, IsAsSaid, HasFrame, AreFrames, ReadsSample, TakesSample, SampleEnds, SampleAgrees, IsPictureOf, PictureAgrees, PictureEnds, AreLeft, GivesPicture, TakesPicture}
+use Rattle.run_look.specs.Checking.{frames_in, ended}
+use Rattle.run_look.specs.Agreeing.{Given, given, AreBeside, TakesGroup, by_sample, by_picture, nothing_further, SamplesAgree, SamplesEnd, PicturesAgree, PicturesEnd, TakesPictures, left_by, picture_or, picture_in, sample_in, sample_bytes, IsSampleOf, IsAsSaid, HasFrame, AreFrames, ReadsSample, TakesSample, SampleEnds, SampleAgrees, IsPictureOf, PictureAgrees, PictureEnds, AreLeft, GivesPicture, TakesPicture}
 use Rattle.run_look.proofs.Alone.{answers_end}
 use Rattle.run_look.proofs.Alike.{step}
 
@@ -58,6 +63,31 @@ left_some g n p rest others e =
     let fault = ap (λ (x : Pictures). x.fault) e in
     (ap (λ o. picture_or o g.pictures.fault) some.0, λ i. record { pictures = some.1 i; fault = fault i })
 
+-- what a reader gives next
+pub gives_fault : NextIsFirst → (r : AnyReader) (rest : Rest) (g : Given) (n : ℕ) (f : Fault PictureKind) → IsReader r → next_of r rest ≡ Err f → AreLeft g n (left_of r rest) → picture_in g n ≡ Err f
+gives_fault law r rest g n f is e left =
+    let others : Rest → Pictures = λ rest. left_of (advanced r rest.place) rest in
+    left_fault g n f others (sym (ap (λ x. first_and x others) e) ∙ sym (law r rest (few r is)) ∙ left)
+  where
+    few : (r : AnyReader) → IsReader r → frames_of r ≤ MAX_FRAMES
+    few (Y4m r) is = is.few
+    few (Raw r) is = is.few
+
+pub gives_next : NextIsFirst → (r r' : AnyReader) (rest : Rest) (left : Option (List ℕ)) (g : Given) (n : ℕ) (o : Option Picture) → IsReader r → IsAfter {E = PictureFault} r r' (Ok o)
+    → next_of r rest ≡ Ok (o, rest_of (place_of r') left) → AreLeft g n (left_of r rest) → GivesPicture g n (Ok o) (left_by r' left)
+gives_next law r r' rest left g n o is after e are = by o after (sym (ap (λ x. first_and x others) e) ∙ sym (law r rest (few r is)) ∙ are)
+  where
+    few : (r : AnyReader) → IsReader r → frames_of r ≤ MAX_FRAMES
+    few (Y4m r) is = is.few
+    few (Raw r) is = is.few
+    others : Rest → Pictures
+    others rest = left_of (advanced r rest.place) rest
+    by : (o : Option Picture) → IsAfter {E = PictureFault} r r' (Ok o) → AreLeft g n (first_and (Ok (o, rest_of (place_of r') left)) others) → GivesPicture g n (Ok o) (left_by r' left)
+    by None after here = left_none g n (rest_of (place_of r') left) others here
+    by (Some p) after here =
+        let both = left_some g n p (rest_of (place_of r') left) others here in
+        (both.0, subst (λ x. AreLeft g (n + 1) (left_of x (rest_of (place_of r') left))) (sym after) both.1)
+
 -- ---- one picture
 
 same_sample : (o : Option Sample) (x y : Sample) → o ≡ Some x → o ≡ Some y → x ≡ y
@@ -74,6 +104,10 @@ disagrees one g l s r first k f p (x, there, of) picture other agrees =
     let frame : agrees.frame ≡ f = one (sample_bytes g.file x) agrees.frame f (subst (λ y. IsSampleOf g.file y agrees.frame) sample agrees.of).stands of.stands in
     let same = same_picture (picture_in g (first + k)) agrees.picture p agrees.there picture in
     other (subst (λ y. IsPictureOf l s r k f y) same (subst (λ y. IsPictureOf l s r k y agrees.picture) frame agrees.pictured))
+
+pub picture_agrees : (g : Given) (l : Layout) (s : Settings) (r : Record) (first k : ℕ) (f : CodedFrame) (p : Picture) → HasFrame g (first + k) f
+    → picture_in g (first + k) ≡ Ok (Some p) → IsPictureOf l s r k f p → PictureAgrees g l s r first k
+picture_agrees g l s r first k f p (x, there, of) picture is = record { picture = p; there = picture; sample = x; sample_there = there; frame = f; of = of; pictured = is }
 
 pub ends_there : (g : Given) (l : Layout) (s : Settings) (r : Record) (first k : ℕ) (end : LookEnd) (left : Pictures) → GivesPicture g (first + k) (Err end) left → AnswersEnd end (PictureEnds g l s r first k)
 ends_there g l s r first k ends.Done left h = absurd h
@@ -149,3 +183,73 @@ frames_further b b' ss s r first k fs fs' f e n is are takes told ps =
     subst (λ x. Told x (λ file. (ps : Pictures) → TakesSample (given file ss ps) s r first k (Ok f))) e takes in
     let frame : HasFrame (given (bytes_of b) ss ps) (first + length fs) f = subst (λ j. HasFrame (given (bytes_of b) ss ps) (first + j) f) (sym n) (here told ps).1 in
     subst (λ l. AreFrames (given (bytes_of b) ss ps) first l) (sym is) (frames_more (given (bytes_of b) ss ps) first fs f (are told ps) frame)
+
+-- ---- one picture after the other
+
+pub pictures_start : (g : Given) (l : Layout) (s : Settings) (r : Record) (first : ℕ) (left : Pictures) → AreLeft g first left → PicturesAgree g l s r first 0 × AreLeft g (first + 0) left
+pictures_start g l s r first left h = (λ k lt. absurd (omega (arith, lt)), subst (λ n. AreLeft g n left) (let e : first ≡ first + 0 = omega arith in e) h)
+
+-- the picture of a frame agrees
+pub pictures_further : (g : Given) (l : Layout) (s : Settings) (r : Record) (first k : ℕ) (left : Pictures) → PicturesAgree g l s r first k → TakesPicture g l s r first k (Ok tt) left
+    → PicturesAgree g l s r first (k + 1) × AreLeft g (first + (k + 1)) left
+pictures_further g l s r first k left before here =
+    (step (λ j. PictureAgrees g l s r first j) k before here.0, subst (λ n. AreLeft g n left) (let e : first + k + 1 ≡ first + (k + 1) = omega arith in e) here.1)
+
+-- checking ends at the picture of a frame
+pub pictures_stop : (g : Given) (l : Layout) (s : Settings) (r : Record) (first k : ℕ) (end : LookEnd) → PicturesAgree g l s r first k → k < frames_in s r → AnswersEnd end (PictureEnds g l s r first k)
+    → AnswersEnd end (PicturesEnd g l s r first)
+pictures_stop g l s r first k end before lt here = answers_end end (PictureEnds g l s r first k) (PicturesEnd g l s r first) (λ x h. (k, lt, before, h)) here
+
+-- ---- one record
+
+pub told_of : (P : List ℕ → Type 0) (b b' : Option (List ℕ)) → b' ≡ b → Told b' P → Told b P
+told_of P b b' e t = subst (λ x. Told x P) e t
+
+-- checking ends at a sample of a record
+pub group_by_samples : (g : Given) (l : Layout) (s : Settings) (r : Record) (first : ℕ) (end : LookEnd) → AnswersEnd end (SamplesEnd g s r first) → AnswersEnd end (λ e. AreBeside g l s r first tt (ended e))
+group_by_samples g l s r first end h = answers_end end (SamplesEnd g s r first) (λ e. AreBeside g l s r first tt (ended e)) (λ e x. (x.0, x.1, inl (x.2, x.3))) h
+
+-- all samples of a record agree
+pub group_by_pictures : (g : Given) (l : Layout) (s : Settings) (r : Record) (first : ℕ) (result : Result (Unit {0}) LookEnd) (left : Pictures) → SamplesAgree g s r first (frames_in s r)
+    → TakesPictures g l s r first result left → TakesGroup g l s r first result left
+group_by_pictures g l s r first (Ok _) left agree h = ((agree, h.0), h.1)
+group_by_pictures g l s r first (Err end) left agree h = answers_end end (PicturesEnd g l s r first) (λ e. AreBeside g l s r first tt (ended e)) (λ e x. (x.0, x.1, inr (agree, x.2, x.3))) h
+
+-- ---- behind the records
+
+some_sample : (ss : List Sample) (n : ℕ) → n < length ss → (x : Sample) × (slice_get ss n ≡ Some x)
+some_sample [] n l = absurd (omega (arith, l))
+some_sample (x ∷ xs) zero l = (x, refl)
+some_sample (x ∷ xs) (suc n) l = some_sample xs n (omega (arith, l))
+
+no_sample : (ss : List Sample) (n : ℕ) → length ss ≤ n → slice_get ss n ≡ None
+no_sample [] n l = refl
+no_sample (x ∷ xs) zero l = absurd (omega (arith, l))
+no_sample (x ∷ xs) (suc n) l = no_sample xs n (omega (arith, l))
+
+-- there is a further sample
+pub further_sample : (g : Given) (ss : List Sample) (n : ℕ) → g.samples ≡ ss → n < length ss → ends.Refused n 9 ≡ nothing_further g n tt
+further_sample g ss n e l =
+    let x = some_sample ss n l in
+    sym (ap (λ l. by_sample g n (slice_get l n)) e ∙ ap (by_sample g n) x.1)
+
+-- there is none, and this is what was answered of the next picture
+pub behind_samples : (g : Given) (ss : List Sample) (n : ℕ) → g.samples ≡ ss → length ss ≤ n → nothing_further g n tt ≡ by_picture n (picture_in g n)
+behind_samples g ss n e l = ap (λ l. by_sample g n (slice_get l n)) e ∙ ap (by_sample g n) (no_sample ss n l)
+
+pub further_picture : (g : Given) (ss : List Sample) (n : ℕ) (p : Picture) → g.samples ≡ ss → length ss ≤ n → picture_in g n ≡ Ok (Some p) → ends.Refused n 10 ≡ nothing_further g n tt
+further_picture g ss n p e l is = sym (behind_samples g ss n e l ∙ ap (by_picture n) is)
+
+pub nothing_behind : (g : Given) (ss : List Sample) (n : ℕ) → g.samples ≡ ss → length ss ≤ n → picture_in g n ≡ Ok None → nothing_further g n tt ≡ ends.Done
+nothing_behind g ss n e l is = behind_samples g ss n e l ∙ ap (by_picture n) is
+
+pub fault_behind : (g : Given) (ss : List Sample) (n : ℕ) (end : LookEnd) (left : Pictures) → g.samples ≡ ss → length ss ≤ n → GivesPicture g n (Err end) left → AnswersEnd end (λ e. e ≡ nothing_further g n tt)
+fault_behind g ss n ends.Done left e l h = absurd h
+fault_behind g ss n ends.NoMemory left e l h = tt
+fault_behind g ss n ends.ReadFault left e l h = tt
+fault_behind g ss n ends.WriteFault left e l h = tt
+fault_behind g ss n (ends.BadPictures kind place) left e l h = sym (behind_samples g ss n e l ∙ ap (by_picture n) h)
+fault_behind g ss n (ends.BadMovie kind place) left e l h = absurd h
+fault_behind g ss n (ends.BadFrame sample kind place) left e l h = absurd h
+fault_behind g ss n (ends.BadProof kind place) left e l h = absurd h
+fault_behind g ss n (ends.Refused frame clause) left e l h = absurd h

@@ -2,6 +2,7 @@
 use Rattle.std.proofs.Common.{◌≡◌, ℕ, suc, ◌+◌, ◌-◌, ◌≤◌, inl, inr, Option, None, Some, Result, Ok, Err, refl, sym, ap, subst, arith, ◌<◌, ◌∙◌}
 use Rattle.pw_outside.specs.Reading.{Fault, Rest}
 use Rattle.pr_geom.specs.declared.layout.Layout.{Layout}
+use Rattle.pr_geom.specs.Layout.{IsLayoutOf}
 use Rattle.rate_table.specs.declared.fault.ProofKind.{ProofKind}
 use Rattle.rate_cert.specs.declared.settings.Settings.{Settings}
 use Rattle.rate_cert.specs.Records.{Record, IsGood}
@@ -10,7 +11,7 @@ use Rattle.run_look.specs.declared.end.LookEnd.{LookEnd}
 use Rattle.run_look.specs.declared.end.LookEnd.TheVariants as ends
 use Rattle.run_look.specs.Ends.{AnswersEnd}
 use Rattle.run_look.specs.Checking.{frames_in, Step, ended, went, RecordIs, NextIs, RecordsAre, EndsThere, NextGood, Counts}
-use Rattle.run_look.specs.Agreeing.{Given, AreBeside, nothing_further}
+use Rattle.run_look.specs.Agreeing.{Given, AreBeside, nothing_further, RecordsWith}
 use Rattle.run_look.proofs.Alone.{answers_end, marks_left, suc_left, stops}
 
 module _ (g : Given) (l : Layout) where
@@ -51,3 +52,54 @@ module _ (g : Given) (l : Layout) where
       subst (λ (k : ℕ). From k format s p frames rest end 0) (sym (suc_left p le))
       (stops s frames (next_at format p rest) end ((end ≡ nothing_further g frames tt) × (0 ≡ p.count)) (λ r. AreBeside g l s r frames tt)
       (λ r behind more. RecordsAre (AreBeside g l) (nothing_further g) (most_records - p.count) format s (after s p (Some r)) (frames + frames_in s r) behind more end 0) h)
+
+  -- ---- over what was answered of the next record
+
+  -- a good record was read, and its samples and pictures agree; the code's numbers are said to be these
+  pub from-on : (format format' : ℕ) (s s' : Settings) (p p' : Progress) (frames frames' : ℕ) (rest behind : Rest) (next : Option Record) (r : Record) (end : LookEnd) (n : ℕ)
+      → next ≡ Some r → NextGood format s p frames rest (Ok next) behind → format' ≡ format → s' ≡ s → p' ≡ after s p next → frames' ≡ frames + frames_in s r → p.count ≤ most_records
+      → AreBeside g l s r frames tt (went tt) → From (marks_left p') format' s' p' frames' behind end n → From (marks_left p) format s p frames rest end n
+  from-on format format' s s' p p' frames frames' rest behind next r end n e is ef es ep en le beside more =
+      let here : NextGood format s p frames rest (Ok (Some r)) behind = subst (λ (x : Option Record). NextGood format s p frames rest (Ok x) behind) e is in
+      let then : p' ≡ after s p (Some r) = ep ∙ ap (λ (x : Option Record). after s p x) e in
+      let a : From (marks_left p') format s' p' frames' behind end n = subst (λ (f : ℕ). From (marks_left p') f s' p' frames' behind end n) ef more in
+      let b : From (marks_left p') format s p' frames' behind end n = subst (λ (x : Settings). From (marks_left p') format x p' frames' behind end n) es a in
+      let c : From (marks_left (after s p (Some r))) format s (after s p (Some r)) frames' behind end n =
+      subst (λ (q : Progress). From (marks_left q) format s q frames' behind end n) then b in
+      let d : From (marks_left (after s p (Some r))) format s (after s p (Some r)) (frames + frames_in s r) behind end n =
+      subst (λ (k : ℕ). From (marks_left (after s p (Some r))) format s (after s p (Some r)) k behind end n) en c in
+      from-more format s p frames rest behind r end n le here.0 here.1 beside d
+
+  -- the end was read, and nothing further stands behind it
+  pub from-over : (format : ℕ) (s : Settings) (p : Progress) (frames : ℕ) (rest behind : Rest) (next : Option Record) (n : ℕ) → ((r : Record) → next ≡ Some r → ⊥)
+      → NextGood format s p frames rest (Ok next) behind → p.count ≡ n → p.count ≤ most_records → nothing_further g frames tt ≡ ends.Done → From (marks_left p) format s p frames rest ends.Done n
+  from-over format s p frames rest behind None n not is e le done =
+      subst (λ (k : ℕ). From (marks_left p) format s p frames rest ends.Done k) e (from-end format s p frames rest behind ends.Done le is.0 (sym done))
+  from-over format s p frames rest behind (Some r) n not is e le done = absurd (not r refl)
+
+  -- the end was read, and something further stands behind it
+  pub from-further : (format : ℕ) (s : Settings) (p : Progress) (frames : ℕ) (rest behind : Rest) (next : Option Record) (end : LookEnd) (Is : LookEnd → ℕ → Type 0) → ((r : Record) → next ≡ Some r → ⊥)
+      → NextGood format s p frames rest (Ok next) behind → p.count ≤ most_records → ((e : LookEnd) (n : ℕ) → From (marks_left p) format s p frames rest e n → Is e n)
+      → AnswersEnd end (λ e. e ≡ nothing_further g frames tt) → Counts Is (Err end)
+  from-further format s p frames rest behind None end Is not is le whole h =
+      answers_end end (λ e. e ≡ nothing_further g frames tt) (λ e. (n : ℕ) × Is e n) (λ e x. (p.count, whole e p.count (from-end format s p frames rest behind e le is.0 x))) h
+  from-further format s p frames rest behind (Some r) end Is not is le whole h = absurd (not r refl)
+
+  -- checking ended at what was read
+  pub from-ends : (format : ℕ) (s : Settings) (p : Progress) (frames : ℕ) (rest behind : Rest) (end : LookEnd) (Is : LookEnd → ℕ → Type 0) → p.count ≤ most_records
+      → ((e : LookEnd) (n : ℕ) → From (marks_left p) format s p frames rest e n → Is e n) → NextGood format s p frames rest (Err end) behind → Counts Is (Err end)
+  from-ends format s p frames rest behind end Is le whole is =
+      answers_end end (EndsThere s frames (next_at format p rest)) (λ e. (n : ℕ) × Is e n) (λ e h. (0, whole e 0 (from-stop format s p frames rest e le h))) is
+
+  -- a good record was read, and checking ended beside it
+  pub from-besides : (format : ℕ) (s : Settings) (p : Progress) (frames : ℕ) (rest behind : Rest) (next : Option Record) (r : Record) (end : LookEnd) (Is : LookEnd → ℕ → Type 0) → p.count ≤ most_records
+      → ((e : LookEnd) (n : ℕ) → From (marks_left p) format s p frames rest e n → Is e n) → next ≡ Some r → NextGood format s p frames rest (Ok next) behind
+      → AnswersEnd end (λ e. AreBeside g l s r frames tt (ended e)) → Counts Is (Err end)
+  from-besides format s p frames rest behind next r end Is le whole e is h =
+      let here : NextGood format s p frames rest (Ok (Some r)) behind = subst (λ (x : Option Record). NextGood format s p frames rest (Ok x) behind) e is in
+      answers_end end (λ e. AreBeside g l s r frames tt (ended e)) (λ e. (n : ℕ) × Is e n) (λ e x. (0, whole e 0 (from-beside format s p frames rest behind r e le here.0 here.1 x))) h
+
+  -- nothing was read yet
+  pub from-start : (format : ℕ) (s : Settings) (p : Progress) (rest : Rest) (end : LookEnd) (n : ℕ) → p ≡ no_records → IsLayoutOf l s.width s.height s.log2 s.interlace s.chroma
+      → From (marks_left p) format s p 0 rest end n → RecordsWith g format s rest end n
+  from-start format s p rest end n e of h = (l, of, subst (λ (q : Progress). From (marks_left q) format s q 0 rest end n) e h)

@@ -149,6 +149,7 @@ fn take_samples<M: ByteStore>(
     requires good { IsGood settings.now group.now }
     requires few { first ≤ 8 * most_records }
     ensures takes { IfOk result (λ frames. Told (M.bytes movie.old) (λ file. (ps : Pictures) → TakesSamples (given file (samples reader.now.tables) ps) settings.now group.now first frames.items)) }
+    ensures number { IfOk result (λ frames. length frames.items ≡ frames_in settings.now group.now) }
     ensures stops { IfErr result (λ end. Told (M.bytes movie.old) (λ file. (ps : Pictures) → AnswersEnd end (SamplesEnd (given file (samples reader.now.tables) ps) settings.now group.now first))) }
     ensures end { IfErr result IsReadersEnd }
     ensures bytes { M.bytes movie.new ≡ M.bytes movie.old }
