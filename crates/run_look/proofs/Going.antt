@@ -1,6 +1,9 @@
 -- Checking the records of a proof with a movie and pictures, one after the other.
 use Rattle.std.proofs.Common.{◌≡◌, ℕ, suc, ◌+◌, ◌-◌, ◌≤◌, inl, inr, Option, None, Some, Result, Ok, Err, refl, sym, ap, subst, arith, ◌<◌, ◌∙◌}
-use Rattle.pw_outside.specs.Reading.{Fault, Rest}
+use Rattle.std.specs.Prelude.{List, IsSome}
+use Rattle.pw_outside.specs.Reading.{Fault, Rest, Told, bytes_of}
+use Rattle.pic_y4m.specs.Frames.{Pictures}
+use Rattle.qt_tables.specs.declared.runs.Sample.{Sample}
 use Rattle.pr_geom.specs.declared.layout.Layout.{Layout}
 use Rattle.pr_geom.specs.Layout.{IsLayoutOf}
 use Rattle.rate_table.specs.declared.fault.ProofKind.{ProofKind}
@@ -11,8 +14,17 @@ use Rattle.run_look.specs.declared.end.LookEnd.{LookEnd}
 use Rattle.run_look.specs.declared.end.LookEnd.TheVariants as ends
 use Rattle.run_look.specs.Ends.{AnswersEnd}
 use Rattle.run_look.specs.Checking.{frames_in, Step, ended, went, RecordIs, NextIs, RecordsAre, EndsThere, NextGood, Counts}
-use Rattle.run_look.specs.Agreeing.{Given, AreBeside, nothing_further, RecordsWith}
+use Rattle.run_look.specs.Agreeing.{Given, given, AreBeside, AreLeft, TakesGroup, nothing_further, RecordsWith}
 use Rattle.run_look.proofs.Alone.{answers_end, marks_left, suc_left, stops}
+
+-- what was answered beside a record, where the code's numbers are said to be these
+pub group_here : (b b' : Option (List ℕ)) (ss : List Sample) (o : Option (List ℕ)) (l : Layout) (s s' : Settings) (r : Record) (frames : ℕ) (result : Result (Unit {0}) LookEnd) (left left' : Pictures)
+    → b' ≡ b → s' ≡ s → Told b' (λ file. IsSome o → (ps : Pictures) → AreLeft (given file ss ps) frames left → TakesGroup (given file ss ps) l s' r frames result left')
+    → IsSome b → IsSome o → (ps : Pictures) → AreLeft (given (bytes_of b) ss ps) frames left → TakesGroup (given (bytes_of b) ss ps) l s r frames result left'
+group_here b b' ss o l s s' r frames result left left' eb es takes =
+    let a : Told b (λ file. IsSome o → (ps : Pictures) → AreLeft (given file ss ps) frames left → TakesGroup (given file ss ps) l s' r frames result left') =
+    subst (λ x. Told x (λ file. IsSome o → (ps : Pictures) → AreLeft (given file ss ps) frames left → TakesGroup (given file ss ps) l s' r frames result left')) eb takes in
+    subst (λ x. Told b (λ file. IsSome o → (ps : Pictures) → AreLeft (given file ss ps) frames left → TakesGroup (given file ss ps) l x r frames result left')) es a
 
 module _ (g : Given) (l : Layout) where
   -- the records from here on, where at most so many are read

@@ -11,3 +11,4 @@ pub mod Placed
 pub mod OnceWith
 pub mod Agreed
 pub mod Going
+pub mod Heading

@@ -1,6 +1,6 @@
 //! Checking a proof with the movie and the pictures that it is of.
 
-ghost use Rattle.std.specs.Prelude.{◌≡◌, ◌+◌, ◌*◌, ◌<◌, ◌≤◌, ◌^◌, ℕ, Some, IsSome, OnOk, OnErr, IfOk, IfErr, IfSome, IfNone, false, length, slice_get, take, drop};
+ghost use Rattle.std.specs.Prelude.{◌≡◌, ◌+◌, ◌*◌, ◌<◌, ◌≤◌, ◌^◌, ℕ, Some, IsSome, IsTrue, ◌↔◌, OnOk, OnErr, IfOk, IfErr, IfSome, IfNone, false, length, slice_get, take, drop};
 ghost use Rattle.std.specs.Bool.{OnTrue};
 ghost use Rattle.std.specs.Io.KnownBytes.{IsAtEnd};
 ghost use Rattle.pw_outside.specs.Ports.{CountsFault, Rose};
@@ -9,6 +9,7 @@ ghost use Rattle.pw_outside.specs.Writing.{sink_state};
 ghost use Rattle.pic_raw.specs.Any.{IsReader, head_of, left_of, place_of};
 ghost use Rattle.pic_raw.specs.Raw.{IsPicture};
 ghost use Rattle.pic_y4m.specs.Frames.{Pictures};
+ghost use Rattle.pic_y4m.specs.HeadLine.{IsHead};
 ghost use Rattle.pr_frame.specs.Reading.{frame_fault};
 ghost use Rattle.pr_frame.specs.Stands.{FrameStands};
 ghost use Rattle.pr_geom.specs.Layout.{IsLayoutOf};
@@ -23,11 +24,12 @@ ghost use Rattle.run_look.specs.Ends.{is_done, is_read_fault, is_write_fault, is
 ghost use Rattle.run_look.specs.Listing.{Extends};
 ghost use Rattle.run_look.specs.Checking.{frames_in, PrintsCheck, CompletesCheck, Counts};
 ghost use Rattle.run_look.specs.Reproofing.{CountsFaults};
-ghost use Rattle.run_look.specs.Agreeing.{Given, given, left_by, pictures_head, ReadsSample, HasFrame, TakesSample, TakesSamples, SamplesEnd, TakesPicture, TakesPictures, TakesGroup, TakesEnd, GivesPicture, AreLeft, AreFrames, RecordsWith, ChecksOn, Checks, CountsReads};
+ghost use Rattle.run_look.specs.Agreeing.{Given, given, left_by, pictures_head, form_of, ReadsSample, HasFrame, TakesSample, TakesSamples, SamplesEnd, TakesPicture, TakesPictures, TakesGroup, TakesEnd, GivesPicture, AreLeft, AreFrames, RecordsWith, ChecksOn, Checks, CountsReads};
 
 use crate::checking::{frames_of, next_good, print_records};
 use crate::comparing::{is_as_said, is_picture_of};
 use crate::end::LookEnd;
+use crate::laws::agreeing_is_done_once;
 use pic_raw::{AnyReader, next_is_first};
 use pic_y4m::{Head, PictureFault};
 use pr_frame::{CodedFrame, one_frame, read_frame};
@@ -330,13 +332,13 @@ fn take_end<S: ByteSource>(
             clause: 9,
         });
     }
-    match next_picture(alloc, shown, pictures)? {
-        Some(_) => Err(LookEnd::Refused {
-            frame: frames,
-            clause: 10,
-        }),
-        None => Ok(()),
-    }
+    let Some(_) = next_picture(alloc, shown, pictures)? else {
+        return Ok(());
+    };
+    Err(LookEnd::Refused {
+        frame: frames,
+        clause: 10,
+    })
 }
 
 /// Checks all records with their samples and pictures; the answer is how many there are.
@@ -395,6 +397,26 @@ fn head_for(settings: &Settings) -> Head
     }
 }
 
+/// The form of the pictures, where it is the settings that say it.
+fn form_for(settings: &Settings) -> Option<Head>
+    requires settings { IsSettings settings.now }
+    ensures form { result ≡ form_of settings.now }
+    ensures limits { IfSome result IsHead }
+{
+    if settings.form == 1 {
+        Some(head_for(settings))
+    } else {
+        None
+    }
+}
+
+/// Whether a head of pictures has all fields of these settings.
+fn has_head(settings: &Settings, head: &Head) -> bool
+    ensures { IsTrue result ↔ (head.now ≡ pictures_head settings.now) }
+{
+    *head == head_for(settings)
+}
+
 /// Reads the movie's tables and the head of the pictures, and checks all records with them; the answer is how many there are.
 ///
 /// The error is how checking ends.
@@ -430,15 +452,14 @@ fn check_with<S: ByteSource, M: ByteStore>(
     if settings.form == 2 {
         return Err(refused);
     }
-    let head = head_for(&settings);
-    let form = if settings.form == 1 { Some(head) } else { None };
+    let form = form_for(&settings);
     let mut shown = match AnyReader::start(pictures, form) {
         Ok(shown) => shown,
         Err(PictureFault::Bad { kind, place }) => return Err(LookEnd::BadPictures { kind, place }),
         Err(PictureFault::Failed) => return Err(LookEnd::ReadFault),
         Err(PictureFault::NoMemory) => return Err(LookEnd::NoMemory),
     };
-    if shown.head() != head {
+    if !has_head(&settings, &shown.head()) {
         return Err(refused);
     }
     match Layout::new(
@@ -510,6 +531,7 @@ pub fn check_run<S: ByteSource, M: ByteStore, K: ByteSink>(
     ensures read { CountsReads (S.faults proof.old) (S.faults proof.new) (M.faults movie.old) (M.faults movie.new) (S.faults pictures.old) (S.faults pictures.new) (is_read_fault result) }
     ensures write { CountsFault (K.faults text.old) (K.faults text.new) (is_write_fault result) }
 {
+    agreeing_is_done_once();
     match check_given(alloc, proof, pictures, movie) {
         Ok(records) => print_records(alloc, records, " yes\n", text),
         Err(end) => end,
