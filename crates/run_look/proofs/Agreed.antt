@@ -1,7 +1,7 @@
 -- Samples and pictures beside the records, one after the other.
 use Rattle.std.proofs.Common.{◌≡◌, refl, ℕ, zero, suc, ◌+◌, ◌<◌, ◌≤◌, inl, inr, List, [], ◌∷◌, ◌++◌, length, drop, get_or, Option, None, Some, Result, Ok, Err, ap, sym, subst, ◌∙◌, arith}
-use Rattle.std.specs.Prelude.{◌⊎◌, slice_get, IsSome}
-use Rattle.pw_outside.specs.Reading.{Fault, Rest, Read, Told, bytes_of, rest_of, bad}
+use Rattle.std.specs.Prelude.{slice_get, IsSome}
+use Rattle.pw_outside.specs.Reading.{Fault, Rest, Told, bytes_of, rest_of}
 use Rattle.pw_planes.specs.declared.picture.Picture.{Picture}
 use Rattle.pic_y4m.specs.declared.fault.PictureKind.{PictureKind}
 use Rattle.pic_y4m.specs.declared.fault.PictureFault.{PictureFault}
@@ -80,8 +80,10 @@ gives_next law r r' rest left g n o is after e are = by o after (sym (ap (λ x. 
     few : (r : AnyReader) → IsReader r → frames_of r ≤ MAX_FRAMES
     few (Y4m r) is = is.few
     few (Raw r) is = is.few
+
     others : Rest → Pictures
     others rest = left_of (advanced r rest.place) rest
+
     by : (o : Option Picture) → IsAfter {E = PictureFault} r r' (Ok o) → AreLeft g n (first_and (Ok (o, rest_of (place_of r') left)) others) → GivesPicture g n (Ok o) (left_by r' left)
     by None after here = left_none g n (rest_of (place_of r') left) others here
     by (Some p) after here =

@@ -1,19 +1,18 @@
 -- Checking the records of a proof with a movie and pictures, one after the other.
-use Rattle.std.proofs.Common.{◌≡◌, ℕ, suc, ◌+◌, ◌-◌, ◌≤◌, inl, inr, Option, None, Some, Result, Ok, Err, refl, sym, ap, subst, arith, ◌<◌, ◌∙◌}
+use Rattle.std.proofs.Common.{◌≡◌, ℕ, ◌+◌, ◌-◌, ◌≤◌, inr, Option, None, Some, Result, Ok, Err, refl, sym, ap, subst, arith, ◌∙◌}
 use Rattle.std.specs.Prelude.{List, IsSome}
-use Rattle.pw_outside.specs.Reading.{Fault, Rest, Told, bytes_of}
+use Rattle.pw_outside.specs.Reading.{Rest, Told, bytes_of}
 use Rattle.pic_y4m.specs.Frames.{Pictures}
 use Rattle.qt_tables.specs.declared.runs.Sample.{Sample}
 use Rattle.pr_geom.specs.declared.layout.Layout.{Layout}
 use Rattle.pr_geom.specs.Layout.{IsLayoutOf}
-use Rattle.rate_table.specs.declared.fault.ProofKind.{ProofKind}
 use Rattle.rate_cert.specs.declared.settings.Settings.{Settings}
 use Rattle.rate_cert.specs.Records.{Record, IsGood}
 use Rattle.rate_cert.specs.Files.{Progress, no_records, after, next_at, most_records}
 use Rattle.run_look.specs.declared.end.LookEnd.{LookEnd}
 use Rattle.run_look.specs.declared.end.LookEnd.TheVariants as ends
 use Rattle.run_look.specs.Ends.{AnswersEnd}
-use Rattle.run_look.specs.Checking.{frames_in, Step, ended, went, RecordIs, NextIs, RecordsAre, EndsThere, NextGood, Counts}
+use Rattle.run_look.specs.Checking.{frames_in, ended, went, RecordsAre, EndsThere, NextGood, Counts}
 use Rattle.run_look.specs.Agreeing.{Given, given, AreBeside, AreLeft, TakesGroup, nothing_further, RecordsWith}
 use Rattle.run_look.proofs.Alone.{answers_end, marks_left, suc_left, stops}
 

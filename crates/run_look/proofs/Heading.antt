@@ -1,5 +1,5 @@
 -- A movie and pictures in front of the records.
-use Rattle.std.proofs.Common.{◌≡◌, ℕ, inl, inr, List, Option, Result, Ok, Err, refl, sym, subst, ap, ◌∙◌, ◌==◌, Bool, false, ⊎_elim}
+use Rattle.std.proofs.Common.{◌≡◌, ℕ, inl, inr, List, Option, Result, Ok, Err, refl, sym, subst, ◌==◌, false, ⊎_elim}
 use Rattle.std.specs.Prelude.{◌⊎◌}
 use Rattle.std.specs.Bool.{OnTrue}
 use Rattle.pw_outside.specs.Reading.{Fault, Rest, bind}

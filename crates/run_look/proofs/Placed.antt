@@ -1,5 +1,5 @@
 -- Samples in the file, or outside it.
-use Rattle.std.proofs.Common.{rules, ◌≡◌, refl, ℕ, ◌+◌, ◌-◌, ◌≤◌, List, take, drop, arith, subst, sym, length, Bool, true, false}
+use Rattle.std.proofs.Common.{rules, ◌≡◌, refl, ℕ, ◌+◌, ◌-◌, ◌≤◌, List, take, drop, arith, subst, length, Bool, true, false}
 use Rattle.std.proofs.lemmas.Bool.Decides.{nat_tests}
 use Rattle.std.specs.Prelude.{Option, Some, None, Result, Ok, Err, IfSome, IsSome, nat_lt}
 use Rattle.pw_outside.specs.Reading.{Told, Fault, refuse, bad, bind}

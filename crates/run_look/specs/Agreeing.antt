@@ -1,6 +1,6 @@
 -- When a movie and pictures agree with the records of a proof, and how checking a proof with both ends. Our own definitions, over frames
 -- as SMPTE RDD 36 codes them. Everything stands in the order in which it is asked.
-use Rattle.std.specs.Prelude.{◌≡◌, ℕ, suc, ◌+◌, ◌*◌, ◌/◌, ◌<◌, ◌≤◌, ◌⊎◌, ◌==◌, Bool, true, false, nat_lt, if◌then◌else◌, List, map, take, drop, length, slice_get, get_or, Option, None, Some, Result, Ok, Err}
+use Rattle.std.specs.Prelude.{◌≡◌, ℕ, suc, ◌+◌, ◌*◌, ◌/◌, ◌<◌, ◌≤◌, ◌⊎◌, ◌==◌, Bool, true, false, if◌then◌else◌, List, map, take, drop, length, slice_get, get_or, Option, None, Some, Result, Ok, Err}
 use Rattle.std.specs.Bool.{OnTrue, OnFalse}
 use Rattle.std.specs.List.{All, flat_map}
 use Rattle.pw_outside.specs.Reading.{Fault, Rest, rest_of, bad}

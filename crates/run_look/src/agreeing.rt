@@ -269,7 +269,9 @@ fn take_pictures<S: ByteSource>(
 {
     for k in 0..frames_of(settings, group) {
         let frame = &frames[k as usize];
-        take_picture(alloc, settings, layout, group, first, k, frame, reader, pictures)?;
+        take_picture(
+            alloc, settings, layout, group, first, k, frame, reader, pictures,
+        )?;
     }
     Ok(())
 }
@@ -305,7 +307,9 @@ fn take_group<S: ByteSource, M: ByteStore>(
     ensures cause { CountsFaults (M.faults movie.old) (M.faults movie.new) (S.faults pictures.old) (S.faults pictures.new) (is_stopped_by_source result) }
 {
     let frames = take_samples(alloc, settings, group, first, reader, movie)?;
-    take_pictures(alloc, settings, layout, group, first, &frames, shown, pictures)
+    take_pictures(
+        alloc, settings, layout, group, first, &frames, shown, pictures,
+    )
 }
 
 /// Asks whether there is no further sample, and then no further picture, behind so many frames.
@@ -373,7 +377,9 @@ fn check_groups<S: ByteSource, M: ByteStore>(
     let mut count: u32 = 0;
     let mut frames: u32 = 0;
     while let Some(group) = next_good(alloc, records, proof, frames)? {
-        take_group(alloc, &settings, layout, &group, frames, reader, movie, shown, pictures)?;
+        take_group(
+            alloc, &settings, layout, &group, frames, reader, movie, shown, pictures,
+        )?;
         count += 1;
         frames += frames_of(&settings, &group);
     }

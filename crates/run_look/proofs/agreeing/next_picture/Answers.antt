@@ -1,4 +1,4 @@
-use Rattle.std.proofs.Common.{◌≡◌, subst, sym, Err, Ok}
+use Rattle.std.proofs.Common.{◌≡◌, subst, Err}
 use Rattle.std.specs.Prelude.{IfSome}
 use Rattle.pw_outside.specs.Reading.{rest_of}
 use Rattle.pic_y4m.specs.Faults.{told_fault}

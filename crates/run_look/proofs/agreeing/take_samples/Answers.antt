@@ -1,8 +1,7 @@
-use Rattle.std.proofs.Common.{rules, ◌≡◌, [], ◌∷◌, ◌++◌, ◌<◌, length, arith, subst, ap, sym, ◌∙◌}
+use Rattle.std.proofs.Common.{rules, ◌≡◌, [], ◌∷◌, ◌++◌, ◌<◌, arith}
 use Rattle.std.proofs.lemmas.Result.{err_from_is_err_and}
 use Rattle.qt_tables.specs.Samples.{samples}
 use Rattle.run_look.specs.Checking.{frames_in}
-use Rattle.run_look.specs.Agreeing.{given, SamplesAgree}
 use Rattle.run_look.proofs.Agreed.{samples_stop, samples_further, frames_further}
 use Rattle.run_look.proofs.agreeing.take_samples.Goals as goal
 
