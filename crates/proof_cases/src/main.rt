@@ -19,6 +19,7 @@ use std::io;
 fn answer(rt: &HostRuntime, line: &str) -> io::Result<String> {
     let (form, rest) = line.split_once(' ').unwrap_or((line, ""));
     match form {
+        "given" => runs::given_told(rt, rest),
         "fronts" => runs::fronts_told(rt, rest),
         "failing" => runs::failing_told(rt, rest),
         _ => runs::told(rt, line),

@@ -3,8 +3,8 @@
 ghost use Rattle.std.specs.Prelude.{◌≤◌};
 
 use crate::hex::{bytes_of, word_of};
-use pw_outside::{MemSink, MemSource};
-use run_look::{LookEnd, check_proof_run, reproof_run};
+use pw_outside::{MemSink, MemSource, MemStore};
+use run_look::{LookEnd, check_proof_run, check_run, reproof_run};
 use std::io;
 
 /// The bytes that a call of a port moves in `fronts`.
@@ -90,7 +90,9 @@ fn status_of(rt: &HostRuntime, end: LookEnd) -> io::Result<String> {
         LookEnd::Refused { frame, clause } => {
             Ok(format!(in alloc; "11 frame {frame}: refused by clause {clause}")?)
         }
-        _ => Ok("another".to_string(alloc)?),
+        LookEnd::BadPictures { kind, place } => Ok(format!(in alloc; "5 pictures: {kind:?} at {place}")?),
+        LookEnd::BadMovie { kind, place } => Ok(format!(in alloc; "8 movie: {kind:?} at {place}")?),
+        LookEnd::BadFrame { sample, kind, place } => Ok(format!(in alloc; "9 sample {sample}: {kind:?} at {place}")?),
     }
 }
 
@@ -222,4 +224,28 @@ pub(crate) fn failing_told(rt: &HostRuntime, case: &str) -> io::Result<String> {
     }
     told.push_str(&status_of(rt, whole.end)?)?;
     Ok(told)
+}
+
+/// The answer over a proof with pictures and a movie, in steps of so many bytes.
+fn given_answer(rt: &HostRuntime, proof: &[u8], shown: &[u8], file: &[u8], step: usize) -> io::Result<String>
+    requires { 1 ≤ step }
+{
+    let alloc = rt.alloc();
+    let mut source = MemSource::new(proof.to_vec(alloc)?, step, Vec::new(alloc));
+    let mut pictures = MemSource::new(shown.to_vec(alloc)?, step, Vec::new(alloc));
+    let mut movie = MemStore::new(file.to_vec(alloc)?, step, Vec::new(alloc));
+    let mut text = sink_of(rt, step, None)?;
+    let end = check_run(alloc, &mut source, &mut pictures, &mut movie, &mut text);
+    let status = status_of(rt, end)?;
+    let line = text_line(rt, &text.bytes().to_vec(alloc)?)?;
+    Ok(format!(in alloc; "{status} | {line} | -")?)
+}
+
+pub(crate) fn given_told(rt: &HostRuntime, case: &str) -> io::Result<String> {
+    let (proof, rest) = case.split_once(' ').unwrap_or((case, "- -"));
+    let (shown, file) = rest.split_once(' ').unwrap_or((rest, "-"));
+    let proof = bytes_of(rt, proof)?;
+    let shown = bytes_of(rt, shown)?;
+    let file = bytes_of(rt, file)?;
+    given_answer(rt, &proof, &shown, &file, MANY)
 }

@@ -52,7 +52,7 @@ unfolding RecordsAre
 alone-end format s p frames rest behind le e =
     subst (λ (k : ℕ). AloneFrom k format s p frames rest ends.Done p.count) (sym (suc_left p le)) (rw e (refl, refl))
 
-stops : {X : Type 0} (s : Settings) (frames : ℕ) (next : Result (Option Record × Rest) (Fault ProofKind)) (end : LookEnd) (Whole : Type 0) (Beside : Record → Step X → Type 0) (Behind : Record → Rest → X → Type 0)
+pub stops : {X : Type 0} (s : Settings) (frames : ℕ) (next : Result (Option Record × Rest) (Fault ProofKind)) (end : LookEnd) (Whole : Type 0) (Beside : Record → Step X → Type 0) (Behind : Record → Rest → X → Type 0)
     → EndsThere s frames next end → NextIs end Whole (λ r behind. RecordIs s frames end r (Beside r) (Behind r behind)) next
 stops s frames (Err f) end Whole Beside Behind h = h
 stops s frames (Ok (None, behind)) end Whole Beside Behind h = absurd h

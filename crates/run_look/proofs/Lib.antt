@@ -9,3 +9,6 @@ pub mod Alike
 pub mod Parts
 pub mod Placed
 pub mod OnceWith
+pub mod Agreed
+pub mod Going
+pub mod Heading

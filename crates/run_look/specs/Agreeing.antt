@@ -1,13 +1,16 @@
 -- When a movie and pictures agree with the records of a proof, and how checking a proof with both ends. Our own definitions, over frames
 -- as SMPTE RDD 36 codes them. Everything stands in the order in which it is asked.
-use Rattle.std.specs.Prelude.{◌≡◌, ℕ, suc, ◌+◌, ◌*◌, ◌/◌, ◌<◌, ◌≤◌, ◌⊎◌, ◌==◌, Bool, true, false, if◌then◌else◌, List, map, take, drop, length, slice_get, Option, None, Some, Result, Ok, Err}
+use Rattle.std.specs.Prelude.{◌≡◌, ℕ, suc, ◌+◌, ◌*◌, ◌/◌, ◌<◌, ◌≤◌, ◌⊎◌, ◌==◌, Bool, true, false, if◌then◌else◌, List, map, take, drop, length, slice_get, get_or, Option, None, Some, Result, Ok, Err}
+use Rattle.std.specs.Bool.{OnTrue, OnFalse}
 use Rattle.std.specs.List.{All, flat_map}
-use Rattle.pw_outside.specs.Reading.{Fault, Rest, bad}
+use Rattle.pw_outside.specs.Reading.{Fault, Rest, rest_of, bad}
+use Rattle.pw_outside.specs.Ports.{Rose}
 use Rattle.pw_planes.specs.declared.picture.Picture.{Picture}
 use Rattle.pic_y4m.specs.declared.fault.PictureKind.{PictureKind}
 use Rattle.pic_y4m.specs.declared.head.Head.{Head}
 use Rattle.pic_y4m.specs.Frames.{Pictures}
-use Rattle.pic_raw.specs.Any.{pictures_of}
+use Rattle.pic_raw.specs.declared.any.AnyReader.{AnyReader}
+use Rattle.pic_raw.specs.Any.{pictures_of, left_of, place_of}
 use Rattle.pr_geom.specs.declared.layout.Layout.{Layout}
 use Rattle.pr_geom.specs.Layout.{IsLayoutOf}
 use Rattle.pr_quant.specs.declared.weights.Weights.{Weights}
@@ -34,6 +37,7 @@ use Rattle.rate_cert.specs.Head.{head_at}
 use Rattle.rate_cert.specs.Files.{no_records, most_records}
 use Rattle.run_look.specs.declared.end.LookEnd.{LookEnd}
 use Rattle.run_look.specs.declared.end.LookEnd.TheVariants as ends
+use Rattle.run_look.specs.Ends.{AnswersEnd}
 use Rattle.run_look.specs.Checking.{frames_in, Step, ended, went, RecordsAre, HeadIs}
 
 -- ---- what a proof is checked with
@@ -245,6 +249,17 @@ Checks bytes file shown end records = HeadIs end (λ head rest. ChecksOn file sh
 abbrev pub DoneOnce : Type 0
 DoneOnce = (bytes file shown : List ℕ) (end : LookEnd) (m n : ℕ) → Checks bytes file shown end m → Checks bytes file shown ends.Done n → end ≡ ends.Done
 
+-- ---- what a run does
+
+-- The counts of faults of three ports that are read never fall. One of them has risen where reading failed, and else all are as they
+-- were.
+pub record CountsReads (before now before' now' before'' now'' : ℕ) (failed : Bool) : Type 0 where
+  pub later : before ≤ now
+  pub later' : before' ≤ now'
+  pub later'' : before'' ≤ now''
+  pub rose : OnTrue failed (Rose before now ⊎ (Rose before' now' ⊎ Rose before'' now''))
+  pub kept : OnFalse failed ((now ≡ before) × (now' ≡ before') × (now'' ≡ before''))
+
 -- ---- the parts of a run
 
 -- headers with the same fields
@@ -256,3 +271,75 @@ SameCodes a b = (a.aspect ≡ b.aspect) × (a.rate ≡ b.rate) × (a.primaries �
 
 abbrev pub SameWeights : FrameHeader → FrameHeader → Type 0
 SameWeights a b = (a.luma ≡ b.luma) × (a.chroma_weights ≡ b.chroma_weights)
+
+-- What was read of the sample of a number: the frame that it stands for, or its fault.
+abbrev pub ReadsSample : List ℕ → Sample → ℕ → Result CodedFrame LookEnd → Type 0
+ReadsSample file x n (Ok f) = IsSampleOf file x f
+ReadsSample file x n (Err (ends.BadMovie kind place)) = span_in file x ≡ bad kind place
+ReadsSample file x n (Err (ends.BadFrame number kind place)) =
+    (number ≡ n) × (x.at + x.size ≤ length file) × (frame_fault (sample_bytes file x) ≡ Some (record { kind = kind; place = place }))
+ReadsSample file x n (Err ends.NoMemory) = Unit {0}
+ReadsSample file x n (Err ends.ReadFault) = Unit {0}
+ReadsSample file x n (Err _) = ⊥
+
+-- the frame of a sample of this number
+abbrev pub HasFrame : Given → ℕ → CodedFrame → Type 0
+HasFrame g number f = (x : Sample) × (sample_in g number ≡ Some x) × IsSampleOf g.file x f
+
+-- what was answered of the sample of frame k
+abbrev pub TakesSample : Given → Settings → Record → (first k : ℕ) → Result CodedFrame LookEnd → Type 0
+TakesSample g s r first k (Ok f) = SampleAgrees g s r first k × HasFrame g (first + k) f
+TakesSample g s r first k (Err end) = AnswersEnd end (SampleEnds g s r first k)
+
+-- these are the frames of the samples from a number on
+abbrev pub AreFrames : Given → ℕ → List CodedFrame → Type 0
+AreFrames g first fs = (k : ℕ) (d : CodedFrame) → k < length fs → HasFrame g (first + k) (get_or fs k d)
+
+-- how checking ends at one of the samples of a record
+abbrev pub SamplesEnd : Given → Settings → Record → ℕ → LookEnd → Type 0
+SamplesEnd g s r first end = (k : ℕ) × (k < frames_in s r) × SamplesAgree g s r first k × SampleEnds g s r first k end
+
+-- all samples of a record agree, and stand for these frames
+abbrev pub TakesSamples : Given → Settings → Record → ℕ → List CodedFrame → Type 0
+TakesSamples g s r first fs = SamplesAgree g s r first (frames_in s r) × AreFrames g first fs × (length fs ≡ frames_in s r)
+
+-- what a reader has left of a source
+abbrev pub left_by : AnyReader → Option (List ℕ) → Pictures
+left_by r left = left_of r (rest_of (place_of r) left)
+
+-- the pictures from a number on are what is left
+abbrev pub AreLeft : Given → ℕ → Pictures → Type 0
+AreLeft g n left = left ≡ record { pictures = drop n g.pictures.pictures; fault = g.pictures.fault }
+
+-- what was answered of the picture of a number, and what is then left
+abbrev pub GivesPicture : Given → ℕ → Result (Option Picture) LookEnd → Pictures → Type 0
+GivesPicture g n (Ok (Some p)) left = (picture_in g n ≡ Ok (Some p)) × AreLeft g (n + 1) left
+GivesPicture g n (Ok None) left = picture_in g n ≡ Ok None
+GivesPicture g n (Err (ends.BadPictures kind place)) left = picture_in g n ≡ bad kind place
+GivesPicture g n (Err ends.NoMemory) left = Unit {0}
+GivesPicture g n (Err ends.ReadFault) left = Unit {0}
+GivesPicture g n (Err _) left = ⊥
+
+-- what was answered of the picture of frame k, and what is then left
+abbrev pub TakesPicture : Given → Layout → Settings → Record → (first k : ℕ) → Result (Unit {0}) LookEnd → Pictures → Type 0
+TakesPicture g l s r first k (Ok _) left = PictureAgrees g l s r first k × AreLeft g (first + k + 1) left
+TakesPicture g l s r first k (Err end) left = AnswersEnd end (PictureEnds g l s r first k)
+
+-- how checking ends at one of the pictures of a record
+abbrev pub PicturesEnd : Given → Layout → Settings → Record → ℕ → LookEnd → Type 0
+PicturesEnd g l s r first end = (k : ℕ) × (k < frames_in s r) × PicturesAgree g l s r first k × PictureEnds g l s r first k end
+
+-- what was answered of the pictures of a record, and what is then left
+abbrev pub TakesPictures : Given → Layout → Settings → Record → ℕ → Result (Unit {0}) LookEnd → Pictures → Type 0
+TakesPictures g l s r first (Ok _) left = PicturesAgree g l s r first (frames_in s r) × AreLeft g (first + frames_in s r) left
+TakesPictures g l s r first (Err end) left = AnswersEnd end (PicturesEnd g l s r first)
+
+-- what was answered of a record's samples and pictures, and what is then left
+abbrev pub TakesGroup : Given → Layout → Settings → Record → ℕ → Result (Unit {0}) LookEnd → Pictures → Type 0
+TakesGroup g l s r first (Ok _) left = AreBeside g l s r first tt (went tt) × AreLeft g (first + frames_in s r) left
+TakesGroup g l s r first (Err end) left = AnswersEnd end (λ e. AreBeside g l s r first tt (ended e))
+
+-- what was answered behind the records
+abbrev pub TakesEnd : Given → ℕ → Result (Unit {0}) LookEnd → Type 0
+TakesEnd g frames (Ok _) = nothing_further g frames tt ≡ ends.Done
+TakesEnd g frames (Err end) = AnswersEnd end (λ e. e ≡ nothing_further g frames tt)

@@ -1,6 +1,7 @@
 //! The commands that look at files: listing a movie, checking a proof, and writing one again.
 #![tactic(auto)]
 
+mod agreeing;
 mod checking;
 mod coded;
 mod comparing;
@@ -12,6 +13,7 @@ mod reproof;
 #[cfg(test)]
 mod tests;
 
+pub use agreeing::check_run;
 pub use checking::check_proof_run;
 pub use end::LookEnd;
 pub use laws::{agreeing_is_done_once, checking_ends_once};
