@@ -90,9 +90,15 @@ fn status_of(rt: &HostRuntime, end: LookEnd) -> io::Result<String> {
         LookEnd::Refused { frame, clause } => {
             Ok(format!(in alloc; "11 frame {frame}: refused by clause {clause}")?)
         }
-        LookEnd::BadPictures { kind, place } => Ok(format!(in alloc; "5 pictures: {kind:?} at {place}")?),
+        LookEnd::BadPictures { kind, place } => Ok(format!(in alloc;
+            "5 pictures: {kind:?} at {place}"
+        )?),
         LookEnd::BadMovie { kind, place } => Ok(format!(in alloc; "8 movie: {kind:?} at {place}")?),
-        LookEnd::BadFrame { sample, kind, place } => Ok(format!(in alloc; "9 sample {sample}: {kind:?} at {place}")?),
+        LookEnd::BadFrame {
+            sample,
+            kind,
+            place,
+        } => Ok(format!(in alloc; "9 sample {sample}: {kind:?} at {place}")?),
     }
 }
 
@@ -227,7 +233,13 @@ pub(crate) fn failing_told(rt: &HostRuntime, case: &str) -> io::Result<String> {
 }
 
 /// The answer over a proof with pictures and a movie, in steps of so many bytes.
-fn given_answer(rt: &HostRuntime, proof: &[u8], shown: &[u8], file: &[u8], step: usize) -> io::Result<String>
+fn given_answer(
+    rt: &HostRuntime,
+    proof: &[u8],
+    shown: &[u8],
+    file: &[u8],
+    step: usize,
+) -> io::Result<String>
     requires { 1 ≤ step }
 {
     let alloc = rt.alloc();
@@ -241,11 +253,19 @@ fn given_answer(rt: &HostRuntime, proof: &[u8], shown: &[u8], file: &[u8], step:
     Ok(format!(in alloc; "{status} | {line} | -")?)
 }
 
+/// The answer over a proof with pictures and a movie, whatever number of bytes a call moves.
 pub(crate) fn given_told(rt: &HostRuntime, case: &str) -> io::Result<String> {
     let (proof, rest) = case.split_once(' ').unwrap_or((case, "- -"));
     let (shown, file) = rest.split_once(' ').unwrap_or((rest, "-"));
     let proof = bytes_of(rt, proof)?;
     let shown = bytes_of(rt, shown)?;
     let file = bytes_of(rt, file)?;
-    given_answer(rt, &proof, &shown, &file, MANY)
+    let answer = given_answer(rt, &proof, &shown, &file, MANY)?;
+    for step in [1, 3] {
+        let other = given_answer(rt, &proof, &shown, &file, step)?;
+        if other != answer {
+            return Ok(format!(in rt.alloc(); "{answer}, but in steps of {step} {other}")?);
+        }
+    }
+    Ok(answer)
 }
