@@ -11,6 +11,7 @@ pub mod Fronts
 pub mod Grown
 pub mod Exists
 pub mod Merges
+pub mod Passings
 pub mod Curved
 pub mod Ran
 pub mod Onward

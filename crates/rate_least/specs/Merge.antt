@@ -45,3 +45,12 @@ pub record Merging (b : Bound) (x : Entry) (done left layer_done layer_left out 
 -- what a merge makes of a layer and the next slice
 abbrev pub IsNext : Bound → List WidePair → List Entry → List WidePair → Type 0
 IsNext b layer slice next = IsFront (λ p. Joins layer slice p × Passes b p) next
+
+-- A pair stays within the bound.
+abbrev pub IsWithin : Bound → WidePair → Type 0
+IsWithin b p = weight b.multiplier p + b.floor ≤ b.most
+
+-- some of a slice's entries, with each that a pair of the layer stays within the bound with
+pub record Passing (b : Bound) (layer : List WidePair) (slice few : List Entry) : Type 0 where
+  pub only : (x : Entry) → Contains few x → Contains slice x
+  pub all : (x : Entry) (p : WidePair) → Contains slice x → Contains layer p → IsWithin b (joined p x) → Contains few x

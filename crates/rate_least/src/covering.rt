@@ -69,7 +69,7 @@ fn covers_entry(bound: &Bound, layer: &[WidePair], entry: Entry, next: &[WidePai
 }
 
 /// A weight that no pair of a layer is below.
-fn least_weight(layer: &[WidePair], multiplier: u64) -> u128
+pub(crate) fn least_weight(layer: &[WidePair], multiplier: u64) -> u128
     requires { All IsNarrow layer.now }
     ensures below { IsBelowWeights multiplier layer.now result }
     ensures small { result ≤ 2 ^ 99 }

@@ -6,15 +6,20 @@ ghost use Rattle.rate_least.specs.declared.outcome.WidePair.{WidePair};
 ghost use Rattle.rate_least.specs.Layers.{IsFront, pairs_in};
 ghost use Rattle.rate_least.specs.Held.{AreHeld};
 ghost use Rattle.rate_least.specs.Covering.{IsSmall};
-ghost use Rattle.rate_least.specs.Merge.{Passes};
+ghost use Rattle.rate_least.specs.Merge.{Passes, IsNext};
+ghost use Rattle.rate_least.specs.Pairs.{RisesAndFalls};
+ghost use Rattle.rate_least.specs.Records.{IsNarrow};
+ghost use Rattle.rate_table.specs.Table.{IsEntry};
+ghost use Rattle.std.specs.List.{All};
 
 use crate::bound::Bound;
 use crate::covering::counts;
 use crate::errors::{least_error_of, least_errors};
 use crate::merge::merge_all;
 use crate::outcome::WidePair;
+use crate::passing::passing;
 use rate_layers::BestFault;
-use rate_table::{FrameTable, least_cost, least_costs};
+use rate_table::{Entry, FrameTable, least_cost, least_costs};
 use std::alloc::{AllocError, Global};
 
 /// Layers may number so many pairs.
@@ -62,6 +67,27 @@ fn put_layer(
     Ok(())
 }
 
+/// Makes `next` the next layer. `few` and `spare` are vectors to write in: the entries that can pass, and pairs.
+fn next_layer(
+    next: &mut Vec<WidePair>,
+    spare: &mut Vec<WidePair>,
+    few: &mut Vec<Entry>,
+    bound: &Bound,
+    layer: &[WidePair],
+    slice: &[Entry],
+) -> Result<(), AllocError>
+    requires small { IsSmall bound.now }
+    requires layer { RisesAndFalls layer.now }
+    requires narrow { All IsNarrow layer.now }
+    requires errors { All (λ p. p.error < 2 ^ 63) layer.now }
+    requires entries { All IsEntry slice.now }
+    ensures { OnOk result (IsNext bound.now layer.now slice.now next.new.items) }
+{
+    passing(few, bound, layer, slice)?;
+    merge_all(next, spare, bound, layer, few)?;
+    Ok(())
+}
+
 /// The layers held under a size: after each number of slices the pairs that no other dominates, of those that can still meet
 /// the cap and stay within the bound by the multiplier, by rising size. They take 16 bytes a pair, and the two vectors of the
 /// layer at work up to 32 bytes for each pair of the longest half-merged layer.
@@ -93,11 +119,12 @@ pub fn held_layers(
     put_layer(alloc, &mut layers, &mut pairs, &first)?;
     let mut next = Vec::new(alloc);
     let mut spare = Vec::new(alloc);
+    let mut few = Vec::new(alloc);
     for k in 0..slices.len() {
         let entries = slices[k].entries();
         bound.errors -= least_error_of(entries);
         bound.floor -= least_cost(entries, multiplier);
-        merge_all(&mut next, &mut spare, &bound, &layers[k], entries)?;
+        next_layer(&mut next, &mut spare, &mut few, &bound, &layers[k], entries)?;
         put_layer(alloc, &mut layers, &mut pairs, &next)?;
     }
     Ok(layers)

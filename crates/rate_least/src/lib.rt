@@ -16,6 +16,7 @@ mod merge;
 mod multiplier;
 mod narrowed;
 mod outcome;
+mod passing;
 mod places;
 mod points;
 mod reading;

@@ -59,11 +59,11 @@ returns-in_err-put_layer-clause-full c =
     let n = ap length c.deref.ensures.value in
     omega (arith, n, c.in_err-put_layer.ensures.full h, sum_by-cons length c.in_ok-first.first.items [], assembled_below w m u (c.in_ok-first.first.items ∷ []) all 0 (omega arith) a f))
 
-pub merge_all-requires-clause-small : goal.merge_all-requires-clause-small
-merge_all-requires-clause-small c = record { errors = omega (arith, c.loop-k.invariant.few_errors); floor = omega (arith, c.loop-k.invariant.small) }
+pub next_layer-requires-clause-small : goal.next_layer-requires-clause-small
+next_layer-requires-clause-small c = record { errors = omega (arith, c.loop-k.invariant.few_errors); floor = omega (arith, c.loop-k.invariant.small) }
 
-pub merge_all-requires-clause-layer : goal.merge_all-requires-clause-layer
-merge_all-requires-clause-layer c =
+pub next_layer-requires-clause-layer : goal.next_layer-requires-clause-layer
+next_layer-requires-clause-layer c =
     let t = c.args.table.now in
     let m = c.args.multiplier in
     let u = c.args.size in
@@ -76,8 +76,8 @@ merge_all-requires-clause-layer c =
     let e = element c.loop-k.layers.items k c.index.result.now c.deref-in-loop-k.result.now n c.index.ensures c.deref-in-loop-k.ensures.value in
     subst RisesAndFalls (sym e) (i.layers.fronts k (omega arith)).order
 
-pub merge_all-requires-clause-narrow : goal.merge_all-requires-clause-narrow
-merge_all-requires-clause-narrow c =
+pub next_layer-requires-clause-narrow : goal.next_layer-requires-clause-narrow
+next_layer-requires-clause-narrow c =
     let t = c.args.table.now in
     let m = c.args.multiplier in
     let u = c.args.size in
@@ -90,8 +90,8 @@ merge_all-requires-clause-narrow c =
     let e = element c.loop-k.layers.items k c.index.result.now c.deref-in-loop-k.result.now n c.index.ensures c.deref-in-loop-k.ensures.value in
     subst (All IsNarrow) (sym e) (layer_narrow w m u is'.each is'.few k _ (i.layers.fronts k (omega arith)))
 
-pub merge_all-requires-clause-errors : goal.merge_all-requires-clause-errors
-merge_all-requires-clause-errors c =
+pub next_layer-requires-clause-errors : goal.next_layer-requires-clause-errors
+next_layer-requires-clause-errors c =
     let t = c.args.table.now in
     let m = c.args.multiplier in
     let u = c.args.size in
@@ -121,15 +121,15 @@ returns-in_err-put_layer-2-clause-full c =
     let is : s ≡ get_or t.slices k s = subst (λ l. s ≡ get_or l k s) same c.index-slices-k.is in
     let b : Bound = record { errors = c.loop-k.bound.errors - c.least_error_of.result; cap = c.loop-k.bound.cap; floor = c.loop-k.bound.floor - c.least_cost.result; most = c.loop-k.bound.most; multiplier = c.loop-k.bound.multiplier } in
     let f : Further w m u layers k c.loop-k.bound.errors c.loop-k.bound.floor = record { assembled = i.layers; errors_left = i.errors; costs_left = i.floor } in
-    let g = further w m u layers k c.loop-k.bound.errors c.loop-k.bound.floor c.deref-in-loop-k.result.now c.merge_all.new.next.items s c.entries-entries.result.now b c.least_error_of.result c.least_cost.result f
+    let g = further w m u layers k c.loop-k.bound.errors c.loop-k.bound.floor c.deref-in-loop-k.result.now c.next_layer.new.next.items s c.entries-entries.result.now b c.least_error_of.result c.least_cost.result f
     (omega (arith, few, c.loop-k-test.true)) is c.entries-entries.ensures.entries
     (element c.loop-k.layers.items k c.index.result.now c.deref-in-loop-k.result.now n c.index.ensures c.deref-in-loop-k.ensures.value)
-    c.least_error_of.ensures.value c.least_cost.ensures.value i.multiplier refl i.limit refl i.most c.in_ok-merge_all.ensures in
-    let d : c.deref-in-loop-k-2.result.now ≡ c.merge_all.new.next.items = c.deref-in-loop-k-2.ensures.value in
+    c.least_error_of.ensures.value c.least_cost.ensures.value i.multiplier refl i.limit refl i.most c.in_ok-next_layer.ensures in
+    let d : c.deref-in-loop-k-2.result.now ≡ c.next_layer.new.next.items = c.deref-in-loop-k-2.ensures.value in
     let p = err_from_is_err_and c.from_residual-in_err-put_layer-2.result c.from_residual-in_err-put_layer-2.ensures.1 in
     rw (p.1, p.2) (λ h all a.
     let e = ap length d in
-    omega (arith, e, i.pairs, c.in_err-put_layer-2.ensures.full h, more_pairs layers c.merge_all.new.next.items, assembled_below w m u (layers ++ c.merge_all.new.next.items ∷ []) all (k + 1) (omega (arith, few, c.loop-k-test.true)) g.assembled a))
+    omega (arith, e, i.pairs, c.in_err-put_layer-2.ensures.full h, more_pairs layers c.next_layer.new.next.items, assembled_below w m u (layers ++ c.next_layer.new.next.items ∷ []) all (k + 1) (omega (arith, few, c.loop-k-test.true)) g.assembled a))
 
 pub loop-k-preserved : goal.loop-k-preserved
 loop-k-preserved c =
@@ -148,12 +148,12 @@ loop-k-preserved c =
     let is : s ≡ get_or t.slices k s = subst (λ l. s ≡ get_or l k s) same c.index-slices-k.is in
     let b : Bound = record { errors = c.loop-k.bound.errors - c.least_error_of.result; cap = c.loop-k.bound.cap; floor = c.loop-k.bound.floor - c.least_cost.result; most = c.loop-k.bound.most; multiplier = c.loop-k.bound.multiplier } in
     let f : Further w m u layers k c.loop-k.bound.errors c.loop-k.bound.floor = record { assembled = i.layers; errors_left = i.errors; costs_left = i.floor } in
-    let g = further w m u layers k c.loop-k.bound.errors c.loop-k.bound.floor c.deref-in-loop-k.result.now c.merge_all.new.next.items s c.entries-entries.result.now b c.least_error_of.result c.least_cost.result f
+    let g = further w m u layers k c.loop-k.bound.errors c.loop-k.bound.floor c.deref-in-loop-k.result.now c.next_layer.new.next.items s c.entries-entries.result.now b c.least_error_of.result c.least_cost.result f
     (omega (arith, few, c.loop-k-test.true)) is c.entries-entries.ensures.entries
     (element c.loop-k.layers.items k c.index.result.now c.deref-in-loop-k.result.now n c.index.ensures c.deref-in-loop-k.ensures.value)
-    c.least_error_of.ensures.value c.least_cost.ensures.value i.multiplier refl i.limit refl i.most c.in_ok-merge_all.ensures in
-    let d : c.deref-in-loop-k-2.result.now ≡ c.merge_all.new.next.items = c.deref-in-loop-k-2.ensures.value in
-    let e : items_of c.put_layer-in-loop-k.new.layers.items ≡ layers ++ c.merge_all.new.next.items ∷ [] = c.in_ok-put_layer-2.ensures.layers ∙ ap (λ l. layers ++ l ∷ []) d in
+    c.least_error_of.ensures.value c.least_cost.ensures.value i.multiplier refl i.limit refl i.most c.in_ok-next_layer.ensures in
+    let d : c.deref-in-loop-k-2.result.now ≡ c.next_layer.new.next.items = c.deref-in-loop-k-2.ensures.value in
+    let e : items_of c.put_layer-in-loop-k.new.layers.items ≡ layers ++ c.next_layer.new.next.items ∷ [] = c.in_ok-put_layer-2.ensures.layers ∙ ap (λ l. layers ++ l ∷ []) d in
     let e' = ap length d in
     let n' = ap pairs_in e in
     record {
@@ -165,7 +165,7 @@ loop-k-preserved c =
       multiplier = i.multiplier;
       few_errors = omega (arith, i.few_errors);
       small = omega (arith, i.small);
-      pairs = omega (arith, e', n', i.pairs, c.in_ok-put_layer-2.ensures.pairs, more_pairs layers c.merge_all.new.next.items);
+      pairs = omega (arith, e', n', i.pairs, c.in_ok-put_layer-2.ensures.pairs, more_pairs layers c.next_layer.new.next.items);
       few = c.in_ok-put_layer-2.ensures.few;
     }
 

@@ -1,0 +1,38 @@
+//! The entries of a slice that some pair of a layer can pass with.
+
+ghost use Rattle.std.specs.Prelude.{OnOk};
+ghost use Rattle.std.specs.List.{All};
+ghost use Rattle.rate_table.specs.Table.{IsEntry};
+ghost use Rattle.rate_least.specs.Records.{IsNarrow};
+ghost use Rattle.rate_least.specs.Covering.{IsSmall};
+ghost use Rattle.rate_least.specs.Merge.{Passing};
+
+use crate::bound::Bound;
+use crate::covering::least_weight;
+use crate::outcome::WidePair;
+use rate_table::{Entry, cost_of};
+use std::alloc::AllocError;
+
+/// Writes the entries whose own cost, with the least weight of the layer's pairs, stays within the bound. With each of the others
+/// every pair of the layer passes the bound.
+pub fn passing(
+    few: &mut Vec<Entry>,
+    bound: &Bound,
+    layer: &[WidePair],
+    slice: &[Entry],
+) -> Result<(), AllocError>
+    requires small { IsSmall bound.now }
+    requires narrow { All IsNarrow layer.now }
+    requires entries { All IsEntry slice.now }
+    ensures ok { OnOk result (Passing bound.now layer.now slice.now few.new.items) }
+    ensures entries { OnOk result (All IsEntry few.new.items) }
+{
+    few.clear();
+    let least = least_weight(layer, bound.multiplier) + bound.floor;
+    for x in slice {
+        if least + cost_of(x, bound.multiplier) <= bound.most {
+            few.push(*x)?;
+        }
+    }
+    Ok(())
+}
