@@ -3,51 +3,16 @@
 //! bytes are printed. The cases and the answers that are compared with it are those of an independent reference.
 #![tactic(auto)]
 
-ghost use Rattle.std.specs.Prelude.{◌≤◌, ◌<◌, ◌+◌, length, IfSome};
+ghost use Rattle.std.specs.Prelude.{◌≤◌, ◌+◌, length};
 ghost use Rattle.pr_coeff.specs.Component.{AreBlocks};
 
+use gate_words::{bytes_of, put_bytes};
 use pr_coeff::{Block, CoeffFault, Scan, read_component, write_component};
 use pr_pieces::{ShortWords, read_component_in};
 use pw_outside::{MemSink, MemSource, NoMemory};
 use pw_text::{put_decimal, put_words, read_decimal};
 use std::alloc::Global;
 use std::io;
-
-/// The value of a hexadecimal digit in lower case.
-fn digit_of(byte: u8) -> Option<u8>
-    ensures { IfSome result (λ n. n < 16) }
-{
-    match byte {
-        b'0'..=b'9' => Some(byte - b'0'),
-        b'a'..=b'f' => Some(byte - b'a' + 10),
-        _ => None,
-    }
-}
-
-/// The bytes that hexadecimal digits stand for; a lone dash stands for none.
-fn bytes_of(alloc: Global, digits: &[u8]) -> Option<Vec<u8>> {
-    let mut bytes = Vec::new(alloc);
-    if digits == b"-".as_slice() {
-        return Some(bytes);
-    }
-    for pair in digits.chunks_exact(2) {
-        let byte = digit_of(pair[0])? * 16 + digit_of(pair[1])?;
-        bytes.push(byte).ok()?;
-    }
-    Some(bytes)
-}
-
-/// Appends a byte in hexadecimal.
-fn put_byte(text: &mut Vec<u8>, byte: u8) -> Result<(), NoMemory> {
-    let digits = b"0123456789abcdef";
-    match text.extend_from_slice(&[
-        digits[usize::from(byte / 16)],
-        digits[usize::from(byte % 16)],
-    ]) {
-        Ok(()) => Ok(()),
-        Err(_) => Err(NoMemory),
-    }
-}
 
 /// Appends the values of a block that aren't 0, each behind its place.
 fn put_block(text: &mut Vec<u8>, block: &Block) -> Result<(), NoMemory> {
@@ -95,10 +60,7 @@ fn put_written(
     if write_component(blocks, scan, &mut sink).is_err() {
         return put_words(text, "unwritten");
     }
-    for byte in sink.bytes() {
-        put_byte(text, *byte)?;
-    }
-    Ok(())
+    put_bytes(text, sink.bytes())
 }
 
 /// The name of a fault.
@@ -140,10 +102,8 @@ struct Case<'a> {
 /// The line of a component.
 fn line_of(alloc: Global, words: &ShortWords, case: &Case<'_>) -> Result<Vec<u8>, NoMemory> {
     let mut line = Vec::new(alloc);
-    let (Some(bytes), Some(mut padded)) = (
-        bytes_of(alloc, case.digits),
-        bytes_of(alloc, case.digits),
-    ) else {
+    let (Ok(bytes), Ok(mut padded)) = (bytes_of(alloc, case.digits), bytes_of(alloc, case.digits))
+    else {
         put_words(&mut line, "no hexadecimal")?;
         return Ok(line);
     };

@@ -6,9 +6,7 @@
 
 ghost use Rattle.std.specs.Prelude.{◌≤◌};
 
-mod hex;
-
-use hex::{bytes_of, word_of};
+use gate_words::{bytes_of, hashed_of, sink_of, text_line};
 use monitors::{BlackMonitor, BytesMonitor, IndexMonitor, LevelMonitor, Monitor};
 use pw_outside::{MemSink, MemStore};
 use pw_planes::Depth;
@@ -32,31 +30,6 @@ fn end_told(rt: &HostRuntime, end: DecodeEnd) -> io::Result<String> {
     }
 }
 
-/// A text on one line; a lone dash where there is none.
-fn text_told(rt: &HostRuntime, text: &[u8]) -> io::Result<String> {
-    let alloc = rt.alloc();
-    let mut line = String::new(alloc);
-    for part in String::from_utf8_lossy(alloc, text)?.lines() {
-        line.push_str(part)?;
-        line.push_str("\\n")?;
-    }
-    if line.is_empty() {
-        line.push_str("-")?;
-    }
-    Ok(line)
-}
-
-/// A sink that takes so many bytes a call.
-fn sink_of(rt: &HostRuntime, step: usize) -> io::Result<MemSink>
-    requires { 1 ≤ step }
-{
-    let alloc = rt.alloc();
-    match MemSink::new(alloc, 0, step, Vec::new(alloc)) {
-        Ok(sink) => Ok(sink),
-        Err(_) => Err(io::Error::from(io::ErrorKind::OutOfMemory)),
-    }
-}
-
 /// What decoding a movie answers and writes, where a call of a port moves so many bytes.
 fn decoded(
     rt: &HostRuntime,
@@ -69,8 +42,8 @@ fn decoded(
 {
     let alloc = rt.alloc();
     let mut movie = MemStore::new(file.to_vec(alloc)?, step, Vec::new(alloc));
-    let mut out = sink_of(rt, step)?;
-    let mut text = sink_of(rt, step)?;
+    let mut out = sink_of(alloc, step, None)?;
+    let mut text = sink_of(alloc, step, None)?;
     let mut monitors: Vec<Box<dyn Monitor>> = Vec::new(alloc);
     monitors.push(Box::new(alloc, LevelMonitor::new())?)?;
     monitors.push(Box::new(alloc, BlackMonitor::new(alloc))?)?;
@@ -86,8 +59,8 @@ fn decoded(
         &mut monitors,
     );
     let end = end_told(rt, end)?;
-    let text = text_told(rt, text.bytes())?;
-    let pictures = word_of(rt, out.bytes())?;
+    let text = text_line(alloc, text.bytes())?;
+    let pictures = hashed_of(alloc, out.bytes())?;
     Ok(format!(in alloc; "{end} | {text} | {pictures}")?)
 }
 
@@ -125,7 +98,12 @@ fn answer(rt: &HostRuntime, line: &str) -> io::Result<String> {
     let (depth, rest) = line.split_once(' ').unwrap_or((line, ""));
     let (form, movie) = rest.split_once(' ').unwrap_or((rest, ""));
     match (depth_of(depth), form_of(form)) {
-        (Some(depth), Some(form)) => decoded_in_steps(rt, depth, form, &bytes_of(rt, movie)?),
+        (Some(depth), Some(form)) => decoded_in_steps(
+            rt,
+            depth,
+            form,
+            &bytes_of(rt.alloc(), movie.as_bytes())?,
+        ),
         _ => Ok("no case".to_string(rt.alloc())?),
     }
 }

@@ -3,9 +3,9 @@
 //! cases of an independent reference are compared with it.
 #![tactic(auto)]
 
-ghost use Rattle.std.specs.Prelude.{◌<◌, IfSome};
 ghost use Rattle.pr_frame.specs.Coded.{IsCodedFrame};
 
+use gate_words::{HASH_OF_NONE, bytes_of, hash_of, hash_on, put_bytes};
 use pr_coeff::Block;
 use pr_frame::{CodedFrame, CodedSlice, Shown, read_frame, read_shown, show};
 use pr_head::{FrameFault, FrameHeader};
@@ -13,44 +13,6 @@ use pw_outside::{MemSource, NoMemory};
 use pw_planes::{AlphaKind, Chroma, Depth, Interlace, Picture};
 use pw_text::{put_decimal, put_words};
 use std::io;
-
-/// The value of a hexadecimal digit in lower case.
-fn digit_of(byte: u8) -> Option<u8>
-    ensures { IfSome result (λ n. n < 16) }
-{
-    match byte {
-        b'0'..=b'9' => Some(byte - b'0'),
-        b'a'..=b'f' => Some(byte - b'a' + 10),
-        _ => None,
-    }
-}
-
-/// The bytes that a line stands for; a lone dash stands for none.
-fn bytes_of(rt: &HostRuntime, line: &str) -> io::Result<Option<Vec<u8>>> {
-    let mut bytes = Vec::new(rt.alloc());
-    if line == "-" {
-        return Ok(Some(bytes));
-    }
-    for pair in line.as_bytes().chunks_exact(2) {
-        match (digit_of(pair[0]), digit_of(pair[1])) {
-            (Some(high), Some(low)) => bytes.push(high * 16 + low)?,
-            _ => return Ok(None),
-        }
-    }
-    Ok(Some(bytes))
-}
-
-/// Appends a byte in hexadecimal.
-fn put_byte(text: &mut Vec<u8>, byte: u8) -> Result<(), NoMemory> {
-    let digits = b"0123456789abcdef";
-    match text.extend_from_slice(&[
-        digits[usize::from(byte / 16)],
-        digits[usize::from(byte % 16)],
-    ]) {
-        Ok(()) => Ok(()),
-        Err(_) => Err(NoMemory),
-    }
-}
 
 /// Appends words and a number.
 fn put_pair(text: &mut Vec<u8>, words: &str, number: u64) -> Result<(), NoMemory> {
@@ -65,10 +27,7 @@ fn put_weights(text: &mut Vec<u8>, weights: &[u8; 64]) -> Result<(), NoMemory> {
         put_decimal(text, u64::from(first))?;
         return put_words(text, "*64");
     }
-    for weight in weights {
-        put_byte(text, *weight)?;
-    }
-    Ok(())
+    put_bytes(text, weights)
 }
 
 /// Appends size and form.
@@ -107,9 +66,7 @@ fn alpha_bits(alpha: AlphaKind) -> u64 {
 fn put_shape(text: &mut Vec<u8>, header: &FrameHeader) -> Result<(), NoMemory> {
     put_pair(text, "version ", u64::from(header.version))?;
     put_words(text, " encoder ")?;
-    for byte in header.encoder {
-        put_byte(text, byte)?;
-    }
+    put_bytes(text, &header.encoder)?;
     put_pair(text, " width ", u64::from(header.width))?;
     put_pair(text, " height ", u64::from(header.height))?;
     put_words(text, " chroma")?;
@@ -233,37 +190,23 @@ fn put_indices(text: &mut Vec<u8>, frame: &CodedFrame) -> Result<(), NoMemory> {
     Ok(())
 }
 
-/// The FNV-1a hash of 64 bits.
-fn hash_of(bytes: &[u8]) -> u64 {
-    let mut hash: u64 = 0xcbf2_9ce4_8422_2325;
-    for byte in bytes {
-        hash = (hash ^ u64::from(*byte)).wrapping_mul(0x100_0000_01b3);
-    }
-    hash
-}
-
 /// Appends a hash in hexadecimal.
 fn put_hash(text: &mut Vec<u8>, hash: u64) -> Result<(), NoMemory> {
-    for byte in hash.to_be_bytes() {
-        put_byte(text, byte)?;
-    }
-    Ok(())
+    put_bytes(text, &hash.to_be_bytes())
 }
 
 /// The hash, gone on with samples of two bytes each, the low one first.
 fn hash_with(hash: u64, samples: &[u16]) -> u64 {
     let mut hash = hash;
     for sample in samples {
-        for byte in sample.to_le_bytes() {
-            hash = (hash ^ u64::from(byte)).wrapping_mul(0x100_0000_01b3);
-        }
+        hash = hash_on(hash, &sample.to_le_bytes());
     }
     hash
 }
 
 /// The hash of a picture's planes.
 fn picture_hash(picture: &Picture) -> u64 {
-    let mut hash = hash_with(0xcbf2_9ce4_8422_2325, picture.y.samples());
+    let mut hash = hash_with(HASH_OF_NONE, picture.y.samples());
     hash = hash_with(hash, picture.cb.samples());
     hash = hash_with(hash, picture.cr.samples());
     match &picture.alpha {
@@ -368,13 +311,10 @@ fn print(rt: &HostRuntime, answer: Result<Vec<u8>, FrameFault>) -> io::Result<()
 fn main(rt: HostRuntime) -> io::Result<()> {
     for line in rt.lines(rt.alloc()) {
         let line = line?;
-        match (bytes_of(&rt, line.as_str())?, bytes_of(&rt, line.as_str())?) {
-            (Some(sample), Some(copy)) => {
-                let answer = line_of(&rt, sample, copy)?;
-                print(&rt, answer)?;
-            }
-            _ => println!(&rt; "no hexadecimal")?,
-        }
+        let sample = bytes_of(rt.alloc(), line.as_bytes())?;
+        let copy = sample.to_vec(rt.alloc())?;
+        let answer = line_of(&rt, sample, copy)?;
+        print(&rt, answer)?;
     }
     Ok(())
 }

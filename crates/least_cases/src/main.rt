@@ -9,7 +9,6 @@
 //!   what the whole run writes; and the status of the whole run.
 #![tactic(auto)]
 
-mod hex;
 mod runs;
 
 use std::io;

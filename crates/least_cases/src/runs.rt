@@ -2,7 +2,7 @@
 
 ghost use Rattle.std.specs.Prelude.{◌≤◌};
 
-use crate::hex::{bytes_of, word_of};
+use gate_words::{bytes_of, calls_of, sink_of, text_line, word_of};
 use pw_outside::{MemSink, MemSource};
 use rate_least::{LeastEnd, checkleast_run, curve_run, least_run};
 use std::io;
@@ -32,24 +32,6 @@ struct Ran {
     cert: Vec<u8>,
 }
 
-fn calls_of(rt: &HostRuntime, call: Option<u64>) -> io::Result<Vec<u64>> {
-    let mut calls = Vec::new(rt.alloc());
-    if let Some(call) = call {
-        calls.push(call)?;
-    }
-    Ok(calls)
-}
-
-/// A sink that takes so many bytes a call.
-fn sink_of(rt: &HostRuntime, step: usize, call: Option<u64>) -> io::Result<MemSink>
-    requires { 1 ≤ step }
-{
-    match MemSink::new(rt.alloc(), 0, step, calls_of(rt, call)?) {
-        Ok(sink) => Ok(sink),
-        Err(_) => Err(io::Error::from(io::ErrorKind::OutOfMemory)),
-    }
-}
-
 /// The cap of `least` with its cap behind it, as `least=7`; other commands have none.
 fn cap_of(command: &str) -> io::Result<Option<u64>> {
     match command.split_once('=') {
@@ -72,9 +54,13 @@ fn run_over(
     requires { 1 ≤ step }
 {
     let alloc = rt.alloc();
-    let mut source = MemSource::new(proof.to_vec(alloc)?, step, calls_of(rt, fails.proof)?);
-    let mut text = sink_of(rt, step, fails.text)?;
-    let mut cert = sink_of(rt, step, fails.cert)?;
+    let mut source = MemSource::new(
+        proof.to_vec(alloc)?,
+        step,
+        calls_of(rt.alloc(), fails.proof)?,
+    );
+    let mut text = sink_of(rt.alloc(), step, fails.text)?;
+    let mut cert = sink_of(rt.alloc(), step, fails.cert)?;
     let end = match cap_of(command)? {
         Some(cap) => least_run(alloc, &mut source, cap, &mut cert, &mut text),
         None if command == "checkleast" => checkleast_run(alloc, &mut source, &mut text),
@@ -105,24 +91,10 @@ fn status_of(rt: &HostRuntime, end: LeastEnd) -> io::Result<String> {
     }
 }
 
-/// The text on one line.
-fn text_line(rt: &HostRuntime, text: &[u8]) -> io::Result<String> {
-    let alloc = rt.alloc();
-    if text.is_empty() {
-        return Ok("-".to_string(alloc)?);
-    }
-    let mut line = String::new(alloc);
-    for part in String::from_utf8_lossy(alloc, text)?.lines() {
-        line.push_str(part)?;
-        line.push_str("\\n")?;
-    }
-    Ok(line)
-}
-
 fn line_of(rt: &HostRuntime, run: &Ran) -> io::Result<String> {
     let status = status_of(rt, run.end)?;
-    let text = text_line(rt, &run.text)?;
-    let cert = word_of(rt, &run.cert)?;
+    let text = text_line(rt.alloc(), &run.text)?;
+    let cert = word_of(rt.alloc(), &run.cert)?;
     Ok(format!(in rt.alloc(); "{status} | {text} | {cert}")?)
 }
 
@@ -136,7 +108,7 @@ fn answer_of(rt: &HostRuntime, command: &str, proof: &[u8], step: usize) -> io::
 /// The command of a case, and its file.
 fn case_of<'a>(rt: &HostRuntime, case: &'a str) -> io::Result<(&'a str, Vec<u8>)> {
     let (command, word) = case.split_once(' ').unwrap_or((case, "-"));
-    Ok((command, bytes_of(rt, word)?))
+    Ok((command, bytes_of(rt.alloc(), word.as_bytes())?))
 }
 
 /// The answer over a file, whatever number of bytes a call moves.

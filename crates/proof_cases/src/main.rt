@@ -10,7 +10,6 @@
 //!   bytes, is told, with fronts of what the whole run writes; and the status of the whole run.
 #![tactic(auto)]
 
-mod hex;
 mod runs;
 
 use std::io;

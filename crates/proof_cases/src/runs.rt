@@ -2,7 +2,7 @@
 
 ghost use Rattle.std.specs.Prelude.{◌≤◌};
 
-use crate::hex::{bytes_of, word_of};
+use gate_words::{bytes_of, calls_of, hashed_of, sink_of, text_line};
 use pw_outside::{MemSink, MemSource, MemStore};
 use run_look::{LookEnd, check_proof_run, check_run, reproof_run};
 use std::io;
@@ -32,24 +32,6 @@ struct Ran {
     text: Vec<u8>,
 }
 
-fn calls_of(rt: &HostRuntime, call: Option<u64>) -> io::Result<Vec<u64>> {
-    let mut calls = Vec::new(rt.alloc());
-    if let Some(call) = call {
-        calls.push(call)?;
-    }
-    Ok(calls)
-}
-
-/// A sink that takes so many bytes a call.
-fn sink_of(rt: &HostRuntime, step: usize, call: Option<u64>) -> io::Result<MemSink>
-    requires { 1 ≤ step }
-{
-    match MemSink::new(rt.alloc(), 0, step, calls_of(rt, call)?) {
-        Ok(sink) => Ok(sink),
-        Err(_) => Err(io::Error::from(io::ErrorKind::OutOfMemory)),
-    }
-}
-
 /// Runs a command over a proof.
 fn run_over(
     rt: &HostRuntime,
@@ -61,9 +43,13 @@ fn run_over(
     requires { 1 ≤ step }
 {
     let alloc = rt.alloc();
-    let mut source = MemSource::new(proof.to_vec(alloc)?, step, calls_of(rt, fails.proof)?);
-    let mut cert = sink_of(rt, step, fails.cert)?;
-    let mut text = sink_of(rt, step, fails.text)?;
+    let mut source = MemSource::new(
+        proof.to_vec(alloc)?,
+        step,
+        calls_of(rt.alloc(), fails.proof)?,
+    );
+    let mut cert = sink_of(rt.alloc(), step, fails.cert)?;
+    let mut text = sink_of(rt.alloc(), step, fails.text)?;
     let end = if command == "check" {
         check_proof_run(alloc, &mut source, &mut text)
     } else {
@@ -102,47 +88,10 @@ fn status_of(rt: &HostRuntime, end: LookEnd) -> io::Result<String> {
     }
 }
 
-/// The 64-bit FNV-1a hash.
-fn hash_of(bytes: &[u8]) -> u64 {
-    let mut hash: u64 = 0xcbf2_9ce4_8422_2325;
-    for byte in bytes {
-        hash = (hash ^ u64::from(*byte)).wrapping_mul(0x100_0000_01b3);
-    }
-    hash
-}
-
-/// The bytes that were written, as a word.
-fn written_word(rt: &HostRuntime, bytes: &[u8]) -> io::Result<String> {
-    let alloc = rt.alloc();
-    if bytes.is_empty() {
-        return Ok("-".to_string(alloc)?);
-    }
-    if bytes.len() <= 600 {
-        return word_of(rt, bytes);
-    }
-    let length = bytes.len();
-    let hash = hash_of(bytes);
-    Ok(format!(in alloc; "{length}:{hash:016x}")?)
-}
-
-/// The text on one line.
-fn text_line(rt: &HostRuntime, text: &[u8]) -> io::Result<String> {
-    let alloc = rt.alloc();
-    if text.is_empty() {
-        return Ok("-".to_string(alloc)?);
-    }
-    let mut line = String::new(alloc);
-    for part in String::from_utf8_lossy(alloc, text)?.lines() {
-        line.push_str(part)?;
-        line.push_str("\\n")?;
-    }
-    Ok(line)
-}
-
 fn line_of(rt: &HostRuntime, run: &Ran) -> io::Result<String> {
     let status = status_of(rt, run.end)?;
-    let text = text_line(rt, &run.text)?;
-    let cert = written_word(rt, &run.cert)?;
+    let text = text_line(rt.alloc(), &run.text)?;
+    let cert = hashed_of(rt.alloc(), &run.cert)?;
     Ok(format!(in rt.alloc(); "{status} | {text} | {cert}")?)
 }
 
@@ -156,7 +105,7 @@ fn answer_of(rt: &HostRuntime, command: &str, proof: &[u8], step: usize) -> io::
 /// The command of a case, and its proof.
 fn case_of<'a>(rt: &HostRuntime, case: &'a str) -> io::Result<(&'a str, Vec<u8>)> {
     let (command, word) = case.split_once(' ').unwrap_or((case, "-"));
-    Ok((command, bytes_of(rt, word)?))
+    Ok((command, bytes_of(rt.alloc(), word.as_bytes())?))
 }
 
 /// The answer over a proof, whatever number of bytes a call moves.
@@ -246,10 +195,10 @@ fn given_answer(
     let mut source = MemSource::new(proof.to_vec(alloc)?, step, Vec::new(alloc));
     let mut pictures = MemSource::new(shown.to_vec(alloc)?, step, Vec::new(alloc));
     let mut movie = MemStore::new(file.to_vec(alloc)?, step, Vec::new(alloc));
-    let mut text = sink_of(rt, step, None)?;
+    let mut text = sink_of(rt.alloc(), step, None)?;
     let end = check_run(alloc, &mut source, &mut pictures, &mut movie, &mut text);
     let status = status_of(rt, end)?;
-    let line = text_line(rt, &text.bytes().to_vec(alloc)?)?;
+    let line = text_line(rt.alloc(), &text.bytes().to_vec(alloc)?)?;
     Ok(format!(in alloc; "{status} | {line} | -")?)
 }
 
@@ -257,9 +206,9 @@ fn given_answer(
 pub(crate) fn given_told(rt: &HostRuntime, case: &str) -> io::Result<String> {
     let (proof, rest) = case.split_once(' ').unwrap_or((case, "- -"));
     let (shown, file) = rest.split_once(' ').unwrap_or((rest, "-"));
-    let proof = bytes_of(rt, proof)?;
-    let shown = bytes_of(rt, shown)?;
-    let file = bytes_of(rt, file)?;
+    let proof = bytes_of(rt.alloc(), proof.as_bytes())?;
+    let shown = bytes_of(rt.alloc(), shown.as_bytes())?;
+    let file = bytes_of(rt.alloc(), file.as_bytes())?;
     let answer = given_answer(rt, &proof, &shown, &file, MANY)?;
     for step in [1, 3] {
         let other = given_answer(rt, &proof, &shown, &file, step)?;

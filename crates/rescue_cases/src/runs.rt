@@ -3,7 +3,7 @@
 ghost use Rattle.std.specs.Prelude.{◌≤◌, IfOk};
 ghost use Rattle.rescue_run.specs.Rescuing.{IsRate};
 
-use crate::hex::{bytes_of, word_of};
+use gate_words::{bytes_of, calls_of, hashed_of, sink_of, text_line};
 use pw_outside::{MemSink, MemStore};
 use rescue_run::{RescueEnd, rescue_run};
 use std::io;
@@ -69,26 +69,8 @@ fn case_of(rt: &HostRuntime, case: &str) -> io::Result<Case>
     Ok(Case {
         num: number_of(num, 1_000_000)?,
         den: number_of(den, 4_000)?,
-        file: bytes_of(rt, word)?,
+        file: bytes_of(rt.alloc(), word.as_bytes())?,
     })
-}
-
-fn calls_of(rt: &HostRuntime, call: Option<u64>) -> io::Result<Vec<u64>> {
-    let mut calls = Vec::new(rt.alloc());
-    if let Some(call) = call {
-        calls.push(call)?;
-    }
-    Ok(calls)
-}
-
-/// A sink that takes so many bytes a call.
-fn sink_of(rt: &HostRuntime, step: usize, call: Option<u64>) -> io::Result<MemSink>
-    requires { 1 ≤ step }
-{
-    match MemSink::new(rt.alloc(), 0, step, calls_of(rt, call)?) {
-        Ok(sink) => Ok(sink),
-        Err(_) => Err(io::Error::from(io::ErrorKind::OutOfMemory)),
-    }
 }
 
 /// Runs `rescue` over the front of a file.
@@ -103,9 +85,13 @@ fn run_over(
     requires rate { IsRate (record { num = case.now.num; den = case.now.den }) }
 {
     let alloc = rt.alloc();
-    let mut store = MemStore::new(front.to_vec(alloc)?, step, calls_of(rt, fails.file)?);
-    let mut out = sink_of(rt, step, fails.out)?;
-    let mut text = sink_of(rt, step, fails.text)?;
+    let mut store = MemStore::new(
+        front.to_vec(alloc)?,
+        step,
+        calls_of(rt.alloc(), fails.file)?,
+    );
+    let mut out = sink_of(rt.alloc(), step, fails.out)?;
+    let mut text = sink_of(rt.alloc(), step, fails.text)?;
     let end = rescue_run(alloc, &mut store, case.num, case.den, &mut out, &mut text);
     Ok(Ran {
         end,
@@ -128,47 +114,10 @@ fn status_of(rt: &HostRuntime, end: RescueEnd) -> io::Result<String> {
     }
 }
 
-/// The 64-bit FNV-1a hash.
-fn hash_of(bytes: &[u8]) -> u64 {
-    let mut hash: u64 = 0xcbf2_9ce4_8422_2325;
-    for byte in bytes {
-        hash = (hash ^ u64::from(*byte)).wrapping_mul(0x100_0000_01b3);
-    }
-    hash
-}
-
-/// The bytes that were written, as a word.
-fn written_word(rt: &HostRuntime, bytes: &[u8]) -> io::Result<String> {
-    let alloc = rt.alloc();
-    if bytes.is_empty() {
-        return Ok("-".to_string(alloc)?);
-    }
-    if bytes.len() <= 600 {
-        return word_of(rt, bytes);
-    }
-    let length = bytes.len();
-    let hash = hash_of(bytes);
-    Ok(format!(in alloc; "{length}:{hash:016x}")?)
-}
-
-/// The text on one line.
-fn text_line(rt: &HostRuntime, text: &[u8]) -> io::Result<String> {
-    let alloc = rt.alloc();
-    if text.is_empty() {
-        return Ok("-".to_string(alloc)?);
-    }
-    let mut line = String::new(alloc);
-    for part in String::from_utf8_lossy(alloc, text)?.lines() {
-        line.push_str(part)?;
-        line.push_str("\\n")?;
-    }
-    Ok(line)
-}
-
 fn line_of(rt: &HostRuntime, run: &Ran) -> io::Result<String> {
     let status = status_of(rt, run.end)?;
-    let text = text_line(rt, &run.text)?;
-    let out = written_word(rt, &run.out)?;
+    let text = text_line(rt.alloc(), &run.text)?;
+    let out = hashed_of(rt.alloc(), &run.out)?;
     Ok(format!(in rt.alloc(); "{status} | {text} | {out}")?)
 }
 

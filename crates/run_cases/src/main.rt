@@ -16,7 +16,6 @@
 //! - `written DEN ALPHA SIZE ..`: what `list` answers over that movie.
 #![tactic(auto)]
 
-mod hex;
 mod movies;
 mod runs;
 

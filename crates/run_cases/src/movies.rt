@@ -3,8 +3,8 @@
 ghost use Rattle.std.specs.Prelude.{◌≤◌};
 ghost use Rattle.pic_y4m.specs.HeadLine.{IsHead};
 
-use crate::hex::{bytes_of, word_of};
 use crate::runs::answer_over;
+use gate_words::{bytes_of, word_of};
 use pic_y4m::Head;
 use pw_outside::{MemSink, MemStore, put};
 use pw_planes::{AlphaKind, Chroma, Depth, Interlace};
@@ -38,7 +38,7 @@ fn place_told(
 
 pub(crate) fn places_told(rt: &HostRuntime, case: &str) -> io::Result<String> {
     let alloc = rt.alloc();
-    let mut store = MemStore::new(bytes_of(rt, case)?, 7, Vec::new(alloc));
+    let mut store = MemStore::new(bytes_of(rt.alloc(), case.as_bytes())?, 7, Vec::new(alloc));
     let reader = match MovieReader::start(alloc, &mut store) {
         Ok(reader) => reader,
         Err(_) => return Ok("no movie".to_string(alloc)?),
@@ -135,7 +135,7 @@ fn movie_of(rt: &HostRuntime, case: &str) -> io::Result<Vec<u8>> {
 }
 
 pub(crate) fn bytes_told(rt: &HostRuntime, case: &str) -> io::Result<String> {
-    word_of(rt, &movie_of(rt, case)?)
+    word_of(rt.alloc(), &movie_of(rt, case)?)
 }
 
 pub(crate) fn written_told(rt: &HostRuntime, case: &str) -> io::Result<String> {

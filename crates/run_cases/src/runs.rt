@@ -2,7 +2,7 @@
 
 ghost use Rattle.std.specs.Prelude.{◌≤◌};
 
-use crate::hex::{bytes_of, hashed_of, word_of};
+use gate_words::{bytes_of, calls_of, hashed_of, sink_of, text_line, word_of};
 use monitors::{BlackMonitor, BytesMonitor, IndexMonitor, LevelMonitor, Monitor};
 use pw_outside::{ByteSink, ByteSource, ByteStore, MemSink, MemSource, MemStore};
 use std::alloc::Global;
@@ -33,25 +33,6 @@ fn command_words(rt: &HostRuntime, command: &str) -> io::Result<Vec<String>> {
         words.push("file".to_string(rt.alloc())?)?;
     }
     Ok(words)
-}
-
-/// The calls that fail: none, or one.
-fn calls_of(rt: &HostRuntime, call: Option<u64>) -> io::Result<Vec<u64>> {
-    let mut calls = Vec::new(rt.alloc());
-    if let Some(call) = call {
-        calls.push(call)?;
-    }
-    Ok(calls)
-}
-
-/// A sink that takes so many bytes a call.
-fn sink_of(rt: &HostRuntime, step: usize, call: Option<u64>) -> io::Result<MemSink>
-    requires { 1 ≤ step }
-{
-    match MemSink::new(rt.alloc(), 0, step, calls_of(rt, call)?) {
-        Ok(sink) => Ok(sink),
-        Err(_) => Err(io::Error::from(io::ErrorKind::OutOfMemory)),
-    }
 }
 
 /// The answer of the top call over these ports. `decode` has the four monitors, in the order of their reports. Nothing is said of
@@ -102,7 +83,7 @@ fn source_of(rt: &HostRuntime, file: &[u8], ports: &Ports) -> io::Result<MemSour
     requires { 1 ≤ ports.now.step }
 {
     let bytes = file.to_vec(rt.alloc())?;
-    let calls = calls_of(rt, ports.reading)?;
+    let calls = calls_of(rt.alloc(), ports.reading)?;
     Ok(MemSource::new(bytes, ports.step, calls))
 }
 
@@ -111,7 +92,7 @@ fn store_of(rt: &HostRuntime, file: &[u8], ports: &Ports) -> io::Result<MemStore
     requires { 1 ≤ ports.now.step }
 {
     let bytes = file.to_vec(rt.alloc())?;
-    let calls = calls_of(rt, ports.reading)?;
+    let calls = calls_of(rt.alloc(), ports.reading)?;
     Ok(MemStore::new(bytes, ports.step, calls))
 }
 
@@ -141,9 +122,9 @@ fn ports_over(rt: &HostRuntime, files: &Files<'_>, ports: &Ports) -> io::Result<
     let pictures = source_of(rt, files.pictures, ports)?;
     let proof = source_of(rt, files.proof, ports)?;
     let movie = store_of(rt, files.movie, ports)?;
-    let out = sink_of(rt, ports.step, None)?;
-    let cert = sink_of(rt, ports.step, None)?;
-    let text = sink_of(rt, ports.step, ports.writing)?;
+    let out = sink_of(rt.alloc(), ports.step, None)?;
+    let cert = sink_of(rt.alloc(), ports.step, None)?;
+    let text = sink_of(rt.alloc(), ports.step, ports.writing)?;
     Ok(Behind {
         pictures,
         proof,
@@ -218,7 +199,7 @@ fn line_of(rt: &HostRuntime, answer: &Answer) -> io::Result<String> {
     let mut line = end_of(rt, answer.status, &answer.text)?;
     if !answer.out.is_empty() {
         line.push_str(", out ")?;
-        line.push_str(&word_of(rt, &answer.out)?)?;
+        line.push_str(&word_of(rt.alloc(), &answer.out)?)?;
     }
     Ok(line)
 }
@@ -251,7 +232,7 @@ pub(crate) fn answer_over(rt: &HostRuntime, command: &str, file: &[u8]) -> io::R
 /// The command of a case, and its file.
 fn case_of<'a>(rt: &HostRuntime, case: &'a str) -> io::Result<(&'a str, Vec<u8>)> {
     let (command, word) = case.rsplit_once(' ').unwrap_or((case, "-"));
-    Ok((command, bytes_of(rt, word)?))
+    Ok((command, bytes_of(rt.alloc(), word.as_bytes())?))
 }
 
 pub(crate) fn told(rt: &HostRuntime, case: &str) -> io::Result<String> {
@@ -361,20 +342,6 @@ pub(crate) fn line_told(rt: &HostRuntime, case: &str) -> io::Result<String> {
     }
 }
 
-/// A text on one line, with `\n` for each line feed; a lone dash for none.
-fn text_of(rt: &HostRuntime, text: &[u8]) -> io::Result<String> {
-    let alloc = rt.alloc();
-    if text.is_empty() {
-        return Ok("-".to_string(alloc)?);
-    }
-    let mut line = String::new(alloc);
-    for part in String::from_utf8_lossy(alloc, text)?.lines() {
-        line.push_str(part)?;
-        line.push_str("\\n")?;
-    }
-    Ok(line)
-}
-
 /// A whole run whose ports move so many bytes a call: the exit status with its line, the text, and what `out` and `cert` got.
 fn whole_of(
     rt: &HostRuntime,
@@ -392,9 +359,9 @@ fn whole_of(
     let answer = ran_over(rt, words, files, &ports)?;
     let code = answer.status.code();
     let line = answer.status;
-    let text = text_of(rt, &answer.text)?;
-    let out = hashed_of(rt, &answer.out)?;
-    let cert = hashed_of(rt, &answer.cert)?;
+    let text = text_line(rt.alloc(), &answer.text)?;
+    let out = hashed_of(rt.alloc(), &answer.out)?;
+    let cert = hashed_of(rt.alloc(), &answer.cert)?;
     Ok(format!(in rt.alloc(); "{code} {line} | {text} | {out} | {cert}")?)
 }
 

@@ -8,7 +8,6 @@
 //!   of what the whole run writes; and the status of the whole run.
 #![tactic(auto)]
 
-mod hex;
 mod runs;
 
 use std::io;

@@ -2,7 +2,7 @@
 
 ghost use Rattle.std.specs.Prelude.{◌≤◌};
 
-use crate::hex::{bytes_of, word_of};
+use gate_words::{bytes_of, calls_of, hashed_of, sink_of, text_line};
 use pcm_track::{SoundEnd, sound_run};
 use pw_outside::{MemSink, MemStore};
 use std::io;
@@ -32,32 +32,18 @@ struct Ran {
     text: Vec<u8>,
 }
 
-fn calls_of(rt: &HostRuntime, call: Option<u64>) -> io::Result<Vec<u64>> {
-    let mut calls = Vec::new(rt.alloc());
-    if let Some(call) = call {
-        calls.push(call)?;
-    }
-    Ok(calls)
-}
-
-/// A sink that takes so many bytes a call.
-fn sink_of(rt: &HostRuntime, step: usize, call: Option<u64>) -> io::Result<MemSink>
-    requires { 1 ≤ step }
-{
-    match MemSink::new(rt.alloc(), 0, step, calls_of(rt, call)?) {
-        Ok(sink) => Ok(sink),
-        Err(_) => Err(io::Error::from(io::ErrorKind::OutOfMemory)),
-    }
-}
-
 /// Takes the sound out of a movie.
 fn run_over(rt: &HostRuntime, movie: &[u8], step: usize, fails: Fails) -> io::Result<Ran>
     requires { 1 ≤ step }
 {
     let alloc = rt.alloc();
-    let mut store = MemStore::new(movie.to_vec(alloc)?, step, calls_of(rt, fails.movie)?);
-    let mut wav = sink_of(rt, step, fails.wav)?;
-    let mut text = sink_of(rt, step, fails.text)?;
+    let mut store = MemStore::new(
+        movie.to_vec(alloc)?,
+        step,
+        calls_of(rt.alloc(), fails.movie)?,
+    );
+    let mut wav = sink_of(rt.alloc(), step, fails.wav)?;
+    let mut text = sink_of(rt.alloc(), step, fails.text)?;
     let end = sound_run(alloc, &mut store, &mut wav, &mut text);
     Ok(Ran {
         end,
@@ -83,47 +69,10 @@ fn status_of(rt: &HostRuntime, end: SoundEnd) -> io::Result<String> {
     }
 }
 
-/// The 64-bit FNV-1a hash.
-fn hash_of(bytes: &[u8]) -> u64 {
-    let mut hash: u64 = 0xcbf2_9ce4_8422_2325;
-    for byte in bytes {
-        hash = (hash ^ u64::from(*byte)).wrapping_mul(0x100_0000_01b3);
-    }
-    hash
-}
-
-/// The bytes that were written, as a word.
-fn written_word(rt: &HostRuntime, bytes: &[u8]) -> io::Result<String> {
-    let alloc = rt.alloc();
-    if bytes.is_empty() {
-        return Ok("-".to_string(alloc)?);
-    }
-    if bytes.len() <= 600 {
-        return word_of(rt, bytes);
-    }
-    let length = bytes.len();
-    let hash = hash_of(bytes);
-    Ok(format!(in alloc; "{length}:{hash:016x}")?)
-}
-
-/// The text on one line.
-fn text_line(rt: &HostRuntime, text: &[u8]) -> io::Result<String> {
-    let alloc = rt.alloc();
-    if text.is_empty() {
-        return Ok("-".to_string(alloc)?);
-    }
-    let mut line = String::new(alloc);
-    for part in String::from_utf8_lossy(alloc, text)?.lines() {
-        line.push_str(part)?;
-        line.push_str("\\n")?;
-    }
-    Ok(line)
-}
-
 fn line_of(rt: &HostRuntime, run: &Ran) -> io::Result<String> {
     let status = status_of(rt, run.end)?;
-    let text = text_line(rt, &run.text)?;
-    let wav = written_word(rt, &run.wav)?;
+    let text = text_line(rt.alloc(), &run.text)?;
+    let wav = hashed_of(rt.alloc(), &run.wav)?;
     Ok(format!(in rt.alloc(); "{status} | {text} | {wav}")?)
 }
 
@@ -136,7 +85,7 @@ fn answer_of(rt: &HostRuntime, movie: &[u8], step: usize) -> io::Result<String>
 
 /// The answer over a movie, whatever number of bytes a call moves.
 pub(crate) fn told(rt: &HostRuntime, word: &str) -> io::Result<String> {
-    let movie = bytes_of(rt, word)?;
+    let movie = bytes_of(rt.alloc(), word.as_bytes())?;
     let answer = answer_of(rt, &movie, MANY)?;
     for step in [1, 3] {
         let other = answer_of(rt, &movie, step)?;
@@ -176,7 +125,7 @@ fn is_told(rt: &HostRuntime, movie: &[u8], whole: &Ran, port: u8) -> io::Result<
 }
 
 pub(crate) fn failing_told(rt: &HostRuntime, word: &str) -> io::Result<String> {
-    let movie = bytes_of(rt, word)?;
+    let movie = bytes_of(rt.alloc(), word.as_bytes())?;
     let whole = run_over(rt, &movie, 7, NONE)?;
     let mut told = String::new(rt.alloc());
     for port in 0..3 {

@@ -10,6 +10,7 @@ ghost use Rattle.pw_planes.specs.Samples.{bits_of};
 ghost use Rattle.rate_build.specs.Coefficients.{HasDepth};
 ghost use Rattle.rate_build.specs.Laws.{HasAlpha};
 
+use gate_words::bytes_of;
 use pr_geom::Layout;
 use pr_quant::laws::named_weights_are_in_range;
 use pr_quant::{Matrix, Weights};
@@ -19,27 +20,6 @@ use rate_build::{build_table, coefficients_of};
 use rate_table::FrameTable;
 use std::alloc::Global;
 use std::io;
-
-/// The value of a hexadecimal digit in lower case.
-fn digit_of(byte: u8) -> Option<u8>
-    ensures { IfSome result (λ n. n < 16) }
-{
-    match byte {
-        b'0'..=b'9' => Some(byte - b'0'),
-        b'a'..=b'f' => Some(byte - b'a' + 10),
-        _ => None,
-    }
-}
-
-/// The bytes that hexadecimal digits stand for.
-fn bytes_of(alloc: Global, digits: &[u8]) -> Option<Vec<u8>> {
-    let mut bytes = Vec::new(alloc);
-    for pair in digits.chunks_exact(2) {
-        let byte = digit_of(pair[0])? * 16 + digit_of(pair[1])?;
-        bytes.push(byte).ok()?;
-    }
-    Some(bytes)
-}
 
 /// A number of a line.
 fn number(word: &str) -> Option<u16> {
@@ -233,7 +213,7 @@ fn asked(alloc: Global, words: &[&str]) -> Option<FrameTable> {
     let Ok(layout) = Layout::new(size.0, size.1, log2, interlace, chroma) else {
         return None;
     };
-    let bytes = bytes_of(alloc, words[10].as_bytes())?;
+    let bytes = bytes_of(alloc, words[10].as_bytes()).ok()?;
     let picture = picture(alloc, &bytes, size, chroma, depth, alpha)?;
     table_of(alloc, &picture, &layout, alpha, matrix, range)
 }
