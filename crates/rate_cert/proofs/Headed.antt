@@ -38,7 +38,7 @@ use Rattle.rate_cert.proofs.Layered.{which}
 or_false : (a b : Bool) → a ≡ false → b ≡ false → (a || b) ≡ false
 or_false a b e f = rw (e, f) refl
 
-or_none : (a b : Bool) → (a || b) ≡ false → (a ≡ false) × (b ≡ false)
+pub or_none : (a b : Bool) → (a || b) ≡ false → (a ≡ false) × (b ≡ false)
 or_none true b e = absurd cc
 or_none false b e = (refl, e)
 
@@ -234,7 +234,7 @@ module _ (s : Settings) (is : IsSettings s) where
 
 -- ---- the head
 
-head-parts : (format : ℕ) (s : Settings) (behind : List ℕ) → head_bytes format s ++ behind ≡ codes "PWPF" ++ (format ∷ (form_number s.form s.group ∷ (to_be_bytes w16 s.width ++ (to_be_bytes w16 s.height
+pub head-parts : (format : ℕ) (s : Settings) (behind : List ℕ) → head_bytes format s ++ behind ≡ codes "PWPF" ++ (format ∷ (form_number s.form s.group ∷ (to_be_bytes w16 s.width ++ (to_be_bytes w16 s.height
     ++ (chroma_number s.chroma ∷ depth_number s.depth ∷ alpha_number s.alpha ∷ interlace_number s.interlace ∷ (s.log2 ∷ s.lo ∷ s.hi ∷ (to_be_bytes w32 s.num ++ (to_be_bytes w32 s.den
     ++ (s.luma ++ (s.chroma_weights ++ (to_be_bytes w32 s.budget ++ behind)))))))))))
 unfolding head_bytes

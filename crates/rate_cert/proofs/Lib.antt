@@ -10,3 +10,5 @@ pub mod Filed
 pub mod Spelling
 pub mod Recording
 pub mod Spelled
+pub mod SpelledHead
+pub mod SpelledFile

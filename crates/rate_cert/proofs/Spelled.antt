@@ -1,18 +1,18 @@
 -- A record that was read in format 2 is spelled so.
-use Rattle.std.proofs.Common.{◌≡◌, ℕ, zero, suc, ◌+◌, ◌-◌, ◌*◌, ◌/◌, ◌%◌, ◌^◌, ◌<◌, ◌≤◌, Bool, true, false, nat_lt, nat_le, List, [], ◌∷◌, ◌++◌, length, Result, Ok, Err, Option, Some, None, refl, sym, ap, ◌∙◌, subst, arith, rules, inl, inr, ◌⊎◌, append_assoc}
-use Rattle.std.specs.Prelude.{◌==◌, ◌||◌, ◌&&◌, not, if◌then◌else◌, IsTrue}
+use Rattle.std.proofs.Common.{◌≡◌, ℕ, zero, suc, ◌+◌, ◌-◌, ◌*◌, ◌/◌, ◌%◌, ◌^◌, ◌<◌, ◌≤◌, Bool, true, false, nat_lt, List, [], ◌∷◌, ◌++◌, length, Ok, Err, Option, Some, None, refl, sym, ap, ◌∙◌, subst, arith, rules, inl, inr, ◌⊎◌, append_assoc}
+use Rattle.std.specs.Prelude.{◌==◌, not, if◌then◌else◌, IsTrue}
 use Rattle.std.specs.Int.{w8, w32, w64, to_be_bytes}
 use Rattle.std.specs.List.{flat_map, All, sum_by}
 use Rattle.std.proofs.lemmas.Bool.{ltb-false, leb-false, eqb-false, eqb-true, ltb-true}
 use Rattle.std.proofs.lemmas.List.Concat.{flat_map-cons}
 use Rattle.std.proofs.lemmas.List.Sums.{sum_by-cons}
 use Rattle.std.proofs.lemmas.List.Elements.{All-nil, All-cons}
-use Rattle.pw_outside.specs.Reading.{Fault, Rest, Read, bind, ◌>>=◌, bad, refuse, number_at, AreBytes, Took}
+use Rattle.pw_outside.specs.Reading.{Rest, Read, ◌>>=◌, bad, number_at, AreBytes, Took}
 use Rattle.pw_outside.proofs.Steps.{bind-ok, refuse-passed, then_took, took_none}
 use Rattle.rate_table.specs.declared.entry.Pair.{Pair}
 use Rattle.rate_table.specs.declared.fault.ProofKind.{ProofKind}
-use Rattle.rate_table.specs.declared.fault.ProofKind.TheVariants.{ProofShape, ProofShort}
-use Rattle.rate_table.specs.Table.{Table, IsTable}
+use Rattle.rate_table.specs.declared.fault.ProofKind.TheVariants.{ProofShort}
+use Rattle.rate_table.specs.Table.{Table}
 use Rattle.rate_table.specs.Pairs.{RisesAndFalls}
 use Rattle.rate_table.specs.Body.{body_bytes}
 use Rattle.rate_table.specs.Reading.{body_at}
@@ -22,13 +22,13 @@ use Rattle.rate_table.proofs.Taken.{ok_is, wide32, wide64, number_took, byte_too
 use Rattle.rate_cert.specs.Numbers.{groups_of, number_bytes, limit, group_at, groups_at, short_at}
 use Rattle.rate_cert.specs.Layers.{most_pairs, steps_bytes, close_pairs_bytes, close_bytes, layer_bytes, step_at, run_at, first_at, close_pairs_at, close_at, layer_at, layers_at}
 use Rattle.rate_cert.specs.Records.{Record, Said, fits, none}
-use Rattle.rate_cert.specs.Files.{most_records, sums_bytes, fit_bytes, said_bytes, record_bytes, IsPair, IsPrintable, HasWidths, CanBeSaid, AreWide, IsWritten, in_proof, table_at, indices_at, fit_at, none_at, said_at, record_at, Progress, mark_at, end_at, some_at, next_at}
+use Rattle.rate_cert.specs.Files.{sums_bytes, fit_bytes, said_bytes, record_bytes, IsPair, IsPrintable, HasWidths, CanBeSaid, AreWide, IsWritten, in_proof, table_at, indices_at, fit_at, none_at, said_at, record_at, Progress, mark_at, end_at, some_at, next_at}
 use Rattle.rate_cert.specs.Laws.{RecordIsSpelled}
-use Rattle.rate_cert.proofs.Numbered.{chosen, passed, groups-last, groups-further}
+use Rattle.rate_cert.proofs.Numbered.{groups-last, groups-further}
 use Rattle.rate_cert.proofs.Grouped.{limit_some, limit_most}
 
 -- one thing was read, and then another, where the places and the spellings are said
-took_both : (a b c : Rest) (x y : List ℕ) → Took a x b → Took b y c → Took a (x ++ y) c
+pub took_both : (a b c : Rest) (x y : List ℕ) → Took a x b → Took b y c → Took a (x ++ y) c
 took_both a b c x y p q = then_took p q
 
 -- ---- numbers in groups of 7 bits
@@ -40,12 +40,12 @@ else_ok false place r x e = e
 group_took : (first : ℕ) (s : Rest) (x : ℕ × Rest) → AreBytes s.bytes → group_at first s ≡ Ok x → Took s (x.0 ∷ []) x.1 × (x.0 < 256)
 group_took first s x fit e = byte_took ProofShort s x fit (else_ok (nat_lt (length s.bytes) 1) first (number_at ProofShort w8 s) x e)
 
-not_is : (b : Bool) → not b ≡ false → b ≡ true
+pub not_is : (b : Bool) → not b ≡ false → b ≡ true
 not_is true e = refl
 not_is false e = absurd cc
 
 -- one of two
-branch : {A : Type 0} (b : Bool) (x y : Read ProofKind A) (z : A × Rest) → (if b then x else y) ≡ Ok z → ((b ≡ true) × (x ≡ Ok z)) ⊎ ((b ≡ false) × (y ≡ Ok z))
+pub branch : {A : Type 0} (b : Bool) (x y : Read ProofKind A) (z : A × Rest) → (if b then x else y) ≡ Ok z → ((b ≡ true) × (x ≡ Ok z)) ⊎ ((b ≡ false) × (y ≡ Ok z))
 branch true x y z e = inl (refl, e)
 branch false x y z e = inr (refl, e)
 
@@ -391,7 +391,7 @@ abbrev Ends : Option Record → Type 0
 Ends None = Unit {0}
 Ends (Some r) = ⊥
 
-no_end : (count : ℕ) (s rest : Rest) (r : Record) → end_at count s ≡ Ok (Some r, rest) → ⊥
+pub no_end : (count : ℕ) (s rest : Rest) (r : Record) → end_at count s ≡ Ok (Some r, rest) → ⊥
 unfolding end_at
 no_end count s rest r e =
     let b1 = bind-ok (number_at ProofShort w32 s) _ e in

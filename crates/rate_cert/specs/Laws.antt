@@ -6,7 +6,7 @@ use Rattle.rate_cert.specs.Settings.{IsSettings}
 use Rattle.rate_cert.specs.Numbers.{number_bytes, short_at}
 use Rattle.rate_cert.specs.Records.{Record}
 use Rattle.rate_cert.specs.Head.{head_bytes, head_at}
-use Rattle.rate_cert.specs.Files.{IsFormat, record_bytes, proof_bytes, IsWritten, Progress, no_records, MayStand, further, next_at, proved}
+use Rattle.rate_cert.specs.Files.{IsFormat, record_bytes, proof_bytes, IsWritten, Progress, no_records, MayStand, further, next_at, Proved, proved}
 
 -- a number in groups of 7 bits that was written is read again, whatever stands behind it
 abbrev pub NumberIsReadAgain : Type 0
@@ -39,3 +39,11 @@ ProofIsReadAgain = (format : ℕ) (s : Settings) (records : List Record) → IsF
 -- in its layers sizes rise and errors fall.
 abbrev pub RecordIsSpelled : Type 0
 RecordIsSpelled = (p : Progress) (s rest : Rest) (r : Record) → AreBytes s.bytes → next_at 2 p s ≡ Ok (Some r, rest) → IsWritten 2 r × Took s (record_bytes 2 r) rest
+
+-- The bytes of a head are those that are written of its format and its settings: it has one spelling, in either format.
+abbrev pub HeadIsSpelled : Type 0
+HeadIsSpelled = (format : ℕ) (settings : Settings) (s rest : Rest) → AreBytes s.bytes → head_at s ≡ Ok ((format, settings), rest) → Took s (head_bytes format settings) rest
+
+-- A proof of format 2 without a fault has one spelling, that which is written of its settings and its records.
+abbrev pub ProofIsSpelled : Type 0
+ProofIsSpelled = (bytes : List ℕ) (p : Proved) → AreBytes bytes → proved bytes ≡ Ok p → p.format ≡ 2 → bytes ≡ proof_bytes 2 p.settings p.records

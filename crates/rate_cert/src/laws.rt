@@ -1,6 +1,6 @@
 //! Laws over the definitions alone.
 
-ghost use Rattle.rate_cert.specs.Laws.{NumberIsReadAgain, RecordIsReadAgain, HeadIsReadAgain, ProofIsReadAgain, RecordIsSpelled};
+ghost use Rattle.rate_cert.specs.Laws.{NumberIsReadAgain, RecordIsReadAgain, HeadIsReadAgain, ProofIsReadAgain, RecordIsSpelled, HeadIsSpelled, ProofIsSpelled};
 
 /// A number in groups of 7 bits that was written is read again, whatever stands behind it.
 pub fn number_is_read_again()
@@ -25,4 +25,14 @@ pub fn proof_is_read_again()
 /// A record that was read in format 2 has one spelling, that which is written of it; in its layers sizes rise and errors fall.
 pub fn record_is_spelled()
     ensures { RecordIsSpelled }
+{}
+
+/// A head that was read has one spelling, that which is written of its format and its settings.
+pub fn head_is_spelled()
+    ensures { HeadIsSpelled }
+{}
+
+/// A proof of format 2 that was read without a fault has one spelling, that which is written of its settings and its records.
+pub fn proof_is_spelled()
+    ensures { ProofIsSpelled }
 {}

@@ -17,8 +17,8 @@ mod tests;
 mod writer;
 
 pub use laws::{
-    head_is_read_again, number_is_read_again, proof_is_read_again, record_is_read_again,
-    record_is_spelled,
+    head_is_read_again, head_is_spelled, number_is_read_again, proof_is_read_again,
+    proof_is_spelled, record_is_read_again, record_is_spelled,
 };
 pub use proof::{FrameProof, Verdict};
 pub use reader::ProofReader;

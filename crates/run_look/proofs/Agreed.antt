@@ -63,24 +63,21 @@ left_some g n p rest others e =
     let fault = ap (λ (x : Pictures). x.fault) e in
     (ap (λ o. picture_or o g.pictures.fault) some.0, λ i. record { pictures = some.1 i; fault = fault i })
 
+-- no reader gives more frames than this
+few_frames : (r : AnyReader) → IsReader r → frames_of r ≤ MAX_FRAMES
+few_frames (Y4m r) is = is.few
+few_frames (Raw r) is = is.few
+
 -- what a reader gives next
 pub gives_fault : NextIsFirst → (r : AnyReader) (rest : Rest) (g : Given) (n : ℕ) (f : Fault PictureKind) → IsReader r → next_of r rest ≡ Err f → AreLeft g n (left_of r rest) → picture_in g n ≡ Err f
 gives_fault law r rest g n f is e left =
     let others : Rest → Pictures = λ rest. left_of (advanced r rest.place) rest in
-    left_fault g n f others (sym (ap (λ x. first_and x others) e) ∙ sym (law r rest (few r is)) ∙ left)
-  where
-    few : (r : AnyReader) → IsReader r → frames_of r ≤ MAX_FRAMES
-    few (Y4m r) is = is.few
-    few (Raw r) is = is.few
+    left_fault g n f others (sym (ap (λ x. first_and x others) e) ∙ sym (law r rest (few_frames r is)) ∙ left)
 
 pub gives_next : NextIsFirst → (r r' : AnyReader) (rest : Rest) (left : Option (List ℕ)) (g : Given) (n : ℕ) (o : Option Picture) → IsReader r → IsAfter {E = PictureFault} r r' (Ok o)
     → next_of r rest ≡ Ok (o, rest_of (place_of r') left) → AreLeft g n (left_of r rest) → GivesPicture g n (Ok o) (left_by r' left)
-gives_next law r r' rest left g n o is after e are = by o after (sym (ap (λ x. first_and x others) e) ∙ sym (law r rest (few r is)) ∙ are)
+gives_next law r r' rest left g n o is after e are = by o after (sym (ap (λ x. first_and x others) e) ∙ sym (law r rest (few_frames r is)) ∙ are)
   where
-    few : (r : AnyReader) → IsReader r → frames_of r ≤ MAX_FRAMES
-    few (Y4m r) is = is.few
-    few (Raw r) is = is.few
-
     others : Rest → Pictures
     others rest = left_of (advanced r rest.place) rest
 
@@ -188,9 +185,6 @@ frames_further b b' ss s r first k fs fs' f e n is are takes told ps =
 
 -- ---- one picture after the other
 
-pub pictures_start : (g : Given) (l : Layout) (s : Settings) (r : Record) (first : ℕ) (left : Pictures) → AreLeft g first left → PicturesAgree g l s r first 0 × AreLeft g (first + 0) left
-pictures_start g l s r first left h = (λ k lt. absurd (omega (arith, lt)), subst (λ n. AreLeft g n left) (let e : first ≡ first + 0 = omega arith in e) h)
-
 -- the picture of a frame agrees
 pub pictures_further : (g : Given) (l : Layout) (s : Settings) (r : Record) (first k : ℕ) (left : Pictures) → PicturesAgree g l s r first k → TakesPicture g l s r first k (Ok tt) left
     → PicturesAgree g l s r first (k + 1) × AreLeft g (first + (k + 1)) left
@@ -204,9 +198,6 @@ pictures_stop g l s r first k end before lt here = answers_end end (PictureEnds 
 
 -- ---- one record
 
-pub told_of : (P : List ℕ → Type 0) (b b' : Option (List ℕ)) → b' ≡ b → Told b' P → Told b P
-told_of P b b' e t = subst (λ x. Told x P) e t
-
 -- checking ends at a sample of a record
 pub group_by_samples : (g : Given) (l : Layout) (s : Settings) (r : Record) (first : ℕ) (end : LookEnd) → AnswersEnd end (SamplesEnd g s r first) → AnswersEnd end (λ e. AreBeside g l s r first tt (ended e))
 group_by_samples g l s r first end h = answers_end end (SamplesEnd g s r first) (λ e. AreBeside g l s r first tt (ended e)) (λ e x. (x.0, x.1, inl (x.2, x.3))) h
@@ -219,21 +210,10 @@ group_by_pictures g l s r first (Err end) left agree h = answers_end end (Pictur
 
 -- ---- behind the records
 
-some_sample : (ss : List Sample) (n : ℕ) → n < length ss → (x : Sample) × (slice_get ss n ≡ Some x)
-some_sample [] n l = absurd (omega (arith, l))
-some_sample (x ∷ xs) zero l = (x, refl)
-some_sample (x ∷ xs) (suc n) l = some_sample xs n (omega (arith, l))
-
 no_sample : (ss : List Sample) (n : ℕ) → length ss ≤ n → slice_get ss n ≡ None
 no_sample [] n l = refl
 no_sample (x ∷ xs) zero l = absurd (omega (arith, l))
 no_sample (x ∷ xs) (suc n) l = no_sample xs n (omega (arith, l))
-
--- there is a further sample
-pub further_sample : (g : Given) (ss : List Sample) (n : ℕ) → g.samples ≡ ss → n < length ss → ends.Refused n 9 ≡ nothing_further g n tt
-further_sample g ss n e l =
-    let x = some_sample ss n l in
-    sym (ap (λ l. by_sample g n (slice_get l n)) e ∙ ap (by_sample g n) x.1)
 
 -- there is none, and this is what was answered of the next picture
 pub behind_samples : (g : Given) (ss : List Sample) (n : ℕ) → g.samples ≡ ss → length ss ≤ n → nothing_further g n tt ≡ by_picture n (picture_in g n)
@@ -241,9 +221,6 @@ behind_samples g ss n e l = ap (λ l. by_sample g n (slice_get l n)) e ∙ ap (b
 
 pub further_picture : (g : Given) (ss : List Sample) (n : ℕ) (p : Picture) → g.samples ≡ ss → length ss ≤ n → picture_in g n ≡ Ok (Some p) → ends.Refused n 10 ≡ nothing_further g n tt
 further_picture g ss n p e l is = sym (behind_samples g ss n e l ∙ ap (by_picture n) is)
-
-pub nothing_behind : (g : Given) (ss : List Sample) (n : ℕ) → g.samples ≡ ss → length ss ≤ n → picture_in g n ≡ Ok None → nothing_further g n tt ≡ ends.Done
-nothing_behind g ss n e l is = behind_samples g ss n e l ∙ ap (by_picture n) is
 
 pub fault_behind : (g : Given) (ss : List Sample) (n : ℕ) (end : LookEnd) (left : Pictures) → g.samples ≡ ss → length ss ≤ n → GivesPicture g n (Err end) left → AnswersEnd end (λ e. e ≡ nothing_further g n tt)
 fault_behind g ss n ends.Done left e l h = absurd h

@@ -12,3 +12,5 @@ pub mod OnceWith
 pub mod Agreed
 pub mod Going
 pub mod Heading
+pub mod Gave
+pub mod Staying

@@ -35,7 +35,7 @@ all-rise : (ls : List (List Pair)) → list_all is_in_order ls ≡ true → All 
 all-rise [] e = All-nil RisesAndFalls
 all-rise (l ∷ ls) e = let x = both (is_in_order l) (list_all is_in_order ls) e in All-cons RisesAndFalls l ls (rises l x.0) (all-rise ls x.1)
 
-all-ordered : (ls : List (List Pair)) → All RisesAndFalls ls → list_all is_in_order ls ≡ true
+pub all-ordered : (ls : List (List Pair)) → All RisesAndFalls ls → list_all is_in_order ls ≡ true
 all-ordered [] h = refl
 all-ordered (l ∷ ls) h = together (is_in_order l) (list_all is_in_order ls) (ordered l (All-head RisesAndFalls l ls h)) (all-ordered ls (All-tail RisesAndFalls l ls h))
 

@@ -47,7 +47,7 @@ records-read (suc most) format s p rest e =
 
 -- ---- what is written
 
-cert_done : (s : Settings) (w : Rewritten) → w.end ≡ ends.Done → (reproofed_of s w).cert ≡ proof_bytes 2 s w.records
+pub cert_done : (s : Settings) (w : Rewritten) → w.end ≡ ends.Done → (reproofed_of s w).cert ≡ proof_bytes 2 s w.records
 unfolding proof_bytes
 cert_done s w e = ap (λ (end : LookEnd). head_bytes 2 s ++ (flat_map (record_bytes 2) w.records ++ where_done end (end_bytes (length w.records)))) e
 

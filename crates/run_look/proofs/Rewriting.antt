@@ -52,11 +52,11 @@ abbrev pub rewritten_from : ℕ → Settings → Progress → Rest → Rewritten
 rewritten_from format s p rest = rewritten_at (marks_left p) format s p rest
 
 -- the same of a record that was read
-by_more : (s : Settings) (p : Progress) (next : Result (Option Record × Rest) (Fault ProofKind)) (r : Record) (behind : Rest) (others : Record → Rest → Rewritten)
+pub by_more : (s : Settings) (p : Progress) (next : Result (Option Record × Rest) (Fault ProofKind)) (r : Record) (behind : Rest) (others : Record → Rest → Rewritten)
     → next ≡ Ok (Some r, behind) → keeps_order r.said ≡ true → rewritten_by s p next others ≡ with_first r (others r behind)
 by_more s p next r behind others e order = rw (e, order) refl
 
-by_end : (s : Settings) (p : Progress) (next : Result (Option Record × Rest) (Fault ProofKind)) (behind : Rest) (others : Record → Rest → Rewritten)
+pub by_end : (s : Settings) (p : Progress) (next : Result (Option Record × Rest) (Fault ProofKind)) (behind : Rest) (others : Record → Rest → Rewritten)
     → next ≡ Ok (None, behind) → rewritten_by s p next others ≡ nothing ends.Done
 by_end s p next behind others e = rw e refl
 

@@ -4,7 +4,7 @@ use Rattle.std.specs.Bool.{OnTrue, OnFalse}
 use Rattle.std.specs.Fmt.{decimal}
 use Rattle.std.specs.List.{flat_map, list_all}
 use Rattle.pw_outside.specs.Ports.{Rose}
-use Rattle.pw_outside.specs.Reading.{Fault, Rest}
+use Rattle.pw_outside.specs.Reading.{Fault, Rest, AreBytes}
 use Rattle.pw_outside.specs.Writing.{SinkState, Puts, PutsFront}
 use Rattle.rate_table.specs.declared.entry.Pair.{Pair}
 use Rattle.rate_table.specs.declared.fault.ProofKind.{ProofKind}
@@ -128,6 +128,14 @@ PutsUntil _ bytes before after = Puts before after bytes
 -- The second proof says in format 2 what the first one says.
 abbrev pub SaysTheSame : List ℕ → List ℕ → Type 0
 SaysTheSame old new = (p : Proved) × (proved old ≡ Ok p) × (proved new ≡ Ok (record { format = 2; settings = p.settings; records = p.records }))
+
+-- The bytes are a proof without a fault, in this format.
+abbrev pub IsProofIn : ℕ → List ℕ → Type 0
+IsProofIn format bytes = (p : Proved) × (proved bytes ≡ Ok p) × (p.format ≡ format)
+
+-- A proof in format 2 comes out byte for byte: writing it again ends in Done, and gives its own bytes.
+abbrev pub StaysAsItIs : Type 0
+StaysAsItIs = (bytes : List ℕ) → AreBytes bytes → IsProofIn 2 bytes → ((reproofed bytes).end ≡ ends.Done) × ((reproofed bytes).cert ≡ bytes)
 
 -- The counts of faults of two sinks never fall. One of them has risen where writing failed, and else both are as they were.
 pub record CountsFaults (before now before' now' : ℕ) (failed : Bool) : Type 0 where

@@ -423,6 +423,23 @@ fn has_head(settings: &Settings, head: &Head) -> bool
     *head == head_for(settings)
 }
 
+/// How pictures of these settings are cut into slices.
+fn layout_for(settings: &Settings) -> Layout
+    requires { IsSettings settings.now }
+    ensures { IsLayoutOf result settings.now.width settings.now.height settings.now.log2 settings.now.interlace settings.now.chroma }
+{
+    match Layout::new(
+        settings.width,
+        settings.height,
+        settings.log2,
+        settings.interlace,
+        settings.chroma,
+    ) {
+        Ok(layout) => layout,
+        Err(_) => unreachable!(),
+    }
+}
+
 /// Reads the movie's tables and the head of the pictures, and checks all records with them; the answer is how many there are.
 ///
 /// The error is how checking ends.
@@ -468,18 +485,10 @@ fn check_with<S: ByteSource, M: ByteStore>(
     if !has_head(&settings, &shown.head()) {
         return Err(refused);
     }
-    match Layout::new(
-        settings.width,
-        settings.height,
-        settings.log2,
-        settings.interlace,
-        settings.chroma,
-    ) {
-        Ok(layout) => check_groups(
-            alloc, &layout, records, proof, &reader, movie, &mut shown, pictures,
-        ),
-        Err(_) => unreachable!(),
-    }
+    let layout = layout_for(&settings);
+    check_groups(
+        alloc, &layout, records, proof, &reader, movie, &mut shown, pictures,
+    )
 }
 
 /// Reads a proof to its end, and checks it with a movie and pictures; the answer is how many records it has.

@@ -2,6 +2,7 @@
 
 ghost use Rattle.run_look.specs.Checking.{EndsOnce};
 ghost use Rattle.run_look.specs.Agreeing.{DoneOnce};
+ghost use Rattle.run_look.specs.Reproofing.{StaysAsItIs};
 
 use pr_frame::{frame_has_no_fault, one_frame};
 
@@ -17,3 +18,8 @@ pub fn agreeing_is_done_once()
     one_frame();
     frame_has_no_fault();
 }
+
+/// A proof of format 2 without a fault comes out byte for byte, and no clause is refused.
+pub fn proof_stays_as_it_is()
+    ensures { StaysAsItIs }
+{}

@@ -12,10 +12,11 @@ mod listing;
 mod reproof;
 #[cfg(test)]
 mod tests;
+mod through;
 
 pub use agreeing::check_run;
 pub use checking::check_proof_run;
 pub use end::LookEnd;
-pub use laws::{agreeing_is_done_once, checking_ends_once};
+pub use laws::{agreeing_is_done_once, checking_ends_once, proof_stays_as_it_is};
 pub use listing::list_run;
 pub use reproof::reproof_run;

@@ -4,7 +4,7 @@ ghost use Rattle.std.specs.Prelude.{◌≡◌, ◌↔◌, ◌≤◌, suc, IsSome
 ghost use Rattle.std.specs.Bool.{OnTrue};
 ghost use Rattle.std.specs.Io.KnownBytes.{IsAtEnd};
 ghost use Rattle.std.specs.List.{flat_map};
-ghost use Rattle.pw_outside.specs.Ports.{CountsFault};
+ghost use Rattle.pw_outside.specs.Ports.{CountsFault, GoesOn};
 ghost use Rattle.pw_outside.specs.Reading.{Told, rest_of};
 ghost use Rattle.pw_outside.specs.Writing.{sink_state, Puts, PutsFront};
 ghost use Rattle.rate_cert.specs.Settings.{IsSettings};
@@ -13,10 +13,11 @@ ghost use Rattle.rate_cert.specs.Laws.{AreWritten};
 ghost use Rattle.run_look.specs.declared.end.LookEnd.TheVariants as ends;
 ghost use Rattle.run_look.specs.Ends.{is_done, is_read_fault, is_write_fault, is_stopped_by_source, AnswersUnlessOutside, IsReadersEnd};
 ghost use Rattle.run_look.specs.Listing.{Extends};
-ghost use Rattle.run_look.specs.Reproofing.{keeps_order, KeepsOrder, NextInOrder, rewritten_at, reproofed, reproof_text, end_of, EndsAs, CountsFaults, PutsUntil, SaysTheSame};
+ghost use Rattle.run_look.specs.Reproofing.{keeps_order, KeepsOrder, NextInOrder, rewritten_at, reproofed, reproof_text, end_of, EndsAs, CountsFaults, PutsUntil, SaysTheSame, IsProofIn};
 
 use crate::checking::print_records;
 use crate::end::LookEnd;
+use crate::through::Through;
 use pw_outside::{ByteSink, ByteSource, Failed};
 use rate_cert::{FrameProof, ProofReader, ProofWriter, Verdict};
 use rate_check::are_in_order;
@@ -56,6 +57,7 @@ fn next_in_order<S: ByteSource>(
     ensures after { IfOk result (λ p. (reader.new.settings ≡ reader.old.settings) × (reader.new.format ≡ reader.old.format)
         × (reader.new.progress ≡ after reader.old.settings reader.old.progress p)) }
     ensures ended { IfOk result (λ p. IfSome p (λ _. reader.new.ended ≡ false)) }
+    ensures becomes { GoesOn S.becomes proof.old proof.new }
     ensures read { CountsFault (S.faults proof.old) (S.faults proof.new) (is_stopped_by_source result) }
 {
     let Some(group) = reader.next(alloc, proof)? else {
@@ -93,6 +95,7 @@ fn rewrite_records<S: ByteSource, K: ByteSink>(
     ensures few { IfOk result (λ n. (n ≤ most_records) × (writer.new.progress.count ≡ n)) }
     ensures not_done { IfErr result (λ end. is_done end ≡ false) }
     ensures whole { OnOk result (IsAtEnd (S.left proof.new)) }
+    ensures becomes { GoesOn S.becomes proof.old proof.new }
     ensures read { CountsFault (S.faults proof.old) (S.faults proof.new) (is_stopped_by_source result) }
     ensures write { CountsFault (K.faults cert.old) (K.faults cert.new) (is_write_fault (end_of result)) }
 {
@@ -133,6 +136,7 @@ fn rewrite<S: ByteSource, K: ByteSink>(
     ensures extends { Extends (sink_state (K.held cert.old) (K.taken cert.old)) (sink_state (K.held cert.new) (K.taken cert.new)) }
     ensures not_done { IfErr result (λ end. is_done end ≡ false) }
     ensures whole { OnOk result (IsAtEnd (S.left proof.new)) }
+    ensures becomes { GoesOn S.becomes proof.old proof.new }
     ensures settled { OnOk result (K.settled cert.new ≡ K.taken cert.new) }
     ensures read { CountsFault (S.faults proof.old) (S.faults proof.new) (is_stopped_by_source result) }
     ensures write { CountsFault (K.faults cert.old) (K.faults cert.new) (is_write_fault (end_of result)) }
@@ -168,6 +172,9 @@ pub fn reproof_run<S: ByteSource, K: ByteSink>(
         (sink_state (K.held text.old) (K.taken text.old)) (sink_state (K.held text.new) (K.taken text.new))) }
     // After Done what was written has the settings and the records of what was read.
     ensures same { Told (S.left proof.old) (λ bytes. OnTrue (is_done result) (SaysTheSame bytes (reproofed bytes).cert)) }
+    // A proof of format 2 comes out byte for byte: after Done what was written is what was read.
+    ensures unchanged { Told (S.left proof.old) (λ bytes. OnTrue (is_done result) (IsProofIn 2 bytes
+        → Puts (sink_state (K.held cert.old) (K.taken cert.old)) (sink_state (K.held cert.new) (K.taken cert.new)) bytes)) }
     // Whether the proof's bytes are told or not, both outputs extend what was held.
     ensures cert_extends { Extends (sink_state (K.held cert.old) (K.taken cert.old)) (sink_state (K.held cert.new) (K.taken cert.new)) }
     ensures text_extends { Extends (sink_state (K.held text.old) (K.taken text.old)) (sink_state (K.held text.new) (K.taken text.new)) }
@@ -178,7 +185,8 @@ pub fn reproof_run<S: ByteSource, K: ByteSink>(
     ensures read { CountsFault (S.faults proof.old) (S.faults proof.new) (is_read_fault result) }
     ensures write { CountsFaults (K.faults cert.old) (K.faults cert.new) (K.faults text.old) (K.faults text.new) (is_write_fault result) }
 {
-    match rewrite(alloc, proof, cert) {
+    let mut through = Through::new(proof);
+    match rewrite(alloc, &mut through, cert) {
         Ok(records) => print_records(alloc, records, "\n", text),
         Err(end) => end,
     }

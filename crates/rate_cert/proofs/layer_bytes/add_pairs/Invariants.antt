@@ -1,10 +1,8 @@
-use Rattle.std.proofs.Common.{◌≡◌, ◌≤◌, ◌∷◌, List, map, drop, Vec, Global}
+use Rattle.std.proofs.Common.{◌≡◌, ◌≤◌, drop}
 use Rattle.std.specs.List.{flat_map}
 use Rattle.pw_outside.specs.Writing.{sink_state}
-use Rattle.rate_table.specs.declared.entry.Pair.{Pair}
-use Rattle.rate_table.specs.Pairs.{RisesAndFalls}
-use Rattle.rate_cert.specs.Layers.{pair_bytes, steps_bytes, layer_bytes}
-use Rattle.rate_cert.proofs.Gathering.{Partly, pairs_in}
+use Rattle.rate_cert.specs.Layers.{pair_bytes}
+use Rattle.rate_cert.proofs.Gathering.{Partly}
 use Rattle.rate_cert.proofs.layer_bytes.add_pairs.Given as goal
 
 abbrev pub invariant-loop-pair : goal.invariant-loop-pair

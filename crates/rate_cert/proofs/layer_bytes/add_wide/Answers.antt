@@ -1,4 +1,3 @@
-use Rattle.std.proofs.Common.{refl}
 use Rattle.std.specs.List.{flat_map}
 use Rattle.rate_cert.specs.Layers.{pair_bytes, wide_bytes}
 use Rattle.rate_cert.proofs.Gathering.{err-any, one_front, two_front, gathers_two, wide_whole}

@@ -1,4 +1,4 @@
-use Rattle.std.proofs.Common.{◌∷◌, [], ◌++◌, ℕ, ◌-◌, ◌+◌, ◌/◌, ◌%◌, ◌∙◌, ◌≡◌, List, sym, ap, arith, rules, length-append}
+use Rattle.std.proofs.Common.{◌++◌, ℕ, ◌-◌, ◌+◌, ◌/◌, ◌%◌, ◌∙◌, List, ap, arith, rules}
 use Rattle.rate_cert.specs.Numbers.{groups_of, number_bytes}
 use Rattle.rate_cert.proofs.Spelling.{spelled-start, spelled-last, spelled-end, spelled-more, small-first, small-more, small-last}
 use Rattle.rate_cert.proofs.layer_bytes.push_number.Goals as goal

@@ -19,6 +19,7 @@ loop-group-init g c = record {
   going = c.requires.going;
   told = λ h. h;
   so_far = so_far-none _ _ _ _ _ _ c.requires.fresh (puts_none _ (search rules));
+  becomes = λ first h. h;
   cause = refl;
   cert_cause = refl;
 }
@@ -83,6 +84,7 @@ loop-group-preserved-in-Ok g c =
       going = search rules;
       told = λ h. c.in_ok-group.ensures.told (i.told h);
       so_far = so_far-more i.so_far _ _ _ c.in-Some.group (λ h. from-on _ c.next_in_order.new.reader.format _ c.next_in_order.new.reader.settings _ c.next_in_order.new.reader.progress _ (rest_of c.next_in_order.new.reader.place (g.S.ByteSource.left c.next_in_order.new.proof)) c.in_ok-group.field-0 c.in-Some.group c.in-Some.is (c.in_ok-group.ensures.answer (i.told h)) e.1 e.0 e.2 few) both.0 both.1 progress (rw format at c.in-Ok.ensures.ok);
+      becomes = λ first h. c.in_ok-group.ensures.becomes first (i.becomes first h);
       cause = search rules;
       cert_cause = search rules;
     }
@@ -109,6 +111,7 @@ loop-group-preserved g c =
       going = search rules;
       told = λ h. c.in_ok-group.ensures.told (i.told h);
       so_far = so_far-more i.so_far _ _ _ c.in-Some.group (λ h. from-on _ c.next_in_order.new.reader.format _ c.next_in_order.new.reader.settings _ c.next_in_order.new.reader.progress _ (rest_of c.next_in_order.new.reader.place (g.S.ByteSource.left c.next_in_order.new.proof)) c.in_ok-group.field-0 c.in-Some.group c.in-Some.is (c.in_ok-group.ensures.answer (i.told h)) e.1 e.0 e.2 few) both.0 both.1 progress (rw format at c.in-Ok.ensures.ok);
+      becomes = λ first h. c.in_ok-group.ensures.becomes first (i.becomes first h);
       cause = search rules;
       cert_cause = search rules;
     }

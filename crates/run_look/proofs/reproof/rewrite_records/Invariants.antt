@@ -1,5 +1,6 @@
 use Rattle.std.proofs.Common.{◌≡◌, ◌≤◌, suc, false}
 use Rattle.std.specs.Prelude.{IsSome}
+use Rattle.pw_outside.specs.Ports.{GoesOn}
 use Rattle.pw_outside.specs.Reading.{rest_of}
 use Rattle.pw_outside.specs.Writing.{sink_state}
 use Rattle.rate_cert.specs.Files.{most_records, no_records}
@@ -20,6 +21,7 @@ invariant-loop-group g l = record {
       (sink_state (g.K.ByteSink.held l.initial.cert) (g.K.ByteSink.taken l.initial.cert)) (sink_state (g.K.ByteSink.held l.cert) (g.K.ByteSink.taken l.cert))
       (rewritten_at (suc most_records) l.initial.reader.format l.initial.reader.settings no_records (rest_of l.initial.reader.place (g.S.ByteSource.left l.initial.proof)))
       (rewritten_from l.reader.format l.reader.settings l.reader.progress (rest_of l.reader.place (g.S.ByteSource.left l.proof)));
+  becomes : GoesOn g.S.ByteSource.becomes l.initial.proof l.proof;
   cause : g.S.ByteSource.faults l.proof ≡ g.S.ByteSource.faults l.initial.proof;
   cert_cause : g.K.ByteSink.faults l.cert ≡ g.K.ByteSink.faults l.initial.cert;
 }
