@@ -24,7 +24,7 @@ FrameIsReady j c = (choice : List Entry) → IsChoice (slice_tables j c) choice
 module _ (j : Job) where
   module _ (frame-size : FrameHasTableSize) (frame-length : WrittenHasLength) (frame-stands : WrittenStands) where
     -- the size of a frame
-    one-size : (c : FrameCoefficients) (choice : List Entry) → IsFrameOf j c → FrameIsReady j c → IsChoice (slice_tables j c) choice
+    pub one-size : (c : FrameCoefficients) (choice : List Entry) → IsFrameOf j c → FrameIsReady j c → IsChoice (slice_tables j c) choice
         → length (written (coded_frame c (header_in j) (indices choice))) ≡ fixed_bytes j.layout + size_of choice
     one-size c choice is ready h =
         frame-length (coded_frame c (header_in j) (indices choice)) (ready choice h).0.header

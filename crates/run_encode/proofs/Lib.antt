@@ -1,29 +1,29 @@
-mod Sinks
-mod Cutting
-mod Shares
-mod Grouped
-mod Layouts
-mod Looping
-mod Ending
-mod Turning
-mod Running
-mod Beginning
-mod Extending
-mod Printing
-mod Gathering
-mod FramesLeft
-mod Sums
-mod Opening
-mod Lining
-mod Framed
-mod Ready
-mod Holding
-mod Numbered
-mod Tabled
-mod Below
-mod Proving
-mod Whole
-mod Going
-mod Headlines
-mod Strong
-mod Alone
+pub mod Sinks
+pub mod Cutting
+pub mod Shares
+pub mod Grouped
+pub mod Layouts
+pub mod Looping
+pub mod Ending
+pub mod Turning
+pub mod Running
+pub mod Beginning
+pub mod Extending
+pub mod Printing
+pub mod Gathering
+pub mod FramesLeft
+pub mod Sums
+pub mod Opening
+pub mod Lining
+pub mod Framed
+pub mod Ready
+pub mod Holding
+pub mod Numbered
+pub mod Tabled
+pub mod Below
+pub mod Proving
+pub mod Whole
+pub mod Going
+pub mod Headlines
+pub mod Strong
+pub mod Alone

@@ -38,14 +38,14 @@ shares-number n [] choice = refl
 shares-number n (x ∷ xs) choice = ap suc (shares-number n xs (drop n choice))
 
 -- a group has a frame for each picture
-frames-number : (j : Job) (g : Group) → length (frames_of j g) ≡ length g.pictures
+pub frames-number : (j : Job) (g : Group) → length (frames_of j g) ≡ length g.pictures
 frames-number j g =
     length-map (coded_group j (map (coefficients_in j) g.pictures) (map (λ e. e.index) g.choice)) written
     ∙ length-map (shares (frame_slices j) (map (coefficients_in j) g.pictures) (map (λ e. e.index) g.choice)) _
     ∙ shares-number (frame_slices j) (map (coefficients_in j) g.pictures) (map (λ e. e.index) g.choice)
     ∙ length-map g.pictures (coefficients_in j)
 
-abbrev GroupIs : Job → Group → Type 0
+abbrev pub GroupIs : Job → Group → Type 0
 GroupIs j g = GroupHolds j g.pictures (frames_of j g) (printed_of g)
 
 -- group k of what front and these items have together is the items, where the front has k whole groups
@@ -88,7 +88,7 @@ module _ (j : Job) (ps : List Picture) where
       ∙ ap (λ rs. record_of_printed j (group_at j.group ps k) (printed_of g) ∷ rs) (records-are (k + 1) gs others)
 
 -- how many frames groups have
-all-number : (j : Job) (gs : List Group) → length (all_frames j gs) ≡ length (flat_map (λ g. g.pictures) gs)
+pub all-number : (j : Job) (gs : List Group) → length (all_frames j gs) ≡ length (flat_map (λ g. g.pictures) gs)
 all-number j [] = refl
 all-number j (g ∷ gs) =
     length-append (frames_of j g) (all_frames j gs) ∙ ap (λ n. n + length (all_frames j gs)) (frames-number j g)
@@ -179,18 +179,18 @@ module _ (j : Job) (is : IsJob j) (all : Pictures) (are : ArePictures j.head all
   -- ---- the first groups
 
   module _ (coded : List Group) (first : AreFirst j all coded) where
-    abbrev frames : List (List ℕ)
+    abbrev pub frames : List (List ℕ)
     frames = all_frames j coded
 
-    bound : j.group * length coded < length all.pictures + j.group
+    pub bound : j.group * length coded < length all.pictures + j.group
     bound = count-bound j.group (length coded) (length all.pictures) all.fault is.some_group first.few
 
     -- the pictures of these groups are the front of all
-    front-is : flat_map (λ g. g.pictures) coded ≡ take (j.group * length coded) all.pictures
+    pub front-is : flat_map (λ g. g.pictures) coded ≡ take (j.group * length coded) all.pictures
     front-is = let z : j.group * 0 ≡ 0 = omega arith in
         concat-groups (λ g. g.pictures) j.group all.pictures 0 coded first.pictures ∙ ap (λ n. take (j.group * length coded) (drop n all.pictures)) z
 
-    frames-count : length frames ≡ min (j.group * length coded) (length all.pictures)
+    pub frames-count : length frames ≡ min (j.group * length coded) (length all.pictures)
     frames-count = all-number j coded ∙ ap length front-is ∙ length-take (j.group * length coded) all.pictures
 
     full : Fulls (λ g. g.pictures) j.group coded
@@ -204,7 +204,7 @@ module _ (j : Job) (is : IsJob j) (all : Pictures) (are : ArePictures j.head all
         let n : length frames ≡ j.group * length coded = omega (arith, frames-count, h) in
         n ∙ ap (λ k. j.group * k) (sym (length-map coded printed_of))
 
-    records : map (record_in j) coded ≡ records_in j all.pictures (map printed_of coded)
+    pub records : map (record_in j) coded ≡ records_in j all.pictures (map printed_of coded)
     records = records-are j all.pictures 0 coded first.pictures
 
     -- what stands in front of the end of a proof
@@ -215,13 +215,13 @@ module _ (j : Job) (is : IsJob j) (all : Pictures) (are : ArePictures j.head all
     printed-number : length (map printed_of coded) ≡ length coded
     printed-number = length-map coded printed_of
 
-    each-holds : AllByRecursion (GroupIs j) coded
+    pub each-holds : AllByRecursion (GroupIs j) coded
     each-holds = groups-hold 0 coded (let h = first.few in omega (arith, h)) (recursion_from_All (IsCoded j) coded first.each) first.pictures
 
     hold : GroupsHold j 0 all.pictures frames (map printed_of coded)
     hold = all-hold j all.pictures 0 [] coded (let z : 0 ≡ j.group * 0 = omega arith in z) full first.pictures each-holds
 
-    below : (room : ℕ) → j.group * j.budget ≤ room → All (λ frame. length frame ≤ room) frames
+    pub below : (room : ℕ) → j.group * j.budget ≤ room → All (λ frame. length frame ≤ room) frames
     below room le = All-from_recursion (λ frame. length frame ≤ room) frames (frames-below j room le coded (groups-few j all 0 coded first.pictures) each-holds)
 
     single : j.group ≡ 1 → All (λ frame. length frame ≤ j.budget) frames
@@ -262,7 +262,7 @@ module _ (j : Job) (is : IsJob j) (all : Pictures) (are : ArePictures j.head all
       each-written narrow = groups-written f 0 coded (let h = first.few in omega (arith, h)) (recursion_from_All (IsCoded j) coded first.each)
           (recursion_from_All (IsNarrow j) coded narrow) first.pictures
 
-      whole-proved : All (IsNarrow j) coded → Proves j (proof_bytes j.format (settings_of j) (map (record_in j) coded)) (records_in j all.pictures (map printed_of coded))
+      pub whole-proved : All (IsNarrow j) coded → Proves j (proof_bytes j.format (settings_of j) (map (record_in j) coded)) (records_in j all.pictures (map printed_of coded))
       whole-proved narrow =
           let few = count-few j.group (length coded) (length all.pictures) is.some_group bound in
           let most = are.few in

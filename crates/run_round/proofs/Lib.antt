@@ -1,0 +1,11 @@
+pub mod Beside
+pub mod Following
+pub mod Heads
+pub mod Jobs
+pub mod Parts
+pub mod Movies
+pub mod Groups
+pub mod Agreeing
+pub mod Checked
+pub mod Decoded
+pub mod Alone

@@ -1,0 +1,68 @@
+//! Laws of whole rounds, over the definitions alone. The functions do nothing; their contracts are the laws.
+
+ghost use Rattle.run_round.specs.Laws.{EncodedIsChecked, EncodedIsDecoded, CheckedIsCheckedAlone, CheckedIsCountedOnce};
+
+use pic_raw::pictures_have_form;
+use pr_frame::{written_has_length, written_stands};
+use pr_quant::laws::named_weights_are_in_range;
+use qt_movie::{written_frames_are_read, written_movie_is_read, written_samples_are_read};
+use rate_build::{
+    coded_can_be_written, coefficients_are_of_layout, frame_has_table_size, group_table_is_table,
+};
+use rate_cert::proof_is_read_again;
+use rate_layers::{kept_is_good, multiplier_exists, multiplier_is_one};
+use rate_table::{good_is_least, none_fits_below_least};
+use run_look::checking_ends_once;
+
+/// Where encoding is done, checking is done: of its proof by itself, and of its proof with its movie and the pictures that were
+/// encoded. There is one record for each group.
+pub fn encoded_is_checked()
+    ensures { EncodedIsChecked }
+{
+    named_weights_are_in_range();
+    pictures_have_form();
+    coefficients_are_of_layout();
+    group_table_is_table();
+    coded_can_be_written();
+    frame_has_table_size();
+    written_has_length();
+    written_stands();
+    kept_is_good();
+    good_is_least();
+    written_movie_is_read();
+    written_samples_are_read();
+    written_frames_are_read();
+    none_fits_below_least();
+    multiplier_exists();
+    multiplier_is_one();
+    proof_is_read_again();
+}
+
+/// Where encoding is done, decoding its movie is done, at every depth and in either form. There is one picture for each that was
+/// encoded; it is what that one's coded frame shows, and it has the form and the rate of those that were encoded.
+pub fn encoded_is_decoded()
+    ensures { EncodedIsDecoded }
+{
+    named_weights_are_in_range();
+    pictures_have_form();
+    coefficients_are_of_layout();
+    group_table_is_table();
+    coded_can_be_written();
+    frame_has_table_size();
+    written_has_length();
+    written_stands();
+    kept_is_good();
+    good_is_least();
+    written_movie_is_read();
+    written_samples_are_read();
+    written_frames_are_read();
+}
+
+/// Where checking a proof with a movie and pictures is done, checking it by itself is done, too, of as many records; so these are counted
+/// in one way.
+pub fn checked_is_checked_alone()
+    ensures alone { CheckedIsCheckedAlone }
+    ensures once { CheckedIsCountedOnce }
+{
+    checking_ends_once();
+}

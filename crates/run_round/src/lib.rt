@@ -1,0 +1,6 @@
+//! Whole rounds: what encoding gives is accepted by checking and shown by decoding. Laws alone, over the definitions of the three runs.
+#![tactic(auto)]
+
+mod laws;
+
+pub use laws::{checked_is_checked_alone, encoded_is_checked, encoded_is_decoded};
