@@ -28,16 +28,6 @@ items_of vs = map (λ v. v.items) vs
 pub element : (vs : List (Vec Pair Global)) (k : ℕ) (v : Vec Pair Global) (xs : List Pair) → k < length vs → v ≡ get_or vs k v → xs ≡ v.items → xs ≡ get_or (items_of vs) k []
 element vs k v xs n is e = e ∙ ap (λ (w : Vec Pair Global). w.items) is ∙ sym (get_or-map (λ (w : Vec Pair Global). w.items) vs k v [] n)
 
--- the marks of each vector
-abbrev pub marks_in : List (Vec Bool Global) → List (List Bool)
-marks_in vs = map (λ v. v.items) vs
-
-pub mark_element : (vs : List (Vec Bool Global)) (k : ℕ) (v : Vec Bool Global) (xs : List Bool) → k < length vs → v ≡ get_or vs k v → xs ≡ v.items → xs ≡ get_or (marks_in vs) k []
-mark_element vs k v xs n is e = e ∙ ap (λ (w : Vec Bool Global). w.items) is ∙ sym (get_or-map (λ (w : Vec Bool Global). w.items) vs k v [] n)
-
-pub marks_push : (vs : List (Vec Bool Global)) (v : Vec Bool Global) → marks_in (vs ++ v ∷ []) ≡ marks_in vs ++ v.items ∷ []
-marks_push vs v = map_push (λ (w : Vec Bool Global). w.items) vs v
-
 -- the entries of a slice, as an element of the table's
 pub entries_at : (t : Table) (slices : List (List Entry)) (k : ℕ) (s entries : List Entry) → slices ≡ t.slices → k < length t.slices → s ≡ get_or slices k s → entries ≡ s → entries ≡ get_or t.slices k []
 entries_at t slices k s entries same n is e = e ∙ is ∙ ap (λ l. get_or l k s) same ∙ get_or_default t.slices k s [] n
@@ -68,6 +58,10 @@ module _ (t : Table) (m u : ℕ) (goal : Pair) (layers : List (List Pair)) (foun
 
   pub goal_below : goal.error ≤ u
   goal_below = let s = found.some in omega (arith, (goal_least s.0 s.1 s.2 s.3).0, s.3)
+
+  -- no fitting choice has less error
+  pub goal_all : (other : List Entry) → IsChoice t.slices other → Fits t other → goal.error ≤ error_of other
+  goal_all other i f = ⊎_elim (λ b. omega (arith, goal_below)) (λ b. (goal_least other i f b).0) (cases_lt u (error_of other))
 
   pub goal_optimal : IsOptimal t goal
   goal_optimal other i f d =

@@ -20,3 +20,5 @@ pub mod Concluded
 pub mod Thinning
 pub mod Passings
 pub mod Marked
+pub mod InWords
+pub mod Guessed

@@ -1,6 +1,7 @@
 //! Layers of undominated pairs under a bound, the multiplier of a table, and the laws of both.
 #![tactic(auto)]
 
+mod bits;
 mod bound;
 mod fault;
 mod laws;

@@ -10,26 +10,27 @@ ghost use Rattle.rate_layers.specs.First.{IsFirst};
 ghost use Rattle.rate_layers.specs.Layers.{Rises};
 ghost use Rattle.rate_layers.specs.Live.{marked, LeadsOn, IsFirstOn, AreFound, AreMarked};
 
+use crate::bits::Marks;
 use crate::marks::marks_before;
 use crate::places::place_of;
 use rate_table::{Entry, FrameTable, Pair};
 use std::alloc::{AllocError, Global};
 
 /// Whether the pair joined with the entry is a marked one of these pairs, of rising sizes.
-fn leads(next: &[Pair], marks: &[bool], p: Pair, x: Entry) -> bool
+fn leads(next: &[Pair], marks: &Marks, p: Pair, x: Entry) -> bool
     requires rises { Rises next.now }
     requires count { length marks.now ≡ length next.now }
     ensures { IsTrue result ↔ Contains (marked marks.now next.now) (joined p x) }
 {
     let size = u64::from(p.size) + u64::from(x.size);
     match place_of(next, size, u128::from(p.error) + u128::from(x.error)) {
-        Some(at) => marks[at],
+        Some(at) => marks.get(at),
         None => false,
     }
 }
 
 /// The first entry of the slice that leads from the pair to a marked one of these pairs.
-fn first_lead(slice: &[Entry], next: &[Pair], marks: &[bool], p: Pair) -> Option<Entry>
+fn first_lead(slice: &[Entry], next: &[Pair], marks: &Marks, p: Pair) -> Option<Entry>
     requires indices { IndicesRise slice.now }
     requires next { Rises next.now }
     requires count { length marks.now ≡ length next.now }
@@ -45,13 +46,12 @@ fn first_lead(slice: &[Entry], next: &[Pair], marks: &[bool], p: Pair) -> Option
 }
 
 /// So many marks, of which the last alone is set.
-fn last_marked(alloc: Global, count: usize) -> Result<Vec<bool>, AllocError>
+fn last_marked(alloc: Global, count: usize) -> Result<Marks, AllocError>
     requires { 0 < count }
-    ensures { IfOk result (λ v. v.items ≡ replicate (count - 1) false ++ true ∷ []) }
+    ensures { IfOk result (λ m. m ≡ replicate (count - 1) false ++ true ∷ []) }
 {
-    let mut marks = Vec::with_capacity(alloc, count)?;
-    marks.resize(count - 1, false)?;
-    marks.push(true)?;
+    let mut marks = Marks::new(alloc, count)?;
+    marks.set(count - 1);
     Ok(marks)
 }
 
@@ -61,9 +61,9 @@ fn marks_of(
     table: &FrameTable,
     layers: &[Vec<Pair>],
     goal: Pair,
-) -> Result<Vec<Vec<bool>>, AllocError>
+) -> Result<Vec<Marks>, AllocError>
     requires { (m u : ℕ) × AreFound table.now m u goal (map (λ l. l.items) layers.now) }
-    ensures { IfOk result (λ v. AreMarked table.now goal (map (λ l. l.items) layers.now) (map (λ l. l.items) v.items)) }
+    ensures { IfOk result (λ v. AreMarked table.now goal (map (λ l. l.items) layers.now) v.items) }
 {
     let slices = table.slices.as_slice();
     let mut marks = Vec::new(alloc);
@@ -88,10 +88,10 @@ fn walk(
     alloc: Global,
     table: &FrameTable,
     layers: &[Vec<Pair>],
-    marks: &[Vec<bool>],
+    marks: &[Marks],
     goal: Pair,
 ) -> Result<Vec<u8>, AllocError>
-    requires { AreMarked table.now goal (map (λ l. l.items) layers.now) (map (λ l. l.items) marks.now) }
+    requires { AreMarked table.now goal (map (λ l. l.items) layers.now) marks.now }
     ensures { IfOk result (λ v. (c : List Entry) × IsFirst table.now.slices goal c × (v.items ≡ indices c)) }
 {
     let slices = table.slices.as_slice();

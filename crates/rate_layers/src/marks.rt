@@ -7,6 +7,7 @@ ghost use Rattle.rate_table.specs.Pairs.{joined};
 ghost use Rattle.rate_layers.specs.Layers.{Rises};
 ghost use Rattle.rate_layers.specs.Live.{MarkedMore, MarkedOn, LeadsAt};
 
+use crate::bits::Marks;
 use crate::places::place_of;
 use rate_table::{Entry, Pair};
 use std::alloc::{AllocError, Global};
@@ -29,7 +30,7 @@ fn source_of(layer: &[Pair], x: Entry, q: Pair) -> Option<usize>
 }
 
 /// Marks the pairs of a layer from which an entry of the slice leads to this pair.
-fn mark_sources(marks: &mut [bool], layer: &[Pair], slice: &[Entry], q: Pair)
+fn mark_sources(marks: &mut Marks, layer: &[Pair], slice: &[Entry], q: Pair)
     requires layer { Rises layer.now }
     requires count { length marks.old ≡ length layer.now }
     ensures count { length marks.new ≡ length layer.now }
@@ -37,7 +38,7 @@ fn mark_sources(marks: &mut [bool], layer: &[Pair], slice: &[Entry], q: Pair)
 {
     for x in slice {
         if let Some(at) = source_of(layer, *x, q) {
-            marks[at] = true;
+            marks.set(at);
         }
     }
 }
@@ -49,16 +50,15 @@ pub fn marks_before(
     layer: &[Pair],
     slice: &[Entry],
     next: &[Pair],
-    next_marks: &[bool],
-) -> Result<Vec<bool>, AllocError>
+    next_marks: &Marks,
+) -> Result<Marks, AllocError>
     requires layer { Rises layer.now }
     requires count { length next_marks.now ≡ length next.now }
-    ensures { IfOk result (λ v. MarkedOn slice.now next.now next_marks.now layer.now v.items) }
+    ensures { IfOk result (MarkedOn slice.now next.now next_marks.now layer.now) }
 {
-    let mut marks = Vec::new(alloc);
-    marks.resize(layer.len(), false)?;
+    let mut marks = Marks::new(alloc, layer.len())?;
     for i in 0..next.len() {
-        if next_marks[i] {
+        if next_marks.get(i) {
             mark_sources(&mut marks, layer, slice, next[i]);
         }
     }

@@ -1,8 +1,9 @@
 //! A table whose errors count several times.
 
-ghost use Rattle.std.specs.Prelude.{◌≡◌, ◌<◌, ◌≤◌, ◌^◌, IfOk, length};
+ghost use Rattle.std.specs.Prelude.{◌≡◌, ◌<◌, ◌≤◌, ◌^◌, IfOk, IfSome, map};
 ghost use Rattle.std.specs.List.{All};
 ghost use Rattle.rate_table.specs.Table.{IsEntry, IsSlice};
+ghost use Rattle.rate_layers.specs.Multiplied.{counted, counted_slices};
 
 use rate_table::{Entry, FrameTable, SliceTable, Slices};
 use std::alloc::{AllocError, Global};
@@ -13,8 +14,8 @@ const MOST: u64 = (1 << 43) - 1;
 /// The entry with its error so many times, or the greatest error.
 fn entry_of(x: &Entry, times: u64) -> Entry
     requires { IsEntry x.now }
+    ensures counted { result ≡ counted times x.now }
     ensures entry { IsEntry result }
-    ensures index { result.index ≡ x.now.index }
 {
     Entry {
         index: x.index,
@@ -25,7 +26,8 @@ fn entry_of(x: &Entry, times: u64) -> Entry
 
 fn slice_of(entries: &[Entry], times: u64) -> SliceTable
     requires { IsSlice entries.now }
-    ensures { IsSlice result }
+    ensures counted { result ≡ map (counted times) entries.now }
+    ensures slice { IsSlice result }
 {
     let mut slice = SliceTable::one(entry_of(&entries[0], times));
     for i in 1..entries.len() {
@@ -40,7 +42,7 @@ fn slices_of(
     times: u64,
 ) -> Result<Vec<SliceTable>, AllocError>
     requires { All IsSlice slices.now }
-    ensures count { IfOk result (λ v. length v.items ≡ length slices.now) }
+    ensures counted { IfOk result (λ v. v.items ≡ counted_slices times slices.now) }
     ensures each { IfOk result (λ v. All IsSlice v.items) }
 {
     let mut all = Vec::with_capacity(alloc, slices.len())?;
@@ -52,7 +54,9 @@ fn slices_of(
 
 /// The table whose entries have their errors so many times; an error that is too great for an entry is the greatest one.
 /// `None` where memory ran out.
-pub fn multiplied(alloc: Global, table: &FrameTable, times: u64) -> Option<FrameTable> {
+pub fn multiplied(alloc: Global, table: &FrameTable, times: u64) -> Option<FrameTable>
+    ensures { IfSome result (λ t. t ≡ record { budget = table.now.budget; fixed = table.now.fixed; slices = counted_slices times table.now.slices }) }
+{
     let slices = slices_of(alloc, table.slices.as_slice(), times).ok()?;
     Some(FrameTable {
         budget: table.budget,

@@ -188,9 +188,11 @@ fn times_of(multiplier: u64) -> u64
 
 /// The error of the best choice, found over the table whose errors count so many times. Whole multipliers are fractions
 /// there, and their bounds keep far fewer pairs where the table's own is small. `None` where nothing was found.
-/// It is a guess: whoever takes it tries it.
+/// It is a guess, since errors of that table may have been cut: whoever takes it tries it.
 fn guess(alloc: Global, table: &FrameTable, times: u64) -> Option<u64>
     requires { 1 ≤ times }
+    // No fitting choice has less error.
+    ensures { IfSome result (λ e. (c : List Entry) → IsChoice table.now.slices c → Fits table.now c → e ≤ error_of c) }
 {
     let finer = multiplied(alloc, table, times)?;
     let multiplier = fitting_multiplier(&finer)?;
@@ -201,8 +203,9 @@ fn guess(alloc: Global, table: &FrameTable, times: u64) -> Option<u64>
 }
 
 /// The layers that some error keeps that a fitting choice has. Where the multiplier is small, the first error that is
-/// tried is guessed: it is that of the best choice, so no layers are made that aren't needed. Where those are too many,
-/// no smaller error would serve.
+/// tried is guessed, and it is never above that of the best choice. Where its layers are too many, no smaller error would
+/// serve, and a greater one keeps no fewer. It is that of the best choice, and no layers are made that aren't needed, unless
+/// an error was cut in the finer table; then it may be too small, and the stages follow.
 fn find(alloc: Global, table: &FrameTable, multiplier: u64) -> Result<Found, BestFault>
     requires { IsMultiplier table.now multiplier }
     ensures found { IfOk result (λ f. (u : ℕ) × AreFound table.now multiplier u f.goal (map (λ l. l.items) f.layers.items)) }
@@ -246,10 +249,11 @@ fn best_fit(alloc: Global, table: &FrameTable) -> Result<Outcome, BestFault>
 
 /// The best choice of a table: the fitting one of least error, then of least size, then the first in the order of
 /// index lists; with the layers and the multiplier that show that none has less error. `None` where no choice fits.
-/// The layers take 16 bytes a pair, those that are returned no more. While it searches it holds at most 2^25 pairs of
-/// finished layers, with two vectors for the layer at work, of up to 32 bytes for each pair of the longest half-merged
-/// layer, and where the multiplier is small a second table, until the optimum's error is found; while the choice is
-/// found, a mark of one byte for each pair beside the layers.
+/// The layers take 16 bytes a pair and up to 48 bytes a layer; those that are returned no more, since they give back what a
+/// wider pass had reserved. While it searches it holds at most 2^25 pairs of finished layers, with two vectors for the layer
+/// at work, each of up to 32 bytes for each pair of the longest half-merged layer, and where the multiplier is small a second
+/// table, until an error is guessed; while the choice is found, a mark of one bit for each pair, and up to 72 bytes a layer,
+/// beside the layers that are returned.
 ///
 /// The errors are `LayersFull` where the layers number more than 2^25 pairs, and `NoMemory`.
 pub fn best(alloc: Global, table: &FrameTable) -> Result<Outcome, BestFault>

@@ -1,6 +1,6 @@
 //! A program for the gate alone. It makes some two thousand small tables, and of each the record of its best choice, which is
-//! to be good; then it changes one thing of the record, and compares the clause that the checker names with that of a plain
-//! program, and each yes with a trial of all choices.
+//! to be good, and its choice the one that a trial of all choices finds; then it changes one thing of the record, and compares
+//! the clause that the checker names with that of a plain program, and each yes with a trial of all choices.
 #![tactic(auto)]
 
 mod numbers;
@@ -37,7 +37,7 @@ const NONE_FOUND: Found = Found {
 };
 
 /// Checks a record, and counts it.
-fn count(found: &mut Found, settings: &Settings, slices: usize, proof: &FrameProof)
+fn count(alloc: Global, found: &mut Found, settings: &Settings, slices: usize, proof: &FrameProof)
     requires { IsSettings settings.now }
 {
     let clause = match check_record(settings, proof) {
@@ -45,7 +45,7 @@ fn count(found: &mut Found, settings: &Settings, slices: usize, proof: &FramePro
         Err(clause) => clause.number,
     };
     let is_right = clause == plain::failing(settings, slices, proof)
-        && (clause != 0 || plain::is_true(proof));
+        && (clause != 0 || plain::is_true(alloc, proof));
     if !is_right {
         found.wrong = found.wrong.saturating_add(1);
     }
@@ -74,14 +74,14 @@ fn count_changed(
     for _ in 0..CHANGES {
         let mut proof = record_of(alloc, plan)?;
         change_verdict(numbers, &mut proof.verdict);
-        count(found, settings, slices, &proof);
+        count(alloc, found, settings, slices, &proof);
     }
     let mut proof = record_of(alloc, plan)?;
     change_plan(numbers, plan);
     // It may be no table any more.
     if let Some(table) = table_of(alloc, plan) {
         proof.table = table;
-        count(found, settings, slices, &proof);
+        count(alloc, found, settings, slices, &proof);
     }
     Some(())
 }
@@ -96,7 +96,10 @@ fn count_plan(
     let mut plan = plan_of(alloc, numbers)?;
     let settings = settings_of(alloc, &plan)?;
     let proof = record_of(alloc, &plan)?;
-    count(good, &settings, plan.frame_slices(), &proof);
+    if !plain::is_best(alloc, &proof) {
+        good.wrong = good.wrong.saturating_add(1);
+    }
+    count(alloc, good, &settings, plan.frame_slices(), &proof);
     count_changed(alloc, numbers, &mut plan, &settings, changed)
 }
 

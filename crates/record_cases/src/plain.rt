@@ -1,8 +1,9 @@
-//! A plain program for the clauses of a record, slow and without cleverness, and one that tries all choices of a table. Sums
-//! that pass their type don't come up in small tables; they stay at its end.
+//! A plain program for the clauses of a record, slow and without cleverness, and comparisons with a trial of all choices of
+//! a table. Sums that pass their type don't come up in small tables; they stay at its end.
 
 use rate_cert::{FrameProof, Settings, Verdict};
-use rate_table::{Entry, FrameTable, Pair, SliceTable};
+use rate_table::{Entry, FrameTable, Pair, SliceTable, SmallOutcome, best_small};
+use std::alloc::Global;
 
 /// What is said of a table of which a choice fits.
 #[derive(Clone, Copy)]
@@ -263,29 +264,26 @@ pub(crate) fn failing(settings: &Settings, slices: usize, proof: &FrameProof) ->
     }
 }
 
-/// The sums of the choice with this number, if there is one: its digits to the base 4 are the places of its entries.
-fn numbered(table: &FrameTable, number: usize) -> Option<Sums> {
-    let mut sums = NOTHING;
-    let mut left = number;
-    for slice in table.slices.as_slice() {
-        sums = sums.with_entry(slice.entries().get(left % 4)?);
-        left /= 4;
+/// Whether what is said of a table is true: the printed error is that of the best choice, or none fits. All choices are tried.
+pub(crate) fn is_true(alloc: Global, proof: &FrameProof) -> bool {
+    let Ok(tried) = best_small(alloc, &proof.table) else {
+        return false;
+    };
+    match (&tried, &proof.verdict) {
+        (SmallOutcome::Fits { error: least, .. }, Verdict::Fits { error, .. }) => error == least,
+        (SmallOutcome::None { .. }, Verdict::None { .. }) => true,
+        _ => false,
     }
-    Some(sums)
 }
 
-/// Whether what is said of a table is true: no choice that fits has less error than is printed, or none fits. All are tried.
-pub(crate) fn is_true(proof: &FrameProof) -> bool {
-    for number in 0..64 {
-        if let Some(sums) = numbered(&proof.table, number) {
-            let is_less = match &proof.verdict {
-                Verdict::Fits { error, .. } => sums.error < u128::from(*error),
-                Verdict::None { .. } => true,
-            };
-            if is_less && fits(&proof.table, sums) {
-                return false;
-            }
-        }
+/// Whether the choice that is printed of a table is the best one. All choices are tried.
+pub(crate) fn is_best(alloc: Global, proof: &FrameProof) -> bool {
+    let Ok(tried) = best_small(alloc, &proof.table) else {
+        return false;
+    };
+    match (&tried, &proof.verdict) {
+        (SmallOutcome::Fits { choice: best, .. }, Verdict::Fits { choice, .. }) => choice == best,
+        (SmallOutcome::None { .. }, Verdict::None { .. }) => true,
+        _ => false,
     }
-    true
 }

@@ -1,6 +1,6 @@
 use crate::{BestFault, Outcome, best};
 use pw_outside::MemSource;
-use rate_table::{Entry, FrameTable, Pair, SliceTable, least, read_file, total};
+use rate_table::{FrameTable, Pair, SmallOutcome, best_small, read_file};
 use std::alloc::{AllocError, Global};
 use std::process::Abort;
 
@@ -177,47 +177,6 @@ fn answers_tables_of_others(rt: HostRuntime) {
     has_none(&rt, &table, alloc, 167);
 }
 
-/// All index lists of these slices, in their order.
-fn lists_of(alloc: Global, slices: &[SliceTable]) -> Result<Vec<Vec<u8>>, AllocError> {
-    let mut lists = Vec::new(alloc);
-    lists.push(Vec::new(alloc))?;
-    for slice in slices {
-        lists = longer(alloc, &lists, slice.entries())?;
-    }
-    Ok(lists)
-}
-
-/// Each list with each entry's index behind it.
-fn longer(alloc: Global, lists: &[Vec<u8>], entries: &[Entry]) -> Result<Vec<Vec<u8>>, AllocError> {
-    let mut all = Vec::new(alloc);
-    for list in lists {
-        for entry in entries {
-            let mut more = Vec::from_slice(alloc, list)?;
-            more.push(entry.index)?;
-            all.push(more)?;
-        }
-    }
-    Ok(all)
-}
-
-/// The number of the best of these choices, with its size and error, by trying all.
-fn best_of(table: &FrameTable, lists: &[Vec<u8>]) -> Option<(usize, u64, u64)> {
-    let mut held: Option<(usize, u64, u64)> = None;
-    for (number, list) in lists.iter().enumerate() {
-        if let Some((size, error)) = total(table, list) {
-            let fits = size.saturating_add(u64::from(table.fixed)) <= u64::from(table.budget);
-            let beats = match held {
-                None => true,
-                Some((_, s, e)) => error < e || error == e && size < s,
-            };
-            if fits && beats {
-                held = Some((number, size, error));
-            }
-        }
-    }
-    held
-}
-
 /// A number below `end`, from a state that it changes.
 fn below(state: &mut u64, end: u8) -> u8 {
     *state = state
@@ -248,13 +207,14 @@ fn finds_what_trying_all_choices_finds(rt: HostRuntime) {
     for _ in 0..120 {
         let bytes = small_table(rt.alloc(), &mut state).expect(&rt, "memory");
         let table = read(&rt, rt.alloc(), bytes);
-        let lists = lists_of(rt.alloc(), table.slices.as_slice()).expect(&rt, "memory");
-        match best_of(&table, &lists) {
-            Some((number, size, error)) => {
-                let choice = lists.get(number).expect(&rt, "a choice");
-                has_best(&rt, &table, rt.alloc(), (choice, size, error));
-            }
-            None => has_none(&rt, &table, rt.alloc(), least(&table)),
+        let tried = best_small(rt.alloc(), &table).expect(&rt, "few choices");
+        match &tried {
+            SmallOutcome::Fits {
+                choice,
+                size,
+                error,
+            } => has_best(&rt, &table, rt.alloc(), (choice, *size, *error)),
+            SmallOutcome::None { least } => has_none(&rt, &table, rt.alloc(), *least),
         }
     }
 }

@@ -1,4 +1,4 @@
-use Rattle.std.proofs.Common.{rules, ◌≡◌, ◌+◌, sym, subst, arith}
+use Rattle.std.proofs.Common.{rules, ◌≡◌, ◌+◌, sym, subst, ◌∙◌, arith}
 use Rattle.std.specs.List.{Contains}
 use Rattle.rate_table.specs.declared.entry.Pair.{Pair}
 use Rattle.rate_table.specs.Pairs.{joined}
@@ -12,7 +12,8 @@ returns-in-Some c =
     let q : Pair = record { size = c.from.result + c.from-2.result; error = c.from-3.result + c.from-4.result } in
     let e : q ≡ joined c.args.p c.args.x = same_pair q (joined c.args.p c.args.x) (omega (arith, c.from.ensures, c.from-2.ensures)) (omega (arith, c.from-3.ensures, c.from-4.ensures)) in
     let s = subst (λ y. StandsAt c.args.next.now y c.in-Some.at) e c.in-Some.ensures.some in
-    marked_at c.args.marks.now c.args.next.now (joined c.args.p c.args.x) c.in-Some.at c.requires.rises s
+    let m = marked_at c.args.marks.now c.args.next.now (joined c.args.p c.args.x) c.in-Some.at c.requires.rises s in
+    ((λ h. m.0 (sym c.get.ensures ∙ h)), (λ h. c.get.ensures ∙ m.1 h))
 
 pub returns-in-None : goal.returns-in-None
 returns-in-None c =

@@ -6,7 +6,7 @@ use Rattle.rate_layers.proofs.live.marks_of.Given as goal
 abbrev pub invariant-loop-k : goal.invariant-loop-k
 invariant-loop-k l = record {
   within : l.k ≤ length l.fn.table.slices;
-  marks : MarkedFrom l.fn.table l.fn.goal (map (λ v. v.items) l.layers) (map (λ v. v.items) l.marks.items) l.k;
+  marks : MarkedFrom l.fn.table l.fn.goal (map (λ v. v.items) l.layers) l.marks.items l.k;
 }
 
 abbrev pub decreases-loop-k : goal.decreases-loop-k

@@ -4,4 +4,4 @@ use Rattle.rate_layers.proofs.live.walk.Given as goal
 
 -- where the walk stands
 abbrev pub invariant-loop-k : goal.invariant-loop-k
-invariant-loop-k l = Walking l.fn.table l.fn.goal (map (λ v. v.items) l.layers) (map (λ v. v.items) l.marks) l.k l.p l.choice.items
+invariant-loop-k l = Walking l.fn.table l.fn.goal (map (λ v. v.items) l.layers) l.marks l.k l.p l.choice.items

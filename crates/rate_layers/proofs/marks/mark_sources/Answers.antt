@@ -13,7 +13,7 @@ unfolding no_entry
 loop-x-preserved c =
     let i = c.loop-x.invariant in
     elim c.match-source_of.branch [
-      | in-Some w ↦ rw w.marks-is (record {
+      | in-Some w ↦ rw (w.marks-is ∙ w.set.ensures) (record {
         count = length-set c.loop-x.marks w.in-Some.at true ∙ i.count;
         more = more_marked c.args.q c.args.layer.now c.args.marks.now c.args.slice.now c.loop-x.x-index no_entry c.loop-x.marks w.in-Some.at c.loop-x-test.true c.requires.layer i.count w.in-Some.ensures.some i.more;
       })

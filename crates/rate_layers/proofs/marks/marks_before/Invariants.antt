@@ -3,4 +3,4 @@ use Rattle.rate_layers.proofs.marks.marks_before.Given as goal
 
 -- the sources of the first pairs of the next layer have a mark
 abbrev pub invariant-loop-i : goal.invariant-loop-i
-invariant-loop-i l = MarkedSo l.slice l.next l.next_marks l.layer l.marks.items l.i
+invariant-loop-i l = MarkedSo l.slice l.next l.next_marks l.layer l.marks l.i
