@@ -9,3 +9,4 @@ pub mod Agreeing
 pub mod Checked
 pub mod Decoded
 pub mod Alone
+pub mod Small

@@ -1,5 +1,5 @@
 -- Laws of whole rounds: what encoding gives, checked and decoded. Our own.
-use Rattle.std.specs.Prelude.{◌≡◌, ℕ, true, List, length, map, Ok}
+use Rattle.std.specs.Prelude.{◌≡◌, ℕ, ◌+◌, ◌*◌, true, List, length, map, Ok}
 use Rattle.std.specs.List.{All, flat_map}
 use Rattle.pw_planes.specs.declared.kinds.Depth.{Depth}
 use Rattle.pic_y4m.specs.declared.head.Head.{Head}
@@ -39,6 +39,13 @@ abbrev pub EncodedIsChecked : Type 0
 EncodedIsChecked = (w : EncodeWords) (bytes : List ℕ) (head : Head) (ps : Pictures) (j : Job) (lists : Lists) → IsInput w bytes head ps j
     → (e : Encodes j ps encodes.Done lists) → All (IsNarrow j) e.coded
     → Checks lists.proof lists.movie bytes looks.Done (group_count j.group ps) × ChecksAlone lists.proof looks.Done (group_count j.group ps)
+
+-- Where encoding stops since no choice fits for a group, checking its proof by itself is done: it has one record for each of the n groups in
+-- front of that one, and one that says so.
+abbrev pub SmallIsChecked : Type 0
+SmallIsChecked = (w : EncodeWords) (bytes : List ℕ) (head : Head) (ps : Pictures) (j : Job) (lists : Lists) (frame least : ℕ) → IsInput w bytes head ps j
+    → (e : Encodes j ps (encodes.TooSmall frame least) lists) → All (IsNarrow j) e.coded
+    → (n : ℕ) × (frame ≡ j.group * n) × ChecksAlone lists.proof looks.Done (n + 1)
 
 -- Where checking a proof with a movie and pictures is done, checking it by itself is done, too, of as many records.
 abbrev pub CheckedIsCheckedAlone : Type 0

@@ -1,6 +1,6 @@
 //! Laws of whole rounds, over the definitions alone. The functions do nothing; their contracts are the laws.
 
-ghost use Rattle.run_round.specs.Laws.{EncodedIsChecked, EncodedIsDecoded, CheckedIsCheckedAlone, CheckedIsCountedOnce};
+ghost use Rattle.run_round.specs.Laws.{EncodedIsChecked, EncodedIsDecoded, SmallIsChecked, CheckedIsCheckedAlone, CheckedIsCountedOnce};
 
 use pic_raw::pictures_have_form;
 use pr_frame::{written_has_length, written_stands};
@@ -12,6 +12,7 @@ use rate_build::{
 use rate_cert::proof_is_read_again;
 use rate_layers::{kept_is_good, multiplier_exists, multiplier_is_one};
 use rate_table::{good_is_least, none_fits_below_least};
+use run_encode::encoded_has_headline;
 use run_look::checking_ends_once;
 
 /// Where encoding is done, checking is done: of its proof by itself, and of its proof with its movie and the pictures that were
@@ -36,6 +37,16 @@ pub fn encoded_is_checked()
     multiplier_exists();
     multiplier_is_one();
     proof_is_read_again();
+}
+
+/// Where encoding stops since no choice fits for a group, checking its proof by itself is done. There is one record for each group in front
+/// of that one, and one that says that no choice fits.
+pub fn small_is_checked()
+    ensures { SmallIsChecked }
+{
+    named_weights_are_in_range();
+    pictures_have_form();
+    encoded_has_headline();
 }
 
 /// Where encoding is done, decoding its movie is done, at every depth and in either form. There is one picture for each that was

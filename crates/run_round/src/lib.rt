@@ -3,4 +3,6 @@
 
 mod laws;
 
-pub use laws::{checked_is_checked_alone, encoded_is_checked, encoded_is_decoded};
+pub use laws::{
+    checked_is_checked_alone, encoded_is_checked, encoded_is_decoded, small_is_checked,
+};
