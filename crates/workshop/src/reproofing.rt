@@ -5,9 +5,9 @@ ghost use Rattle.std.specs.Bool.{OnTrue};
 ghost use Rattle.std.specs.Io.KnownBytes.{IsAtEnd};
 ghost use Rattle.pw_outside.specs.Ports.{CountsFault};
 ghost use Rattle.pw_outside.specs.Reading.{Told};
-ghost use Rattle.pw_outside.specs.Writing.{sink_state};
+ghost use Rattle.pw_outside.specs.Writing.{sink_state, Puts};
 ghost use Rattle.run_look.specs.Listing.{Extends};
-ghost use Rattle.run_look.specs.Reproofing.{reproofed, SaysTheSame, CountsFaults};
+ghost use Rattle.run_look.specs.Reproofing.{reproofed, SaysTheSame, IsProofIn, CountsFaults};
 ghost use Rattle.workshop.specs.Status.{is_done, is_read_fault, is_settled, is_write_fault, usage_of};
 ghost use Rattle.workshop.specs.Reproofing.{AnswersReproof, WritesUntil};
 
@@ -32,6 +32,8 @@ pub(crate) fn reproof<S: ByteSource, K: ByteSink>(
     ensures text { Told (S.left proof.old) (λ bytes. WritesUntil result (reproofed bytes).text
         (sink_state (K.held text.old) (K.taken text.old)) (sink_state (K.held text.new) (K.taken text.new))) }
     ensures same { Told (S.left proof.old) (λ bytes. OnTrue (is_done result) (SaysTheSame bytes (reproofed bytes).cert)) }
+    ensures unchanged { Told (S.left proof.old) (λ bytes. OnTrue (is_done result) (IsProofIn 2 bytes
+        → Puts (sink_state (K.held cert.old) (K.taken cert.old)) (sink_state (K.held cert.new) (K.taken cert.new)) bytes)) }
     ensures cert_extends { Extends (sink_state (K.held cert.old) (K.taken cert.old)) (sink_state (K.held cert.new) (K.taken cert.new)) }
     ensures text_extends { Extends (sink_state (K.held text.old) (K.taken text.old)) (sink_state (K.held text.new) (K.taken text.new)) }
     ensures settled { OnTrue (is_settled result) ((K.settled cert.new ≡ K.taken cert.new) × (K.settled text.new ≡ K.taken text.new)) }

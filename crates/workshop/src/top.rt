@@ -21,7 +21,7 @@ ghost use Rattle.workshop.specs.Listing.{AnswersList, CompletesList};
 ghost use Rattle.run_look.specs.Checking.{ChecksAlone};
 ghost use Rattle.run_look.specs.Agreeing.{Checks};
 ghost use Rattle.workshop.specs.Checking.{AnswersCheck, PrintsChecked, CompletesCheck};
-ghost use Rattle.run_look.specs.Reproofing.{reproofed, SaysTheSame};
+ghost use Rattle.run_look.specs.Reproofing.{reproofed, SaysTheSame, IsProofIn};
 ghost use Rattle.workshop.specs.Reproofing.{AnswersReproof, WritesUntil, CompletesReproof};
 ghost use Rattle.run_decode.specs.Running.{world};
 ghost use Rattle.run_decode.specs.Laws.{WritesFrontsOf};
@@ -204,6 +204,9 @@ pub fn workshop<S: ByteSource, M: ByteStore, K: ByteSink>(
         (sink_state (K.held text.old) (K.taken text.old)) (sink_state (K.held text.new) (K.taken text.new))) }
     // After Done the proof that was written has the settings and the records of the one that was read.
     ensures reproof_same { Told (S.left proof.old) (λ bytes. IsRun task.Reproof (said words.now) → OnTrue (is_done result) (SaysTheSame bytes (reproofed bytes).cert)) }
+    // A proof of format 2 comes out byte for byte: after Done what was written is what was read.
+    ensures reproof_unchanged { Told (S.left proof.old) (λ bytes. IsRun task.Reproof (said words.now) → OnTrue (is_done result) (IsProofIn 2 bytes
+        → Puts (sink_state (K.held cert.old) (K.taken cert.old)) (sink_state (K.held cert.new) (K.taken cert.new)) bytes)) }
     ensures reproof_end { IsRun task.Reproof (said words.now) → OnTrue (is_done result) (IsAtEnd (S.left proof.new)) }
     // Where no port failed, a proof without a fault, whose layers all rise in size and fall in error, is Done, unless memory runs out.
     ensures reproof_complete { Told (S.left proof.old) (λ bytes. IsRun task.Reproof (said words.now)
