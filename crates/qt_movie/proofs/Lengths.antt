@@ -1,64 +1,49 @@
--- How many bytes the sample tables have.
-use Rattle.std.proofs.Common.{◌≡◌, ℕ, ◌+◌, ◌*◌, ◌≤◌, Bool, true, false, List, [], ◌∷◌, ◌++◌, length, Result, Ok, Err, refl, ap, ◌∙◌, arith, length-append}
-use Rattle.std.proofs.lemmas.List.{length-map}
-use Rattle.std.specs.Prelude.{OnOk, ◌==◌, if◌then◌else◌, codes}
+-- How many bytes numbers, atoms and sample tables have.
+use Rattle.std.proofs.Common.{◌≡◌, ℕ, ◌+◌, ◌*◌, List, [], ◌∷◌, length, refl, arith, length-append}
 use Rattle.std.specs.List.{flat_map}
 use Rattle.std.specs.Int.{w32, w64, to_be_bytes}
-use Rattle.qt_atoms.specs.Written.{atom, atom_of}
-use Rattle.qt_tables.specs.declared.writer.Extent.{Extent}
-use Rattle.qt_tables.specs.Writing.{numbers_bytes, sizes_of, places_of, times_body, runs_body, sizes_body, near_body, far_body, are_near, places_node, tables_bytes}
+use Rattle.qt_atoms.specs.Written.{Node, atom}
+use Rattle.qt_tables.specs.Writing.{numbers_bytes}
+use Rattle.qt_movie.specs.Bodies.{nodes_bytes}
+use Rattle.qt_movie.specs.Trak.{time_bytes, run_bytes, stts_body, stsc_body, stsz_body, stco_body, co64_body}
 
 pub length-numbers : (ns : List ℕ) → length (numbers_bytes ns) ≡ 4 * length ns
 length-numbers [] = refl
 length-numbers (n ∷ ns) = omega (arith, length-append (to_be_bytes w32 n) (numbers_bytes ns), length-numbers ns)
 
-pub length-long_numbers : (ns : List ℕ) → length (flat_map (to_be_bytes w64) ns) ≡ 8 * length ns
+length-long_numbers : (ns : List ℕ) → length (flat_map (to_be_bytes w64) ns) ≡ 8 * length ns
 length-long_numbers [] = refl
 length-long_numbers (n ∷ ns) = omega (arith, length-append (to_be_bytes w64 n) (flat_map (to_be_bytes w64) ns), length-long_numbers ns)
+
+length-times : (runs : List (ℕ × ℕ)) → length (flat_map time_bytes runs) ≡ 8 * length runs
+length-times [] = refl
+length-times (r ∷ runs) = omega (arith, length-append (time_bytes r) (flat_map time_bytes runs), length-times runs)
+
+length-runs : (runs : List (ℕ × ℕ × ℕ)) → length (flat_map run_bytes runs) ≡ 12 * length runs
+length-runs [] = refl
+length-runs (r ∷ runs) = omega (arith, length-append (run_bytes r) (flat_map run_bytes runs), length-runs runs)
+
+-- ---- tables
+
+pub length-stts : (runs : List (ℕ × ℕ)) → length (stts_body runs) ≡ 8 + 8 * length runs
+length-stts runs = omega (arith, length-append (numbers_bytes (0 ∷ length runs ∷ [])) (flat_map time_bytes runs), length-times runs)
+
+pub length-stsc : (runs : List (ℕ × ℕ × ℕ)) → length (stsc_body runs) ≡ 8 + 12 * length runs
+length-stsc runs = omega (arith, length-append (numbers_bytes (0 ∷ length runs ∷ [])) (flat_map run_bytes runs), length-runs runs)
+
+pub length-stsz : (common count : ℕ) (sizes : List ℕ) → length (stsz_body common count sizes) ≡ 12 + 4 * length sizes
+length-stsz common count sizes = omega (arith, length-append (numbers_bytes (0 ∷ common ∷ count ∷ [])) (numbers_bytes sizes), length-numbers sizes)
+
+pub length-stco : (offsets : List ℕ) → length (stco_body offsets) ≡ 8 + 4 * length offsets
+length-stco offsets = omega (arith, length-append (numbers_bytes (0 ∷ length offsets ∷ [])) (numbers_bytes offsets), length-numbers offsets)
+
+pub length-co64 : (offsets : List ℕ) → length (co64_body offsets) ≡ 8 + 8 * length offsets
+length-co64 offsets = omega (arith, length-append (numbers_bytes (0 ∷ length offsets ∷ [])) (flat_map (to_be_bytes w64) offsets), length-long_numbers offsets)
+
+-- ---- atoms
 
 pub length-atom : (kind body : List ℕ) → length kind ≡ 4 → length (atom kind body) ≡ 8 + length body
 length-atom kind body four = omega (arith, four, length-append kind body)
 
-times-few : (b : Bool) (count duration : ℕ) → length (numbers_bytes (if b then 0 ∷ 0 ∷ [] else 0 ∷ 1 ∷ count ∷ duration ∷ [])) ≤ 16
-times-few true count duration = omega arith
-times-few false count duration = omega arith
-
-runs-few : (b : Bool) → length (numbers_bytes (if b then 0 ∷ 0 ∷ [] else 0 ∷ 1 ∷ 1 ∷ 1 ∷ 1 ∷ [])) ≤ 20
-runs-few true = omega arith
-runs-few false = omega arith
-
-places-few : (b : Bool) (es : List Extent) → length (atom_of (if b then record { kind = codes "stco"; body = near_body es } else record { kind = codes "co64"; body = far_body es })) ≤ 16 + 8 * length es
-places-few true es = omega (arith, length-atom (codes "stco") (near_body es) refl, length-numbers (0 ∷ length es ∷ places_of es), length-map es (λ (e : Extent). e.at))
-places-few false es =
-    omega (arith, length-atom (codes "co64") (far_body es) refl, length-append (numbers_bytes (0 ∷ length es ∷ [])) (flat_map (to_be_bytes w64) (places_of es)), length-long_numbers (places_of es), length-map es (λ (e : Extent). e.at))
-
-pub tables_few : (es : List Extent) (duration : ℕ) → length (tables_bytes es duration) ≤ 88 + 12 * length es
-unfolding tables_bytes
-tables_few es duration =
-    let a = atom (codes "stts") (times_body (length es) duration) in
-    let b = atom (codes "stsc") (runs_body (length es)) in
-    let c = atom (codes "stsz") (sizes_body es) in
-    let d = atom_of (places_node es) in
-    omega (
-      arith,
-      length-append a (b ++ (c ++ (d ++ []))),
-      length-append b (c ++ (d ++ [])),
-      length-append c (d ++ []),
-      length-append d [],
-      length-atom (codes "stts") (times_body (length es) duration) refl,
-      times-few (length es == 0) (length es) duration,
-      length-atom (codes "stsc") (runs_body (length es)) refl,
-      runs-few (length es == 0),
-      length-atom (codes "stsz") (sizes_body es) refl,
-      length-numbers (0 ∷ 0 ∷ length es ∷ sizes_of es),
-      length-map es (λ (e : Extent). e.size),
-      places-few (are_near es) es,
-    )
-
-on_ok-map : {A E P Q : Type 0} (r : Result A E) → (P → Q) → OnOk r P → OnOk r Q
-on_ok-map (Ok x) f h = f h
-on_ok-map (Err e) f h = h
-
--- what was appended of tables is short
-pub tables_grow : {A E : Type 0} (r : Result A E) (old new : List ℕ) (es : List Extent) (duration : ℕ) → OnOk r (new ≡ old ++ tables_bytes es duration) → OnOk r (length new ≤ length old + (88 + 12 * length es))
-tables_grow r old new es duration h = on_ok-map r (λ e. omega (arith, ap length e ∙ length-append old (tables_bytes es duration), tables_few es duration)) h
+pub length-nodes : (n : Node) (nodes : List Node) → length n.kind ≡ 4 → length (nodes_bytes (n ∷ nodes)) ≡ length n.body + 8 + length (nodes_bytes nodes)
+length-nodes n nodes four = omega (arith, length-append (atom n.kind n.body) (nodes_bytes nodes), length-atom n.kind n.body four)

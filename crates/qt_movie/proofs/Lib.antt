@@ -3,9 +3,13 @@ mod MoovWalk
 mod Contained
 mod Lengths
 mod Frames
-mod Stands
-mod Nodes
-mod TopLevel
-mod WrittenFields
-mod WrittenParts
+mod FramesTrak
+pub mod Stands
+pub mod Nodes
+pub mod TopLevel
+pub mod WrittenFields
+pub mod WrittenTables
+pub mod WrittenParts
+pub mod WrittenTraks
 mod WrittenMovie
+pub mod LoneSamples

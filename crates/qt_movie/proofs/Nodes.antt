@@ -1,129 +1,169 @@
--- The atoms of a written movie have sizes of 32 bits.
-use Rattle.std.proofs.Common.{◌≡◌, ℕ, ◌+◌, ◌*◌, ◌≤◌, Bool, true, false, List, [], ◌∷◌, ◌++◌, length, refl, ap, ◌∙◌, arith, length-append}
+-- The atoms of a written track have sizes of 32 bits.
+use Rattle.std.proofs.Common.{◌≡◌, ℕ, ◌+◌, ◌*◌, ◌≤◌, Bool, true, false, List, [], ◌∷◌, length, map, refl, arith}
 use Rattle.std.specs.Prelude.{codes, if◌then◌else◌}
 use Rattle.std.specs.List.{AllByRecursion}
-use Rattle.pic_y4m.specs.declared.head.Head.{Head}
-use Rattle.qt_atoms.specs.Written.{Node, atom, IsNode}
-use Rattle.qt_tables.specs.declared.writer.Extent.{Extent}
-use Rattle.qt_tables.specs.Writing.{tables_bytes}
-use Rattle.qt_movie.specs.MovieBytes.{be16, be32, zeros, bits_of, node, nodes_bytes, mvhd_body, tkhd_body, mdhd_body, hdlr_body, vmhd_body, dref_body, is_422, description_bytes, stsd_body, dinf_nodes, stbl_nodes, minf_nodes, duration_of, mdia_nodes, trak_nodes, moov_nodes}
-use Rattle.qt_movie.proofs.Lengths.{length-atom, tables_few}
+use Rattle.qt_atoms.specs.Written.{IsNode}
+use Rattle.qt_movie.specs.declared.trak.Media.{Media}
+use Rattle.qt_movie.specs.declared.trak.Media.TheVariants as media
+use Rattle.qt_movie.specs.Bodies.{node, nodes_bytes, mvhd_body, mdhd_body, hdlr_body, vmhd_body, dref_body, dinf_nodes}
+use Rattle.qt_movie.specs.Trak.{TrakValues, IsTrak, subtype_of, smhd_body, media_node, pictures_bytes, sound_bytes, stsd_body, stts_body, stsc_body, stsz_body, are_near, stco_body, co64_body, offsets_node, tkhd_body, stbl_nodes, minf_nodes, mdia_nodes, trak_nodes, trak_node, moov_nodes}
+use Rattle.qt_movie.specs.Laws.{HasKind}
+use Rattle.qt_movie.proofs.Lengths.{length-stts, length-stsc, length-stsz, length-stco, length-co64, length-nodes}
 
-pub length-mvhd : (timescale duration : ℕ) → length (mvhd_body timescale duration) ≡ 100
+pub length-mvhd : (timescale duration next : ℕ) → length (mvhd_body timescale duration next) ≡ 100
 unfolding mvhd_body
-length-mvhd timescale duration = refl
+length-mvhd timescale duration next = refl
 
-pub length-tkhd : (duration width height : ℕ) → length (tkhd_body duration width height) ≡ 84
+pub length-tkhd : (t : TrakValues) → length (tkhd_body t) ≡ 84
 unfolding tkhd_body
-length-tkhd duration width height = refl
+length-tkhd t = refl
 
 pub length-mdhd : (timescale duration : ℕ) → length (mdhd_body timescale duration) ≡ 24
 unfolding mdhd_body
 length-mdhd timescale duration = refl
 
-pub length-handler : length (hdlr_body (codes "mhlr") (codes "vide")) ≡ 25
+pub length-handler : (m : Media) → length (hdlr_body (codes "mhlr") (subtype_of m)) ≡ 25
 unfolding hdlr_body
-length-handler = refl
+length-handler (media.Video kind width height depth) = refl
+length-handler (media.Sound channels rate) = refl
 
 pub length-data_handler : length (hdlr_body (codes "dhlr") (codes "alis")) ≡ 25
 unfolding hdlr_body
 length-data_handler = refl
 
-pub length-vmhd : length vmhd_body ≡ 12
-unfolding vmhd_body
-length-vmhd = refl
-
 pub length-dref : length dref_body ≡ 20
 unfolding dref_body
 length-dref = refl
 
--- a description of this kind, behind the version and the count of an `stsd`
-abbrev pub stsd_with : (kind : List ℕ) → Head → List ℕ
-stsd_with kind head = be32 0 ++ be32 1 ++ (be32 86 ++ kind ++ zeros 6 ++ be16 1 ++ be16 0 ++ be16 0 ++ codes "pwk0" ++ be32 0 ++ be32 0 ++ be16 head.width ++ be16 head.height
-    ++ be32 4718592 ++ be32 4718592 ++ be32 0 ++ be16 1 ++ zeros 32 ++ be16 (bits_of head.alpha) ++ be16 65535)
+pub are-media : (m : Media) → IsNode (media_node m) × (length (media_node m).body ≤ 12)
+unfolding vmhd_body smhd_body
+are-media (media.Video kind width height depth) = (record { kind = refl; size = omega arith }, omega arith)
+are-media (media.Sound channels rate) = (record { kind = refl; size = omega arith }, omega arith)
 
-abbrev pub kind_for : Bool → List ℕ
-kind_for b = if b then codes "apch" else codes "ap4h"
+pub length-pictures : (kind : List ℕ) (width height depth : ℕ) → length kind ≡ 4 → length (stsd_body (media.Video kind width height depth)) ≡ 94
+unfolding pictures_bytes sound_bytes
+length-pictures (a ∷ b ∷ c ∷ d ∷ []) width height depth four = refl
+length-pictures [] width height depth four = absurd (omega (arith, four))
+length-pictures (a ∷ []) width height depth four = absurd (omega (arith, four))
+length-pictures (a ∷ b ∷ []) width height depth four = absurd (omega (arith, four))
+length-pictures (a ∷ b ∷ c ∷ []) width height depth four = absurd (omega (arith, four))
+length-pictures (a ∷ b ∷ c ∷ d ∷ e ∷ kind) width height depth four = absurd (omega (arith, four))
 
-pub stsd-is : (head : Head) → stsd_body head ≡ stsd_with (kind_for (is_422 head)) head
-unfolding stsd_body description_bytes
-stsd-is head = refl
+length-sound : (channels rate : ℕ) → length (stsd_body (media.Sound channels rate)) ≡ 44
+unfolding pictures_bytes sound_bytes
+length-sound channels rate = refl
 
-length-with : (b : Bool) (head : Head) → length (stsd_with (kind_for b) head) ≡ 94
-length-with true head = refl
-length-with false head = refl
+pub stsd-few : (m : Media) → HasKind m → length (stsd_body m) ≤ 94
+stsd-few (media.Video kind width height depth) four = omega (arith, length-pictures kind width height depth four)
+stsd-few (media.Sound channels rate) has = omega (arith, length-sound channels rate)
 
-pub length-stsd : (head : Head) → length (stsd_body head) ≡ 94
-length-stsd head = ap length (stsd-is head) ∙ length-with (is_422 head) head
+pub are-offsets : (b : Bool) (offsets : List ℕ) → length offsets ≤ 1000000
+    → IsNode (if b then node (codes "stco") (stco_body offsets) else node (codes "co64") (co64_body offsets)) × (length (if b then node (codes "stco") (stco_body offsets) else node (codes "co64") (co64_body offsets)).body ≤ 8000008)
+are-offsets true offsets few = (record { kind = refl; size = omega (arith, length-stco offsets) }, omega (arith, length-stco offsets))
+are-offsets false offsets few = (record { kind = refl; size = omega (arith, length-co64 offsets) }, omega (arith, length-co64 offsets))
 
 -- ---- atoms inside atoms
-
-length-nodes : (n : Node) (nodes : List Node) → length n.kind ≡ 4 → length (nodes_bytes (n ∷ nodes)) ≡ length n.body + 8 + length (nodes_bytes nodes)
-length-nodes n nodes four = omega (arith, length-append (atom n.kind n.body) (nodes_bytes nodes), length-atom n.kind n.body four)
 
 pub length-dinf : length (nodes_bytes dinf_nodes) ≡ 28
 length-dinf = omega (arith, length-nodes (node (codes "dref") dref_body) [] refl, length-dref)
 
-pub length-stbl : (head : Head) (es : List Extent) → length (nodes_bytes (stbl_nodes head es)) ≤ 190 + 12 * length es
-unfolding tables_bytes
-length-stbl head es =
-    omega (arith, length-append (atom (codes "stsd") (stsd_body head)) (tables_bytes es head.den), length-atom (codes "stsd") (stsd_body head) refl, length-stsd head, tables_few es head.den)
-
-pub length-minf : (head : Head) (es : List Extent) → length (nodes_bytes (minf_nodes head es)) ≤ 287 + 12 * length es
-length-minf head es =
-    let stbl = node (codes "stbl") (nodes_bytes (stbl_nodes head es)) in
-    let dinf = node (codes "dinf") (nodes_bytes dinf_nodes) in
-    let hdlr = node (codes "hdlr") (hdlr_body (codes "dhlr") (codes "alis")) in
-    let vmhd = node (codes "vmhd") vmhd_body in
+pub length-stbl : (t : TrakValues) → IsTrak t → HasKind t.media → length (nodes_bytes (stbl_nodes t)) ≤ 32000170
+length-stbl t is has =
+    let stsd = node (codes "stsd") (stsd_body t.media) in
+    let stts = node (codes "stts") (stts_body t.stts) in
+    let stsc = node (codes "stsc") (stsc_body t.stsc) in
+    let stsz = node (codes "stsz") (stsz_body t.common t.count t.sizes) in
+    let offsets = offsets_node t.offsets in
+    let places = are-offsets (are_near t.offsets) t.offsets is.few_chunks in
     omega (
       arith,
-      length-nodes vmhd (hdlr ∷ dinf ∷ stbl ∷ []) refl,
+      length-nodes stsd (stts ∷ stsc ∷ stsz ∷ offsets ∷ []) refl,
+      length-nodes stts (stsc ∷ stsz ∷ offsets ∷ []) refl,
+      length-nodes stsc (stsz ∷ offsets ∷ []) refl,
+      length-nodes stsz (offsets ∷ []) refl,
+      length-nodes offsets [] places.0.kind,
+      stsd-few t.media has,
+      length-stts t.stts,
+      length-stsc t.stsc,
+      length-stsz t.common t.count t.sizes,
+      places.1,
+      is.few_times,
+      is.few_runs,
+      is.few_sizes,
+    )
+
+pub length-minf : (t : TrakValues) → IsTrak t → HasKind t.media → length (nodes_bytes (minf_nodes t)) ≤ 32000290
+length-minf t is has =
+    let stbl = node (codes "stbl") (nodes_bytes (stbl_nodes t)) in
+    let dinf = node (codes "dinf") (nodes_bytes dinf_nodes) in
+    let hdlr = node (codes "hdlr") (hdlr_body (codes "dhlr") (codes "alis")) in
+    let head = are-media t.media in
+    omega (
+      arith,
+      length-nodes (media_node t.media) (hdlr ∷ dinf ∷ stbl ∷ []) head.0.kind,
       length-nodes hdlr (dinf ∷ stbl ∷ []) refl,
       length-nodes dinf (stbl ∷ []) refl,
       length-nodes stbl [] refl,
-      length-vmhd,
+      head.1,
       length-data_handler,
       length-dinf,
-      length-stbl head es,
+      length-stbl t is has,
     )
 
-pub length-mdia : (head : Head) (es : List Extent) → length (nodes_bytes (mdia_nodes head es)) ≤ 360 + 12 * length es
-length-mdia head es =
-    let minf = node (codes "minf") (nodes_bytes (minf_nodes head es)) in
-    let hdlr = node (codes "hdlr") (hdlr_body (codes "mhlr") (codes "vide")) in
-    let mdhd = node (codes "mdhd") (mdhd_body head.num (duration_of head es)) in
+pub length-mdia : (t : TrakValues) → IsTrak t → HasKind t.media → length (nodes_bytes (mdia_nodes t)) ≤ 32000390
+length-mdia t is has =
+    let minf = node (codes "minf") (nodes_bytes (minf_nodes t)) in
+    let hdlr = node (codes "hdlr") (hdlr_body (codes "mhlr") (subtype_of t.media)) in
+    let mdhd = node (codes "mdhd") (mdhd_body t.timescale t.duration) in
     omega (
       arith,
       length-nodes mdhd (hdlr ∷ minf ∷ []) refl,
       length-nodes hdlr (minf ∷ []) refl,
       length-nodes minf [] refl,
-      length-mdhd head.num (duration_of head es),
-      length-handler,
-      length-minf head es,
+      length-mdhd t.timescale t.duration,
+      length-handler t.media,
+      length-minf t is has,
     )
 
-pub length-trak : (head : Head) (es : List Extent) → length (nodes_bytes (trak_nodes head es)) ≤ 460 + 12 * length es
-length-trak head es =
-    let mdia = node (codes "mdia") (nodes_bytes (mdia_nodes head es)) in
-    let tkhd = node (codes "tkhd") (tkhd_body (duration_of head es) head.width head.height) in
-    omega (arith, length-nodes tkhd (mdia ∷ []) refl, length-nodes mdia [] refl, length-tkhd (duration_of head es) head.width head.height, length-mdia head es)
+pub length-trak : (t : TrakValues) → IsTrak t → HasKind t.media → length (nodes_bytes (trak_nodes t)) ≤ 32000500
+length-trak t is has =
+    let mdia = node (codes "mdia") (nodes_bytes (mdia_nodes t)) in
+    let tkhd = node (codes "tkhd") (tkhd_body t) in
+    omega (arith, length-nodes tkhd (mdia ∷ []) refl, length-nodes mdia [] refl, length-tkhd t, length-mdia t is has)
 
-pub length-moov : (head : Head) (es : List Extent) → length (nodes_bytes (moov_nodes head es)) ≤ 576 + 12 * length es
-length-moov head es =
-    let trak = node (codes "trak") (nodes_bytes (trak_nodes head es)) in
-    let mvhd = node (codes "mvhd") (mvhd_body head.num (duration_of head es)) in
-    omega (arith, length-nodes mvhd (trak ∷ []) refl, length-nodes trak [] refl, length-mvhd head.num (duration_of head es), length-trak head es)
+length-traks : (traks : List TrakValues) → AllByRecursion IsTrak traks → AllByRecursion (λ t. HasKind t.media) traks → length (nodes_bytes (map trak_node traks)) ≤ 32000600 * length traks
+length-traks [] is has = omega arith
+length-traks (t ∷ traks) is has =
+    omega (arith, length-nodes (trak_node t) (map trak_node traks) refl, length-trak t is.0 has.0, length-traks traks is.1 has.1)
+
+pub length-moov : (timescale duration : ℕ) (traks : List TrakValues) → AllByRecursion IsTrak traks → AllByRecursion (λ t. HasKind t.media) traks → length traks ≤ 100
+    → length (nodes_bytes (moov_nodes timescale duration traks)) ≤ 3200060200
+length-moov timescale duration traks is has few =
+    let mvhd = node (codes "mvhd") (mvhd_body timescale duration (length traks + 1)) in
+    omega (arith, length-nodes mvhd (map trak_node traks) refl, length-mvhd timescale duration (length traks + 1), length-traks traks is has)
 
 -- ---- each is an atom
 
-pub are-minf : (head : Head) (es : List Extent) → length es ≤ 1000000 → AllByRecursion IsNode (minf_nodes head es)
-are-minf head es few = (
-  record { kind = refl; size = omega (arith, length-vmhd) },
+pub are-stbl : (t : TrakValues) → IsTrak t → HasKind t.media → AllByRecursion IsNode (stbl_nodes t)
+are-stbl t is has = (
+  record { kind = refl; size = omega (arith, stsd-few t.media has) },
+  (
+    record { kind = refl; size = omega (arith, length-stts t.stts, is.few_times) },
+    (
+      record { kind = refl; size = omega (arith, length-stsc t.stsc, is.few_runs) },
+      (record { kind = refl; size = omega (arith, length-stsz t.common t.count t.sizes, is.few_sizes) }, ((are-offsets (are_near t.offsets) t.offsets is.few_chunks).0, tt)),
+    ),
+  ),
+)
+
+pub are-minf : (t : TrakValues) → IsTrak t → HasKind t.media → AllByRecursion IsNode (minf_nodes t)
+are-minf t is has = (
+  (are-media t.media).0,
   (
     record { kind = refl; size = omega (arith, length-data_handler) },
     (
       record { kind = refl; size = omega (arith, length-dinf) },
-      (record { kind = refl; size = omega (arith, length-stbl head es) }, tt),
+      (record { kind = refl; size = omega (arith, length-stbl t is has) }, tt),
     ),
   ),
 )
@@ -131,23 +171,25 @@ are-minf head es few = (
 pub are-dinf : AllByRecursion IsNode dinf_nodes
 are-dinf = (record { kind = refl; size = omega (arith, length-dref) }, tt)
 
-pub are-mdia : (head : Head) (es : List Extent) → length es ≤ 1000000 → AllByRecursion IsNode (mdia_nodes head es)
-are-mdia head es few = (
-  record { kind = refl; size = omega (arith, length-mdhd head.num (duration_of head es)) },
+pub are-mdia : (t : TrakValues) → IsTrak t → HasKind t.media → AllByRecursion IsNode (mdia_nodes t)
+are-mdia t is has = (
+  record { kind = refl; size = omega (arith, length-mdhd t.timescale t.duration) },
   (
-    record { kind = refl; size = omega (arith, length-handler) },
-    (record { kind = refl; size = omega (arith, length-minf head es) }, tt),
+    record { kind = refl; size = omega (arith, length-handler t.media) },
+    (record { kind = refl; size = omega (arith, length-minf t is has) }, tt),
   ),
 )
 
-pub are-trak : (head : Head) (es : List Extent) → length es ≤ 1000000 → AllByRecursion IsNode (trak_nodes head es)
-are-trak head es few = (
-  record { kind = refl; size = omega (arith, length-tkhd (duration_of head es) head.width head.height) },
-  (record { kind = refl; size = omega (arith, length-mdia head es) }, tt),
+pub are-trak : (t : TrakValues) → IsTrak t → HasKind t.media → AllByRecursion IsNode (trak_nodes t)
+are-trak t is has = (
+  record { kind = refl; size = omega (arith, length-tkhd t) },
+  (record { kind = refl; size = omega (arith, length-mdia t is has) }, tt),
 )
 
-pub are-moov : (head : Head) (es : List Extent) → length es ≤ 1000000 → AllByRecursion IsNode (moov_nodes head es)
-are-moov head es few = (
-  record { kind = refl; size = omega (arith, length-mvhd head.num (duration_of head es)) },
-  (record { kind = refl; size = omega (arith, length-trak head es) }, tt),
-)
+are-traks : (traks : List TrakValues) → AllByRecursion IsTrak traks → AllByRecursion (λ t. HasKind t.media) traks → AllByRecursion IsNode (map trak_node traks)
+are-traks [] is has = tt
+are-traks (t ∷ traks) is has = (record { kind = refl; size = omega (arith, length-trak t is.0 has.0) }, are-traks traks is.1 has.1)
+
+pub are-moov : (timescale duration : ℕ) (traks : List TrakValues) → AllByRecursion IsTrak traks → AllByRecursion (λ t. HasKind t.media) traks → AllByRecursion IsNode (moov_nodes timescale duration traks)
+are-moov timescale duration traks is has =
+    (record { kind = refl; size = omega (arith, length-mvhd timescale duration (length traks + 1)) }, are-traks traks is has)

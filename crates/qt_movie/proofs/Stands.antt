@@ -7,7 +7,7 @@ use Rattle.qt_atoms.specs.declared.atom.Atom.{Atom}
 use Rattle.qt_atoms.specs.Atoms.{Walk, walk, children, bytes_in}
 use Rattle.qt_atoms.specs.Written.{Node, atom_of, IsNode, placed}
 use Rattle.qt_atoms.proofs.WrittenAtoms.{walk_written}
-use Rattle.qt_movie.specs.MovieBytes.{node, nodes_bytes}
+use Rattle.qt_movie.specs.Bodies.{node, nodes_bytes}
 
 -- an atom stands at this place of a file
 pub record Stands (file : List ℕ) (at : ℕ) (n : Node) : Type 0 where

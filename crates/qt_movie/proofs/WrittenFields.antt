@@ -1,25 +1,26 @@
--- The fields of a written movie are read.
-use Rattle.std.proofs.Common.{◌≡◌, ℕ, ◌+◌, ◌-◌, ◌≤◌, ◌<◌, ◌^◌, Bool, true, false, nat_le, List, [], ◌∷◌, ◌++◌, length, take, drop, Ok, refl, sym, ap, ◌∙◌, arith}
+-- The fields of a written track are read.
+use Rattle.std.proofs.Common.{◌≡◌, ℕ, ◌+◌, ◌-◌, ◌≤◌, ◌<◌, ◌^◌, true, false, nat_le, List, [], ◌∷◌, ◌++◌, length, take, drop, Ok, refl, sym, ap, ◌∙◌, arith}
 use Rattle.std.specs.Prelude.{codes, ◌==◌}
 use Rattle.std.specs.Int.{w8, w16, w32, from_be_bytes}
 use Rattle.std.proofs.lemmas.Bool.Decides.{nat_tests}
 use Rattle.std.proofs.lemmas.List.{drop-drop}
 use Rattle.std.proofs.lemmas.Nat.{from_be_bytes-to_be_bytes_2, from_be_bytes-to_be_bytes_4}
 use Rattle.pw_outside.specs.Reading.{bind}
-use Rattle.pic_y4m.specs.declared.head.Head.{Head}
 use Rattle.qt_atoms.specs.declared.atom.Atom.{Atom}
 use Rattle.qt_atoms.specs.Atoms.{number_in, kind_in}
 use Rattle.qt_tables.specs.Tables.{body_length, timescale_in}
 use Rattle.qt_movie.specs.declared.description.Description.{Description}
 use Rattle.qt_movie.specs.Movie.{is_video, is_prores, description_in, descriptions_in, described, reference_at, references_of}
-use Rattle.qt_movie.specs.MovieBytes.{node, be16, be32, mdhd_body, hdlr_body, dref_body, is_422, kind_of, stsd_body}
+use Rattle.qt_movie.specs.declared.trak.Media.TheVariants as media
+use Rattle.qt_movie.specs.Bodies.{node, be16, be32, mdhd_body, hdlr_body, dref_body}
+use Rattle.qt_movie.specs.Trak.{pictures_bytes, sound_bytes, stsd_body}
 use Rattle.qt_movie.proofs.Stands.{Stands, atom_here, body_here, field_here}
-use Rattle.qt_movie.proofs.Nodes.{stsd_with, kind_for, stsd-is, length-stsd, length-mdhd, length-handler, length-dref}
+use Rattle.qt_movie.proofs.Nodes.{length-pictures, length-mdhd, length-handler, length-dref}
 
-further : (file rest : List ℕ) (place j : ℕ) → drop place file ≡ rest → drop (place + j) file ≡ drop j rest
+pub further : (file rest : List ℕ) (place j : ℕ) → drop place file ≡ rest → drop (place + j) file ≡ drop j rest
 further file rest place j e = sym (drop-drop j place file) ∙ ap (drop j) e
 
-body-of : (at len : ℕ) → (at + (len + 8)) - (at + 8) ≡ len
+pub body-of : (at len : ℕ) → (at + (len + 8)) - (at + 8) ≡ len
 body-of at len = omega arith
 
 -- ---- the handler
@@ -35,7 +36,7 @@ pub is-video : (file : List ℕ) (at : ℕ) → Stands file at (node (codes "hdl
 is-video file at s =
     let body = hdlr_body (codes "mhlr") (codes "vide") in
     let here = field_here file (body ++ s.behind) (at + 8) 4 8 (body_here file at (node (codes "hdlr") body) refl s) ∙ handler-field s.behind in
-    let long : nat_le 12 (body_length (hdlr_here at)) ≡ true = grind (arith, nat_tests, body-of at (length body), length-handler) in
+    let long : nat_le 12 (body_length (hdlr_here at)) ≡ true = grind (arith, nat_tests, body-of at (length body), length-handler (media.Video [] 0 0 0)) in
     rw (here, long) refl
 
 -- ---- the time scale
@@ -101,31 +102,26 @@ references-read file at s =
 -- ---- the description
 
 -- the description that was written, where it begins
-abbrev pub description_here : Head → ℕ → Description
-description_here head place = record { at = place; size = 86; kind = kind_of head; reference = 1 }
+abbrev pub description_here : (kind : List ℕ) → ℕ → Description
+description_here kind place = record { at = place; size = 86; kind = kind; reference = 1 }
 
-prores : (b : Bool) → is_prores (kind_for b) ≡ true
-prores true = refl
-prores false = refl
+-- the fields of a description of pictures, which stand 8 bytes into the body
+record Fields (rest kind : List ℕ) (width height : ℕ) : Type 0 where
+  count : take 4 (drop 4 rest) ≡ be32 1
+  size : take 4 (drop 8 rest) ≡ be32 86
+  kind_is : take 4 (drop 4 (drop 8 rest)) ≡ kind
+  reference : take 2 (drop 14 (drop 8 rest)) ≡ be16 1
+  wide : take 2 (drop 32 (drop 8 rest)) ≡ be16 width
+  high : take 2 (drop 34 (drop 8 rest)) ≡ be16 height
 
-pub is-prores : (head : Head) → is_prores (kind_of head) ≡ true
-is-prores head = prores (is_422 head)
-
-stsd-kind : (b : Bool) (head : Head) (behind : List ℕ) → take 4 (drop 4 (drop 8 (stsd_with (kind_for b) head ++ behind))) ≡ kind_for b
-stsd-kind true head behind = refl
-stsd-kind false head behind = refl
-
-stsd-reference : (b : Bool) (head : Head) (behind : List ℕ) → take 2 (drop 14 (drop 8 (stsd_with (kind_for b) head ++ behind))) ≡ be16 1
-stsd-reference true head behind = refl
-stsd-reference false head behind = refl
-
-stsd-width : (b : Bool) (head : Head) (behind : List ℕ) → take 2 (drop 32 (drop 8 (stsd_with (kind_for b) head ++ behind))) ≡ be16 head.width
-stsd-width true head behind = refl
-stsd-width false head behind = refl
-
-stsd-height : (b : Bool) (head : Head) (behind : List ℕ) → take 2 (drop 34 (drop 8 (stsd_with (kind_for b) head ++ behind))) ≡ be16 head.height
-stsd-height true head behind = refl
-stsd-height false head behind = refl
+fields : (kind : List ℕ) (width height depth : ℕ) (behind : List ℕ) → length kind ≡ 4 → Fields (stsd_body (media.Video kind width height depth) ++ behind) kind width height
+unfolding pictures_bytes sound_bytes
+fields (a ∷ b ∷ c ∷ d ∷ []) width height depth behind four = record { count = refl; size = refl; kind_is = refl; reference = refl; wide = refl; high = refl }
+fields [] width height depth behind four = absurd (omega (arith, four))
+fields (a ∷ []) width height depth behind four = absurd (omega (arith, four))
+fields (a ∷ b ∷ []) width height depth behind four = absurd (omega (arith, four))
+fields (a ∷ b ∷ c ∷ []) width height depth behind four = absurd (omega (arith, four))
+fields (a ∷ b ∷ c ∷ d ∷ e ∷ kind) width height depth behind four = absurd (omega (arith, four))
 
 one-description : (file : List ℕ) (stsd : Atom) (kind : List ℕ) → body_length stsd ≡ 94 → stsd.end - (stsd.body + 8) ≡ 86 → number_in w32 file (stsd.body + 4) ≡ 1
     → number_in w32 file (stsd.body + 8) ≡ 86 → kind_in file (stsd.body + 8) ≡ kind → number_in w16 file ((stsd.body + 8) + 14) ≡ 1 → is_prores kind ≡ true
@@ -134,34 +130,29 @@ unfolding descriptions_in described description_in bind
 one-description file stsd kind l m a b c d p = rw (l, a, m, b, c, p, d) refl
 
 -- what is read of the `stsd`
-pub record StsdIsRead (file : List ℕ) (at : ℕ) (head : Head) : Type 0 where
-  pub descriptions : descriptions_in file (atom_here at (node (codes "stsd") (stsd_body head))) ≡ Ok (description_here head ((at + 8) + 8) ∷ [])
-  pub width : number_in w16 file (((at + 8) + 8) + 32) ≡ head.width
-  pub height : number_in w16 file (((at + 8) + 8) + 34) ≡ head.height
+pub record StsdIsRead (file : List ℕ) (at : ℕ) (kind : List ℕ) (width height depth : ℕ) : Type 0 where
+  pub descriptions : descriptions_in file (atom_here at (node (codes "stsd") (stsd_body (media.Video kind width height depth)))) ≡ Ok (description_here kind ((at + 8) + 8) ∷ [])
+  pub width_is : number_in w16 file (((at + 8) + 8) + 32) ≡ width
+  pub height_is : number_in w16 file (((at + 8) + 8) + 34) ≡ height
 
-pub stsd-read : (file : List ℕ) (at : ℕ) (head : Head) → head.width < 2 ^ 16 → head.height < 2 ^ 16 → Stands file at (node (codes "stsd") (stsd_body head)) → StsdIsRead file at head
-stsd-read file at head wide high s =
-    let b = is_422 head in
-    let body = stsd_with (kind_for b) head in
-    let n = node (codes "stsd") (stsd_body head) in
+pub stsd-read : (file : List ℕ) (at : ℕ) (kind : List ℕ) (width height depth : ℕ) → length kind ≡ 4 → is_prores kind ≡ true → width < 2 ^ 16 → height < 2 ^ 16
+    → Stands file at (node (codes "stsd") (stsd_body (media.Video kind width height depth))) → StsdIsRead file at kind width height depth
+stsd-read file at kind width height depth four prores wide high s =
+    let body = stsd_body (media.Video kind width height depth) in
+    let n = node (codes "stsd") body in
     let rest = body ++ s.behind in
-    let there : drop (at + 8) file ≡ rest = body_here file at n refl s ∙ ap (λ l. l ++ s.behind) (stsd-is head) in
+    let has = fields kind width height depth s.behind four in
+    let there : drop (at + 8) file ≡ rest = body_here file at n refl s in
     let entry : drop ((at + 8) + 8) file ≡ drop 8 rest = further file rest (at + 8) 8 there in
-    let left : (at + (length (stsd_body head) + 8)) - ((at + 8) + 8) ≡ 86 = omega (arith, length-stsd head) in
+    let long = length-pictures kind width height depth four in
+    let left : (at + (length body + 8)) - ((at + 8) + 8) ≡ 86 = omega (arith, long) in
     record {
-      descriptions = one-description file (atom_here at n) (kind_of head) (body-of at (length (stsd_body head)) ∙ length-stsd head) left
-          (ap (from_be_bytes w32) (field_here file rest (at + 8) 4 4 there))
-          (ap (from_be_bytes w32) (field_here file rest (at + 8) 4 8 there))
-          (field_here file (drop 8 rest) ((at + 8) + 8) 4 4 entry ∙ stsd-kind b head s.behind)
-          (ap (from_be_bytes w16) (field_here file (drop 8 rest) ((at + 8) + 8) 2 14 entry ∙ stsd-reference b head s.behind))
-          (is-prores head);
-      width = ap (from_be_bytes w16) (field_here file (drop 8 rest) ((at + 8) + 8) 2 32 entry ∙ stsd-width b head s.behind) ∙ from_be_bytes-to_be_bytes_2 head.width wide;
-      height = ap (from_be_bytes w16) (field_here file (drop 8 rest) ((at + 8) + 8) 2 34 entry ∙ stsd-height b head s.behind) ∙ from_be_bytes-to_be_bytes_2 head.height high;
+      descriptions = one-description file (atom_here at n) kind (body-of at (length body) ∙ long) left
+          (ap (from_be_bytes w32) (field_here file rest (at + 8) 4 4 there ∙ has.count))
+          (ap (from_be_bytes w32) (field_here file rest (at + 8) 4 8 there ∙ has.size))
+          (field_here file (drop 8 rest) ((at + 8) + 8) 4 4 entry ∙ has.kind_is)
+          (ap (from_be_bytes w16) (field_here file (drop 8 rest) ((at + 8) + 8) 2 14 entry ∙ has.reference))
+          prores;
+      width_is = ap (from_be_bytes w16) (field_here file (drop 8 rest) ((at + 8) + 8) 2 32 entry ∙ has.wide) ∙ from_be_bytes-to_be_bytes_2 width wide;
+      height_is = ap (from_be_bytes w16) (field_here file (drop 8 rest) ((at + 8) + 8) 2 34 entry ∙ has.high) ∙ from_be_bytes-to_be_bytes_2 height high;
     }
-
--- how many descriptions the body itself says there are
-pub described-once : (head : Head) → 1 ≤ number_in w32 (stsd_body head) 4
-described-once head =
-    let one : number_in w32 (stsd_with (kind_for (is_422 head)) head) 4 ≡ 1 = refl in
-    let e : number_in w32 (stsd_body head) 4 ≡ 1 = ap (λ l. number_in w32 l 4) (stsd-is head) ∙ one in
-    rw e (omega arith)

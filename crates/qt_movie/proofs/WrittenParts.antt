@@ -1,64 +1,42 @@
 -- The atoms inside the movie atom of a written movie are found.
-use Rattle.std.proofs.Common.{◌≡◌, ℕ, ◌+◌, true, false, List, [], ◌∷◌, ◌++◌, length, None, Some, Ok, refl, sym, ap, ◌∙◌, arith, length-append}
+use Rattle.std.proofs.Common.{◌≡◌, ℕ, ◌+◌, Bool, true, false, List, [], ◌∷◌, length, map, None, Some, Ok, refl, ap, ◌∙◌}
 use Rattle.std.specs.Prelude.{codes}
+use Rattle.std.specs.List.{find}
 use Rattle.pw_outside.specs.Reading.{bind}
-use Rattle.pic_y4m.specs.declared.head.Head.{Head}
 use Rattle.qt_atoms.specs.declared.atom.Atom.{Atom}
-use Rattle.qt_atoms.specs.declared.atom.Step.TheVariants as steps
-use Rattle.qt_atoms.specs.Atoms.{child, child_of, is_kind, is_one_of, atom_at}
-use Rattle.qt_atoms.specs.Written.{Node, atom, IsNode}
-use Rattle.qt_atoms.proofs.Walks.{first-hit}
-use Rattle.qt_atoms.proofs.WrittenAtoms.{atom_stands}
-use Rattle.qt_tables.specs.declared.writer.Extent.{Extent}
+use Rattle.qt_atoms.specs.Atoms.{child, child_of, first_in, found_or, is_one_of}
+use Rattle.qt_atoms.specs.Written.{Node, placed}
 use Rattle.qt_movie.specs.declared.parts.Parts.{Parts}
 use Rattle.qt_movie.specs.declared.description.Description.{Description}
+use Rattle.qt_movie.specs.declared.trak.Media.{Media}
+use Rattle.qt_movie.specs.declared.trak.Media.TheVariants as media
 use Rattle.qt_movie.specs.Movie.{traks_of, whole_in, parts_in, is_video, is_prores, descriptions_in, VideoTrack, track_in, first_track, dref_in, references_of, data_in, moov_in, taken_in}
-use Rattle.qt_movie.specs.MovieBytes.{node, nodes_bytes, mvhd_body, tkhd_body, mdhd_body, hdlr_body, vmhd_body, dref_body, stsd_body, duration_of, dinf_nodes, stbl_nodes, minf_nodes, mdia_nodes, trak_nodes, moov_nodes}
-use Rattle.qt_movie.proofs.Stands.{Stands, StandAll, atom_here, first_stands, others_stand, inside}
+use Rattle.qt_movie.specs.Bodies.{node, nodes_bytes, mvhd_body, mdhd_body, hdlr_body, vmhd_body, dref_body, dinf_nodes}
+use Rattle.qt_movie.specs.Trak.{TrakValues, IsTrak, subtype_of, smhd_body, media_node, stsd_body, stts_body, stsc_body, stsz_body, offsets_node, tkhd_body, stbl_nodes, minf_nodes, mdia_nodes, trak_nodes, trak_node, moov_nodes}
+use Rattle.qt_movie.specs.Laws.{HasKind}
+use Rattle.qt_movie.proofs.Nodes.{are-media, are-trak, are-mdia, are-minf, are-dinf, are-stbl}
+use Rattle.qt_movie.proofs.Stands.{Stands, StandAll, atom_here, first_stands, others_stand, inside, children_met}
 use Rattle.qt_movie.proofs.TopLevel.{moov_node}
-
--- ---- the first child
-
--- the first atom inside a parent is found by its kind
-pub first_child : (file : List ℕ) (at : ℕ) (kind : List ℕ) (n : Node) (nodes : List Node) → length kind ≡ 4 → IsNode n → Stands file at (node kind (nodes_bytes (n ∷ nodes))) → is_kind n.kind (atom_here (at + 8) n) ≡ true
-    → child file (atom_here at (node kind (nodes_bytes (n ∷ nodes)))) n.kind ≡ Ok (Some (atom_here (at + 8) n))
-first_child file at kind n nodes four is s same =
-    let all = inside file at kind (n ∷ nodes) four s in
-    let here = first_stands file (at + 8) n nodes all in
-    let end = at + (length (nodes_bytes (n ∷ nodes)) + 8) in
-    let long : length (nodes_bytes (n ∷ nodes)) ≡ length n.body + 8 + length (nodes_bytes nodes) = omega (arith, length-append (atom n.kind n.body) (nodes_bytes nodes), length-append n.kind n.body, is.kind) in
-    let stands : atom_at file (at + 8) end false ≡ Ok (steps.Atom (atom_here (at + 8) n)) =
-    ap (λ f. atom_at f (at + 8) end false) here.whole ∙ ap (λ p. atom_at (here.front ++ (atom n.kind n.body ++ here.behind)) p end false) (sym here.place)
-    ∙ atom_stands here.front n.kind n.body here.behind end false is.kind is.size (omega (arith, here.place, long))
-    ∙ ap (λ p. (Ok (steps.Atom (atom_here p n)))) here.place in
-    let hit : is_one_of (n.kind ∷ []) (atom_here (at + 8) n) ≡ true = rw same refl in
-    first-hit (is_one_of (n.kind ∷ [])) file (at + 8) end false (atom_here (at + 8) n) (child file (atom_here at (node kind (nodes_bytes (n ∷ nodes)))) n.kind) (omega (arith, long)) stands hit refl
 
 -- ---- each atom stands inside its parent
 
-abbrev pub mvhd_node : Head → List Extent → Node
-mvhd_node head es = node (codes "mvhd") (mvhd_body head.num (duration_of head es))
+abbrev pub mvhd_node : (timescale duration : ℕ) → List TrakValues → Node
+mvhd_node timescale duration traks = node (codes "mvhd") (mvhd_body timescale duration (length traks + 1))
 
-abbrev pub trak_node : Head → List Extent → Node
-trak_node head es = node (codes "trak") (nodes_bytes (trak_nodes head es))
+abbrev pub tkhd_node : TrakValues → Node
+tkhd_node t = node (codes "tkhd") (tkhd_body t)
 
-abbrev pub tkhd_node : Head → List Extent → Node
-tkhd_node head es = node (codes "tkhd") (tkhd_body (duration_of head es) head.width head.height)
+abbrev pub mdia_node : TrakValues → Node
+mdia_node t = node (codes "mdia") (nodes_bytes (mdia_nodes t))
 
-abbrev pub mdia_node : Head → List Extent → Node
-mdia_node head es = node (codes "mdia") (nodes_bytes (mdia_nodes head es))
+abbrev pub mdhd_node : TrakValues → Node
+mdhd_node t = node (codes "mdhd") (mdhd_body t.timescale t.duration)
 
-abbrev pub mdhd_node : Head → List Extent → Node
-mdhd_node head es = node (codes "mdhd") (mdhd_body head.num (duration_of head es))
+abbrev pub hdlr_node : Media → Node
+hdlr_node m = node (codes "hdlr") (hdlr_body (codes "mhlr") (subtype_of m))
 
-abbrev pub hdlr_node : Node
-hdlr_node = node (codes "hdlr") (hdlr_body (codes "mhlr") (codes "vide"))
-
-abbrev pub minf_node : Head → List Extent → Node
-minf_node head es = node (codes "minf") (nodes_bytes (minf_nodes head es))
-
-abbrev pub vmhd_node : Node
-vmhd_node = node (codes "vmhd") vmhd_body
+abbrev pub minf_node : TrakValues → Node
+minf_node t = node (codes "minf") (nodes_bytes (minf_nodes t))
 
 abbrev pub data_hdlr_node : Node
 data_hdlr_node = node (codes "hdlr") (hdlr_body (codes "dhlr") (codes "alis"))
@@ -69,72 +47,118 @@ dinf_node = node (codes "dinf") (nodes_bytes dinf_nodes)
 abbrev pub dref_node : Node
 dref_node = node (codes "dref") dref_body
 
-abbrev pub stbl_node : Head → List Extent → Node
-stbl_node head es = node (codes "stbl") (nodes_bytes (stbl_nodes head es))
+abbrev pub stbl_node : TrakValues → Node
+stbl_node t = node (codes "stbl") (nodes_bytes (stbl_nodes t))
 
-abbrev pub stsd_node : Head → Node
-stsd_node head = node (codes "stsd") (stsd_body head)
+abbrev pub stsd_node : Media → Node
+stsd_node m = node (codes "stsd") (stsd_body m)
+
+-- the tables behind the descriptions
+abbrev table_nodes : TrakValues → List Node
+table_nodes t = node (codes "stts") (stts_body t.stts) ∷ node (codes "stsc") (stsc_body t.stsc) ∷ node (codes "stsz") (stsz_body t.common t.count t.sizes) ∷ offsets_node t.offsets ∷ []
 
 -- where an atom stands behind another
 abbrev pub behind_node : ℕ → Node → ℕ
 behind_node at n = at + (length n.body + 8)
 
-abbrev pub trak_place : ℕ → Head → List Extent → ℕ
-trak_place moov head es = behind_node (moov + 8) (mvhd_node head es)
+-- the place of the first track of a `moov`
+abbrev pub trak_place : (moov timescale duration : ℕ) → List TrakValues → ℕ
+trak_place moov timescale duration traks = behind_node (moov + 8) (mvhd_node timescale duration traks)
 
-abbrev pub mdia_place : ℕ → Head → List Extent → ℕ
-mdia_place trak head es = behind_node (trak + 8) (tkhd_node head es)
+abbrev pub mdia_place : ℕ → TrakValues → ℕ
+mdia_place trak t = behind_node (trak + 8) (tkhd_node t)
 
-abbrev pub hdlr_place : ℕ → Head → List Extent → ℕ
-hdlr_place mdia head es = behind_node (mdia + 8) (mdhd_node head es)
+abbrev pub hdlr_place : ℕ → TrakValues → ℕ
+hdlr_place mdia t = behind_node (mdia + 8) (mdhd_node t)
 
-abbrev pub minf_place : ℕ → Head → List Extent → ℕ
-minf_place mdia head es = behind_node (hdlr_place mdia head es) hdlr_node
+abbrev pub minf_place : ℕ → TrakValues → ℕ
+minf_place mdia t = behind_node (hdlr_place mdia t) (hdlr_node t.media)
 
-abbrev pub dinf_place : ℕ → ℕ
-dinf_place minf = behind_node (behind_node (minf + 8) vmhd_node) data_hdlr_node
+abbrev pub dinf_place : ℕ → Media → ℕ
+dinf_place minf m = behind_node (behind_node (minf + 8) (media_node m)) data_hdlr_node
 
-abbrev pub stbl_place : ℕ → ℕ
-stbl_place minf = behind_node (dinf_place minf) dinf_node
+abbrev pub stbl_place : ℕ → Media → ℕ
+stbl_place minf m = behind_node (dinf_place minf m) dinf_node
 
-pub trak_stands : (file : List ℕ) (at : ℕ) (head : Head) (es : List Extent) → Stands file at (moov_node head es) → Stands file (trak_place at head es) (trak_node head es)
-trak_stands file at head es s =
-    let all = inside file at (codes "moov") (moov_nodes head es) refl s in
-    first_stands file (trak_place at head es) (trak_node head es) [] (others_stand file (at + 8) (mvhd_node head es) (trak_node head es ∷ []) refl all)
+-- the tracks stand behind the head of the movie
+pub traks_stand : (file : List ℕ) (at timescale duration : ℕ) (traks : List TrakValues) → Stands file at (moov_node timescale duration traks) → StandAll file (trak_place at timescale duration traks) (map trak_node traks)
+traks_stand file at timescale duration traks s =
+    others_stand file (at + 8) (mvhd_node timescale duration traks) (map trak_node traks) refl (inside file at (codes "moov") (moov_nodes timescale duration traks) refl s)
 
-pub mdia_stands : (file : List ℕ) (at : ℕ) (head : Head) (es : List Extent) → Stands file at (trak_node head es) → Stands file (mdia_place at head es) (mdia_node head es)
-mdia_stands file at head es s =
-    let all = inside file at (codes "trak") (trak_nodes head es) refl s in
-    first_stands file (mdia_place at head es) (mdia_node head es) [] (others_stand file (at + 8) (tkhd_node head es) (mdia_node head es ∷ []) refl all)
+pub mdia_stands : (file : List ℕ) (at : ℕ) (t : TrakValues) → Stands file at (trak_node t) → Stands file (mdia_place at t) (mdia_node t)
+mdia_stands file at t s =
+    first_stands file (mdia_place at t) (mdia_node t) [] (others_stand file (at + 8) (tkhd_node t) (mdia_node t ∷ []) refl (inside file at (codes "trak") (trak_nodes t) refl s))
 
-pub mdhd_stands : (file : List ℕ) (at : ℕ) (head : Head) (es : List Extent) → Stands file at (mdia_node head es) → Stands file (at + 8) (mdhd_node head es)
-mdhd_stands file at head es s = first_stands file (at + 8) (mdhd_node head es) (hdlr_node ∷ minf_node head es ∷ []) (inside file at (codes "mdia") (mdia_nodes head es) refl s)
+pub mdhd_stands : (file : List ℕ) (at : ℕ) (t : TrakValues) → Stands file at (mdia_node t) → Stands file (at + 8) (mdhd_node t)
+mdhd_stands file at t s = first_stands file (at + 8) (mdhd_node t) (hdlr_node t.media ∷ minf_node t ∷ []) (inside file at (codes "mdia") (mdia_nodes t) refl s)
 
-behind_mdhd : (file : List ℕ) (at : ℕ) (head : Head) (es : List Extent) → Stands file at (mdia_node head es) → StandAll file (hdlr_place at head es) (hdlr_node ∷ minf_node head es ∷ [])
-behind_mdhd file at head es s = others_stand file (at + 8) (mdhd_node head es) (hdlr_node ∷ minf_node head es ∷ []) refl (inside file at (codes "mdia") (mdia_nodes head es) refl s)
+behind_mdhd : (file : List ℕ) (at : ℕ) (t : TrakValues) → Stands file at (mdia_node t) → StandAll file (hdlr_place at t) (hdlr_node t.media ∷ minf_node t ∷ [])
+behind_mdhd file at t s = others_stand file (at + 8) (mdhd_node t) (hdlr_node t.media ∷ minf_node t ∷ []) refl (inside file at (codes "mdia") (mdia_nodes t) refl s)
 
-pub hdlr_stands : (file : List ℕ) (at : ℕ) (head : Head) (es : List Extent) → Stands file at (mdia_node head es) → Stands file (hdlr_place at head es) hdlr_node
-hdlr_stands file at head es s = first_stands file (hdlr_place at head es) hdlr_node (minf_node head es ∷ []) (behind_mdhd file at head es s)
+pub hdlr_stands : (file : List ℕ) (at : ℕ) (t : TrakValues) → Stands file at (mdia_node t) → Stands file (hdlr_place at t) (hdlr_node t.media)
+hdlr_stands file at t s = first_stands file (hdlr_place at t) (hdlr_node t.media) (minf_node t ∷ []) (behind_mdhd file at t s)
 
-pub minf_stands : (file : List ℕ) (at : ℕ) (head : Head) (es : List Extent) → Stands file at (mdia_node head es) → Stands file (minf_place at head es) (minf_node head es)
-minf_stands file at head es s =
-    first_stands file (minf_place at head es) (minf_node head es) [] (others_stand file (hdlr_place at head es) hdlr_node (minf_node head es ∷ []) refl (behind_mdhd file at head es s))
+pub minf_stands : (file : List ℕ) (at : ℕ) (t : TrakValues) → Stands file at (mdia_node t) → Stands file (minf_place at t) (minf_node t)
+minf_stands file at t s = first_stands file (minf_place at t) (minf_node t) [] (others_stand file (hdlr_place at t) (hdlr_node t.media) (minf_node t ∷ []) refl (behind_mdhd file at t s))
 
-behind_handlers : (file : List ℕ) (at : ℕ) (head : Head) (es : List Extent) → Stands file at (minf_node head es) → StandAll file (dinf_place at) (dinf_node ∷ stbl_node head es ∷ [])
-behind_handlers file at head es s =
-    let all = inside file at (codes "minf") (minf_nodes head es) refl s in
-    let one = others_stand file (at + 8) vmhd_node (data_hdlr_node ∷ dinf_node ∷ stbl_node head es ∷ []) refl all in
-    others_stand file (behind_node (at + 8) vmhd_node) data_hdlr_node (dinf_node ∷ stbl_node head es ∷ []) refl one
+behind_handlers : (file : List ℕ) (at : ℕ) (t : TrakValues) → Stands file at (minf_node t) → StandAll file (dinf_place at t.media) (dinf_node ∷ stbl_node t ∷ [])
+behind_handlers file at t s =
+    let all = inside file at (codes "minf") (minf_nodes t) refl s in
+    let one = others_stand file (at + 8) (media_node t.media) (data_hdlr_node ∷ dinf_node ∷ stbl_node t ∷ []) (are-media t.media).0.kind all in
+    others_stand file (behind_node (at + 8) (media_node t.media)) data_hdlr_node (dinf_node ∷ stbl_node t ∷ []) refl one
 
-pub dinf_stands : (file : List ℕ) (at : ℕ) (head : Head) (es : List Extent) → Stands file at (minf_node head es) → Stands file (dinf_place at) dinf_node
-dinf_stands file at head es s = first_stands file (dinf_place at) dinf_node (stbl_node head es ∷ []) (behind_handlers file at head es s)
+pub dinf_stands : (file : List ℕ) (at : ℕ) (t : TrakValues) → Stands file at (minf_node t) → Stands file (dinf_place at t.media) dinf_node
+dinf_stands file at t s = first_stands file (dinf_place at t.media) dinf_node (stbl_node t ∷ []) (behind_handlers file at t s)
 
-pub stbl_stands : (file : List ℕ) (at : ℕ) (head : Head) (es : List Extent) → Stands file at (minf_node head es) → Stands file (stbl_place at) (stbl_node head es)
-stbl_stands file at head es s =
-    first_stands file (stbl_place at) (stbl_node head es) [] (others_stand file (dinf_place at) dinf_node (stbl_node head es ∷ []) refl (behind_handlers file at head es s))
+pub stbl_stands : (file : List ℕ) (at : ℕ) (t : TrakValues) → Stands file at (minf_node t) → Stands file (stbl_place at t.media) (stbl_node t)
+stbl_stands file at t s =
+    first_stands file (stbl_place at t.media) (stbl_node t) [] (others_stand file (dinf_place at t.media) dinf_node (stbl_node t ∷ []) refl (behind_handlers file at t s))
+
+pub stsd_stands : (file : List ℕ) (at : ℕ) (t : TrakValues) → Stands file at (stbl_node t) → Stands file (at + 8) (stsd_node t.media)
+stsd_stands file at t s = first_stands file (at + 8) (stsd_node t.media) (table_nodes t) (inside file at (codes "stbl") (stbl_nodes t) refl s)
 
 pub dref_stands : (file : List ℕ) (at : ℕ) → Stands file at dinf_node → Stands file (at + 8) dref_node
 dref_stands file at s = first_stands file (at + 8) dref_node [] (inside file at (codes "dinf") dinf_nodes refl s)
+
+-- ---- each is found
+
+pub mdia_found : (file : List ℕ) (at : ℕ) (t : TrakValues) → IsTrak t → HasKind t.media → Stands file at (trak_node t) → child file (atom_here at (trak_node t)) (codes "mdia") ≡ Ok (Some (atom_here (mdia_place at t) (mdia_node t)))
+mdia_found file at t is has s = ap (first_in (is_one_of (codes "mdia" ∷ []))) (children_met file at (codes "trak") (trak_nodes t) refl (are-trak t is has) s)
+
+pub mdhd_found : (file : List ℕ) (at : ℕ) (t : TrakValues) → IsTrak t → HasKind t.media → Stands file at (mdia_node t) → child file (atom_here at (mdia_node t)) (codes "mdhd") ≡ Ok (Some (atom_here (at + 8) (mdhd_node t)))
+mdhd_found file at t is has s = ap (first_in (is_one_of (codes "mdhd" ∷ []))) (children_met file at (codes "mdia") (mdia_nodes t) refl (are-mdia t is has) s)
+
+pub hdlr_found : (file : List ℕ) (at : ℕ) (t : TrakValues) → IsTrak t → HasKind t.media → Stands file at (mdia_node t) → child file (atom_here at (mdia_node t)) (codes "hdlr") ≡ Ok (Some (atom_here (hdlr_place at t) (hdlr_node t.media)))
+hdlr_found file at t is has s = ap (first_in (is_one_of (codes "hdlr" ∷ []))) (children_met file at (codes "mdia") (mdia_nodes t) refl (are-mdia t is has) s)
+
+pub minf_found : (file : List ℕ) (at : ℕ) (t : TrakValues) → IsTrak t → HasKind t.media → Stands file at (mdia_node t) → child file (atom_here at (mdia_node t)) (codes "minf") ≡ Ok (Some (atom_here (minf_place at t) (minf_node t)))
+minf_found file at t is has s = ap (first_in (is_one_of (codes "minf" ∷ []))) (children_met file at (codes "mdia") (mdia_nodes t) refl (are-mdia t is has) s)
+
+-- the head of the information on the media is none of the atoms that are looked for
+behind_head : (test : Atom → Bool) (at : ℕ) (m : Media) (others : List Atom) → ((p : ℕ) → test (atom_here p (node (codes "vmhd") vmhd_body)) ≡ false) → ((p : ℕ) → test (atom_here p (node (codes "smhd") smhd_body)) ≡ false)
+    → find test (atom_here at (media_node m) ∷ others) ≡ find test others
+behind_head test at (media.Video kind width height depth) others v s = rw (v at) refl
+behind_head test at (media.Sound channels rate) others v s = rw (s at) refl
+
+pub dinf_found : (file : List ℕ) (at : ℕ) (t : TrakValues) → IsTrak t → HasKind t.media → Stands file at (minf_node t) → child file (atom_here at (minf_node t)) (codes "dinf") ≡ Ok (Some (atom_here (dinf_place at t.media) dinf_node))
+dinf_found file at t is has s =
+    let test = is_one_of (codes "dinf" ∷ []) in
+    let others = placed (behind_node (at + 8) (media_node t.media)) (data_hdlr_node ∷ dinf_node ∷ stbl_node t ∷ []) in
+    ap (first_in test) (children_met file at (codes "minf") (minf_nodes t) refl (are-minf t is has) s)
+    ∙ ap (λ a. found_or a (Ok None)) (behind_head test (at + 8) t.media others (λ p. refl) (λ p. refl))
+
+pub stbl_found : (file : List ℕ) (at : ℕ) (t : TrakValues) → IsTrak t → HasKind t.media → Stands file at (minf_node t) → child file (atom_here at (minf_node t)) (codes "stbl") ≡ Ok (Some (atom_here (stbl_place at t.media) (stbl_node t)))
+stbl_found file at t is has s =
+    let test = is_one_of (codes "stbl" ∷ []) in
+    let others = placed (behind_node (at + 8) (media_node t.media)) (data_hdlr_node ∷ dinf_node ∷ stbl_node t ∷ []) in
+    ap (first_in test) (children_met file at (codes "minf") (minf_nodes t) refl (are-minf t is has) s)
+    ∙ ap (λ a. found_or a (Ok None)) (behind_head test (at + 8) t.media others (λ p. refl) (λ p. refl))
+
+pub stsd_found : (file : List ℕ) (at : ℕ) (t : TrakValues) → IsTrak t → HasKind t.media → Stands file at (stbl_node t) → child file (atom_here at (stbl_node t)) (codes "stsd") ≡ Ok (Some (atom_here (at + 8) (stsd_node t.media)))
+stsd_found file at t is has s = ap (first_in (is_one_of (codes "stsd" ∷ []))) (children_met file at (codes "stbl") (stbl_nodes t) refl (are-stbl t is has) s)
+
+pub dref_found : (file : List ℕ) (at : ℕ) → Stands file at dinf_node → child file (atom_here at dinf_node) (codes "dref") ≡ Ok (Some (atom_here (at + 8) dref_node))
+dref_found file at s = ap (first_in (is_one_of (codes "dref" ∷ []))) (children_met file at (codes "dinf") dinf_nodes refl are-dinf s)
 
 -- ---- the track is read, where its atoms are found
 
@@ -161,8 +185,8 @@ pub data_read : (file : List ℕ) (minf dinf dref : Atom) (d : Description)
 unfolding data_in dref_in bind
 data_read file minf dinf dref d a b c e = rw (a, b, c, e) refl
 
-pub taken_read : (file : List ℕ) (moov trak : Atom) (t : VideoTrack)
-    → moov_in file ≡ Ok moov → whole_in file moov ≡ Ok tt → traks_of file moov ≡ trak ∷ [] → track_in file 1 trak ≡ Ok (Some t) → data_in file t.parts.minf t.descriptions ≡ Ok tt
+pub taken_read : (file : List ℕ) (moov trak : Atom) (others : List Atom) (t : VideoTrack)
+    → moov_in file ≡ Ok moov → whole_in file moov ≡ Ok tt → traks_of file moov ≡ trak ∷ others → track_in file 1 trak ≡ Ok (Some t) → data_in file t.parts.minf t.descriptions ≡ Ok tt
     → taken_in file ≡ Ok t
 unfolding taken_in first_track bind
-taken_read file moov trak t a b c d e = rw (a, b, c, d, e) refl
+taken_read file moov trak others t a b c d e = rw (a, b, c, d, e) refl

@@ -1,5 +1,6 @@
 pub mod Movie
 pub mod Ranges
-pub mod MovieBytes
+pub mod Bodies
 pub mod Trak
+pub mod MovieBytes
 pub mod Laws

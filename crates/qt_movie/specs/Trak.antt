@@ -1,13 +1,13 @@
 -- A track as it is written, by its values and tables: one of pictures, or one of plain PCM sound. Atoms and fields by the QuickTime File Format;
 -- which atoms there are, and their order, are our own.
-use Rattle.std.specs.Prelude.{ℕ, ◌+◌, ◌*◌, ◌^◌, ◌==◌, nat_lt, Bool, List, [], ◌∷◌, ◌++◌, length, codes, if◌then◌else◌}
+use Rattle.std.specs.Prelude.{◌≡◌, ◌≤◌, ℕ, ◌+◌, ◌*◌, ◌^◌, ◌==◌, nat_lt, Bool, List, [], ◌∷◌, ◌++◌, length, map, codes, if◌then◌else◌}
 use Rattle.std.specs.List.{flat_map, list_all}
 use Rattle.std.specs.Int.{w64, to_be_bytes}
-use Rattle.qt_atoms.specs.Written.{Node}
+use Rattle.qt_atoms.specs.Written.{Node, atom}
 use Rattle.qt_tables.specs.Writing.{numbers_bytes}
 use Rattle.qt_movie.specs.declared.trak.Media.{Media}
 use Rattle.qt_movie.specs.declared.trak.Media.TheVariants as media
-use Rattle.qt_movie.specs.MovieBytes.{be16, be32, zeros, node, nodes_bytes, unit_matrix, mdhd_body, hdlr_body, vmhd_body, dinf_nodes}
+use Rattle.qt_movie.specs.Bodies.{be16, be32, zeros, node, nodes_bytes, unit_matrix, mvhd_body, mdhd_body, hdlr_body, vmhd_body, dinf_nodes}
 
 -- what a track is written by
 pub record TrakValues : Type 0 where
@@ -28,6 +28,14 @@ pub record TrakValues : Type 0 where
   pub sizes : List ℕ
   -- the places of the chunks
   pub offsets : List ℕ
+
+-- What can be written: each table has at most 1,000,000 rows, and there is a size for each sample where there is no common one, and none otherwise.
+pub record IsTrak (t : TrakValues) : Type 0 where
+  pub few_times : length t.stts ≤ 1000000
+  pub few_runs : length t.stsc ≤ 1000000
+  pub few_sizes : length t.sizes ≤ 1000000
+  pub few_chunks : length t.offsets ≤ 1000000
+  pub sized : length t.sizes ≡ (if t.common == 0 then t.count else 0)
 
 -- ---- the media
 
@@ -57,76 +65,108 @@ abbrev pub media_node : Media → Node
 media_node (media.Video kind width height depth) = node (codes "vmhd") vmhd_body
 media_node (media.Sound channels rate) = node (codes "smhd") smhd_body
 
--- A description of pictures has 86 bytes: kind, 6 reserved bytes, data reference 1, version and revision 0, vendor, qualities 0, width and height,
--- 72 dots to the inch twice, data size 0, one frame a sample, an empty name, depth, no colour table. One of sound has 36: `sowt`, 6 reserved bytes,
--- data reference 1, version and revision 0, vendor 0, channels, 16 bits a sample, compression and packet size 0, the rate with 16 bits behind the point.
-unfoldable pub described_bytes : Media → List ℕ
-described_bytes (media.Video kind width height depth) = be32 86 ++ kind ++ zeros 6 ++ be16 1 ++ be16 0 ++ be16 0 ++ codes "pwk0" ++ be32 0 ++ be32 0 ++ be16 width ++ be16 height
+-- A description of pictures behind its kind: 6 reserved bytes, data reference 1, version and revision 0, vendor, qualities 0, width and height,
+-- 72 dots to the inch twice, data size 0, one frame a sample, an empty name, depth, no colour table
+unfoldable pub pictures_bytes : (width height depth : ℕ) → List ℕ
+pictures_bytes width height depth = zeros 6 ++ be16 1 ++ be16 0 ++ be16 0 ++ codes "pwk0" ++ be32 0 ++ be32 0 ++ be16 width ++ be16 height
     ++ be32 4718592 ++ be32 4718592 ++ be32 0 ++ be16 1 ++ zeros 32 ++ be16 depth ++ be16 65535
-described_bytes (media.Sound channels rate) = be32 36 ++ codes "sowt" ++ zeros 6 ++ be16 1 ++ be16 0 ++ be16 0 ++ be32 0 ++ be16 channels ++ be16 16 ++ be16 0 ++ be16 0 ++ be32 (rate * 65536)
+
+-- A description of sound behind its kind: 6 reserved bytes, data reference 1, version and revision 0, vendor 0, channels, 16 bits a sample,
+-- compression and packet size 0, the rate with 16 bits behind the point
+unfoldable pub sound_bytes : (channels rate : ℕ) → List ℕ
+sound_bytes channels rate = zeros 6 ++ be16 1 ++ be16 0 ++ be16 0 ++ be32 0 ++ be16 channels ++ be16 16 ++ be16 0 ++ be16 0 ++ be32 (rate * 65536)
+
+-- a description: 86 bytes of pictures, or 36 of sound
+abbrev pub description_bytes : Media → List ℕ
+description_bytes (media.Video kind width height depth) = be32 86 ++ kind ++ pictures_bytes width height depth
+description_bytes (media.Sound channels rate) = be32 36 ++ codes "sowt" ++ sound_bytes channels rate
 
 -- version and flags, one description
-unfoldable pub media_stsd_body : Media → List ℕ
-media_stsd_body m = be32 0 ++ be32 1 ++ described_bytes m
+abbrev pub stsd_body : Media → List ℕ
+stsd_body m = be32 0 ++ be32 1 ++ description_bytes m
 
 -- ---- the tables
 
+-- a run of samples: how many, and the duration of each
+abbrev pub time_bytes : ℕ × ℕ → List ℕ
+time_bytes r = numbers_bytes (r.0 ∷ r.1 ∷ [])
+
+-- a run of chunks: the first chunk, its samples, and their description
+abbrev pub run_bytes : ℕ × ℕ × ℕ → List ℕ
+run_bytes r = numbers_bytes (r.0 ∷ r.1 ∷ r.2 ∷ [])
+
 -- `stts`: version and flags, how many runs, and the runs
-unfoldable pub stts_body : List (ℕ × ℕ) → List ℕ
-stts_body runs = be32 0 ++ be32 (length runs) ++ flat_map (λ r. be32 r.0 ++ be32 r.1) runs
+abbrev pub stts_body : List (ℕ × ℕ) → List ℕ
+stts_body runs = numbers_bytes (0 ∷ length runs ∷ []) ++ flat_map time_bytes runs
 
 -- `stsc`: version and flags, how many runs, and the runs
-unfoldable pub stsc_body : List (ℕ × ℕ × ℕ) → List ℕ
-stsc_body runs = be32 0 ++ be32 (length runs) ++ flat_map (λ r. be32 r.0 ++ be32 r.1 ++ be32 r.2) runs
+abbrev pub stsc_body : List (ℕ × ℕ × ℕ) → List ℕ
+stsc_body runs = numbers_bytes (0 ∷ length runs ∷ []) ++ flat_map run_bytes runs
 
 -- `stsz`: version and flags, the common size, how many samples, and their sizes where there is none
-unfoldable pub stsz_body : (common count : ℕ) → List ℕ → List ℕ
-stsz_body common count sizes = be32 0 ++ be32 common ++ be32 count ++ numbers_bytes sizes
+abbrev pub stsz_body : (common count : ℕ) → List ℕ → List ℕ
+stsz_body common count sizes = numbers_bytes (0 ∷ common ∷ count ∷ []) ++ numbers_bytes sizes
 
 -- whether each place has at most 32 bits
 abbrev pub are_near : List ℕ → Bool
 are_near offsets = list_all (λ at. nat_lt at (2 ^ 32)) offsets
 
+-- `stco`: version and flags, how many places, and the places in 32 bits
+abbrev pub stco_body : List ℕ → List ℕ
+stco_body offsets = numbers_bytes (0 ∷ length offsets ∷ []) ++ numbers_bytes offsets
+
+-- `co64`: version and flags, how many places, and the places in 64 bits
+abbrev pub co64_body : List ℕ → List ℕ
+co64_body offsets = numbers_bytes (0 ∷ length offsets ∷ []) ++ flat_map (to_be_bytes w64) offsets
+
 -- `stco`, or `co64` where a place has more than 32 bits
 abbrev pub offsets_node : List ℕ → Node
-offsets_node offsets =
-    if are_near offsets then node (codes "stco") (be32 0 ++ be32 (length offsets) ++ numbers_bytes offsets)
-    else node (codes "co64") (be32 0 ++ be32 (length offsets) ++ flat_map (to_be_bytes w64) offsets)
+offsets_node offsets = if are_near offsets then node (codes "stco") (stco_body offsets) else node (codes "co64") (co64_body offsets)
 
 -- ---- the track
 
 -- version and flags (enabled, in movie, preview and poster), two times, the number, reserved, duration, 8 reserved bytes, layer, group, volume and reserved,
 -- matrix, width and height with 16 bits behind the point
-unfoldable pub numbered_tkhd_body : TrakValues → List ℕ
-numbered_tkhd_body t = be32 15 ++ be32 0 ++ be32 0 ++ be32 t.number ++ be32 0 ++ be32 t.movie_duration ++ zeros 8 ++ be16 0 ++ be16 0 ++ be16 (volume_of t.media) ++ be16 0
+unfoldable pub tkhd_body : TrakValues → List ℕ
+tkhd_body t = be32 15 ++ be32 0 ++ be32 0 ++ be32 t.number ++ be32 0 ++ be32 t.movie_duration ++ zeros 8 ++ be16 0 ++ be16 0 ++ be16 (volume_of t.media) ++ be16 0
     ++ unit_matrix ++ be32 (width_of t.media * 65536) ++ be32 (height_of t.media * 65536)
 
-abbrev pub trak_stbl_nodes : TrakValues → List Node
-trak_stbl_nodes t =
-    node (codes "stsd") (media_stsd_body t.media)
+abbrev pub stbl_nodes : TrakValues → List Node
+stbl_nodes t =
+    node (codes "stsd") (stsd_body t.media)
     ∷ node (codes "stts") (stts_body t.stts)
     ∷ node (codes "stsc") (stsc_body t.stsc)
     ∷ node (codes "stsz") (stsz_body t.common t.count t.sizes)
     ∷ offsets_node t.offsets ∷ []
 
-abbrev pub trak_minf_nodes : TrakValues → List Node
-trak_minf_nodes t =
+abbrev pub minf_nodes : TrakValues → List Node
+minf_nodes t =
     media_node t.media
     ∷ node (codes "hdlr") (hdlr_body (codes "dhlr") (codes "alis"))
     ∷ node (codes "dinf") (nodes_bytes dinf_nodes)
-    ∷ node (codes "stbl") (nodes_bytes (trak_stbl_nodes t)) ∷ []
+    ∷ node (codes "stbl") (nodes_bytes (stbl_nodes t)) ∷ []
 
-abbrev pub trak_mdia_nodes : TrakValues → List Node
-trak_mdia_nodes t =
+abbrev pub mdia_nodes : TrakValues → List Node
+mdia_nodes t =
     node (codes "mdhd") (mdhd_body t.timescale t.duration)
     ∷ node (codes "hdlr") (hdlr_body (codes "mhlr") (subtype_of t.media))
-    ∷ node (codes "minf") (nodes_bytes (trak_minf_nodes t)) ∷ []
+    ∷ node (codes "minf") (nodes_bytes (minf_nodes t)) ∷ []
 
-abbrev pub trak_nodes_of : TrakValues → List Node
-trak_nodes_of t =
-    node (codes "tkhd") (numbered_tkhd_body t)
-    ∷ node (codes "mdia") (nodes_bytes (trak_mdia_nodes t)) ∷ []
+abbrev pub trak_nodes : TrakValues → List Node
+trak_nodes t =
+    node (codes "tkhd") (tkhd_body t)
+    ∷ node (codes "mdia") (nodes_bytes (mdia_nodes t)) ∷ []
 
 -- the track
 abbrev pub trak_node : TrakValues → Node
-trak_node t = node (codes "trak") (nodes_bytes (trak_nodes_of t))
+trak_node t = node (codes "trak") (nodes_bytes (trak_nodes t))
+
+-- ---- the movie
+
+-- The head of the movie, and its tracks. The number of the next track is one more than there are.
+abbrev pub moov_nodes : (timescale duration : ℕ) → List TrakValues → List Node
+moov_nodes timescale duration traks = node (codes "mvhd") (mvhd_body timescale duration (length traks + 1)) ∷ map trak_node traks
+
+-- the movie atom with these tracks, its time scale, and its duration in these units
+unfoldable pub moov_of_traks : (timescale duration : ℕ) → List TrakValues → List ℕ
+moov_of_traks timescale duration traks = atom (codes "moov") (nodes_bytes (moov_nodes timescale duration traks))

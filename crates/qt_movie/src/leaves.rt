@@ -1,13 +1,13 @@
 //! The atoms of a movie atom that hold no atoms.
 
-ghost use Rattle.std.specs.Prelude.{◌≡◌, ◌<◌, ◌+◌, ◌*◌, ◌^◌, ◌++◌, length, codes, IfOk, OnOk};
-ghost use Rattle.qt_atoms.specs.Written.{atom};
-ghost use Rattle.qt_movie.specs.MovieBytes.{mvhd_body, tkhd_body, mdhd_body, hdlr_body, vmhd_body, dref_body, dinf_nodes, nodes_bytes, kind_of, bits_of, description_bytes, stsd_body};
+ghost use Rattle.std.specs.Prelude.{◌≡◌, ◌<◌, ◌≤◌, ◌+◌, ◌^◌, ◌++◌, length, codes, IfOk, OnOk};
+ghost use Rattle.qt_atoms.specs.Written.{atom, atom_of};
+ghost use Rattle.qt_movie.specs.Bodies.{mvhd_body, mdhd_body, hdlr_body, vmhd_body, dref_body, dinf_nodes, nodes_bytes};
+ghost use Rattle.qt_movie.specs.Trak.{volume_of, width_of, height_of, subtype_of, smhd_body, media_node, tkhd_body};
 
-use pic_y4m::Head;
+use crate::trak::{Media, Trak};
 use pw_fields::{be16, be32};
 use pw_outside::NoMemory;
-use pw_planes::{AlphaKind, Chroma};
 use qt_atoms::AtomWriter;
 use std::alloc::Global;
 
@@ -19,7 +19,7 @@ const UNIT_MATRIX: [u8; 36] = [
 
 /// Appends an atom with this body.
 #[tactic(auto, using(qt_atoms::proofs::WrittenAtoms::ended_atom))]
-fn put_atom(atoms: &mut AtomWriter, kind: [u8; 4], body: &[u8]) -> Result<(), NoMemory>
+pub(crate) fn put_atom(atoms: &mut AtomWriter, kind: [u8; 4], body: &[u8]) -> Result<(), NoMemory>
     requires { length body.now + 8 < 2 ^ 32 }
     ensures atom { OnOk result (atoms.new ≡ atoms.old ++ atom kind body.now) }
     ensures size { OnOk result (length atoms.new ≡ length atoms.old + (length body.now + 8)) }
@@ -31,9 +31,14 @@ fn put_atom(atoms: &mut AtomWriter, kind: [u8; 4], body: &[u8]) -> Result<(), No
 }
 
 /// The body of the head of a movie.
-#[tactic(auto, unfolding(crate::specs::MovieBytes::mvhd_body))]
-fn mvhd_body(alloc: Global, timescale: u32, duration: u32) -> Result<AtomWriter, NoMemory>
-    ensures body { IfOk result (λ body. body ≡ (mvhd_body timescale duration)) }
+#[tactic(auto, unfolding(crate::specs::Bodies::mvhd_body))]
+fn mvhd_body(
+    alloc: Global,
+    timescale: u32,
+    duration: u32,
+    next: u32,
+) -> Result<AtomWriter, NoMemory>
+    ensures body { IfOk result (λ body. body ≡ (mvhd_body timescale duration next)) }
     ensures size { IfOk result (λ body. length body ≡ 100) }
 {
     let mut body = AtomWriter::new(alloc);
@@ -45,7 +50,7 @@ fn mvhd_body(alloc: Global, timescale: u32, duration: u32) -> Result<AtomWriter,
     body.bytes(&[0; 10])?;
     body.bytes(&UNIT_MATRIX)?;
     body.bytes(&[0; 24])?;
-    body.bytes(&be32(2))?;
+    body.bytes(&be32(next))?;
     Ok(body)
 }
 
@@ -55,50 +60,75 @@ pub(crate) fn put_mvhd(
     atoms: &mut AtomWriter,
     timescale: u32,
     duration: u32,
+    next: u32,
 ) -> Result<(), NoMemory>
-    ensures atom { OnOk result (atoms.new ≡ atoms.old ++ atom (codes "mvhd") (mvhd_body timescale duration)) }
+    ensures atom { OnOk result (atoms.new ≡ atoms.old ++ atom (codes "mvhd") (mvhd_body timescale duration next)) }
     ensures size { OnOk result (length atoms.new ≡ length atoms.old + 108) }
 {
-    let body = mvhd_body(alloc, timescale, duration)?;
+    let body = mvhd_body(alloc, timescale, duration, next)?;
     put_atom(atoms, *b"mvhd", body.held())
 }
 
-/// The body of the head of a track.
-#[tactic(auto, unfolding(crate::specs::MovieBytes::tkhd_body))]
-fn tkhd_body(alloc: Global, duration: u32, width: u16, height: u16) -> Result<AtomWriter, NoMemory>
-    ensures body { IfOk result (λ body. body ≡ (tkhd_body duration width height)) }
+/// The volume of a track: that of sound is 1, with 8 bits behind the point.
+fn volume_of(media: Media) -> u16
+    ensures { result ≡ volume_of media }
+{
+    match media {
+        Media::Video { .. } => 0,
+        Media::Sound { .. } => 0x0100,
+    }
+}
+
+fn width_of(media: Media) -> u16
+    ensures { result ≡ width_of media }
+{
+    match media {
+        Media::Video { width, .. } => width,
+        Media::Sound { .. } => 0,
+    }
+}
+
+fn height_of(media: Media) -> u16
+    ensures { result ≡ height_of media }
+{
+    match media {
+        Media::Video { height, .. } => height,
+        Media::Sound { .. } => 0,
+    }
+}
+
+/// The body of the head of a track. Width and height have 16 bits behind the point.
+#[tactic(auto, unfolding(crate::specs::Trak::tkhd_body))]
+fn tkhd_body(alloc: Global, trak: &Trak) -> Result<AtomWriter, NoMemory>
+    ensures body { IfOk result (λ body. body ≡ tkhd_body trak.now) }
     ensures size { IfOk result (λ body. length body ≡ 84) }
 {
     let mut body = AtomWriter::new(alloc);
     body.bytes(&[0, 0, 0, 15])?;
     body.bytes(&[0; 8])?;
-    body.bytes(&[0, 0, 0, 1])?;
+    body.bytes(&be32(trak.number))?;
     body.bytes(&[0; 4])?;
-    body.bytes(&be32(duration))?;
-    body.bytes(&[0; 16])?;
+    body.bytes(&be32(trak.movie_duration))?;
+    body.bytes(&[0; 12])?;
+    body.bytes(&be16(volume_of(trak.media)))?;
+    body.bytes(&[0; 2])?;
     body.bytes(&UNIT_MATRIX)?;
-    body.bytes(&be32(u32::from(width) * 65536))?;
-    body.bytes(&be32(u32::from(height) * 65536))?;
+    body.bytes(&be32(u32::from(width_of(trak.media)) * 65536))?;
+    body.bytes(&be32(u32::from(height_of(trak.media)) * 65536))?;
     Ok(body)
 }
 
 /// Appends the head of a track.
-pub(crate) fn put_tkhd(
-    alloc: Global,
-    atoms: &mut AtomWriter,
-    duration: u32,
-    width: u16,
-    height: u16,
-) -> Result<(), NoMemory>
-    ensures atom { OnOk result (atoms.new ≡ atoms.old ++ atom (codes "tkhd") (tkhd_body duration width height)) }
+pub(crate) fn put_tkhd(alloc: Global, atoms: &mut AtomWriter, trak: &Trak) -> Result<(), NoMemory>
+    ensures atom { OnOk result (atoms.new ≡ atoms.old ++ atom (codes "tkhd") (tkhd_body trak.now)) }
     ensures size { OnOk result (length atoms.new ≡ length atoms.old + 92) }
 {
-    let body = tkhd_body(alloc, duration, width, height)?;
+    let body = tkhd_body(alloc, trak)?;
     put_atom(atoms, *b"tkhd", body.held())
 }
 
 /// The body of the head of a track's media.
-#[tactic(auto, unfolding(crate::specs::MovieBytes::mdhd_body))]
+#[tactic(auto, unfolding(crate::specs::Bodies::mdhd_body))]
 fn mdhd_body(alloc: Global, timescale: u32, duration: u32) -> Result<AtomWriter, NoMemory>
     ensures body { IfOk result (λ body. body ≡ (mdhd_body timescale duration)) }
     ensures size { IfOk result (λ body. length body ≡ 24) }
@@ -112,21 +142,16 @@ fn mdhd_body(alloc: Global, timescale: u32, duration: u32) -> Result<AtomWriter,
 }
 
 /// Appends the head of a track's media.
-pub(crate) fn put_mdhd(
-    alloc: Global,
-    atoms: &mut AtomWriter,
-    timescale: u32,
-    duration: u32,
-) -> Result<(), NoMemory>
-    ensures atom { OnOk result (atoms.new ≡ atoms.old ++ atom (codes "mdhd") (mdhd_body timescale duration)) }
+pub(crate) fn put_mdhd(alloc: Global, atoms: &mut AtomWriter, trak: &Trak) -> Result<(), NoMemory>
+    ensures atom { OnOk result (atoms.new ≡ atoms.old ++ atom (codes "mdhd") (mdhd_body trak.now.timescale trak.now.duration)) }
     ensures size { OnOk result (length atoms.new ≡ length atoms.old + 32) }
 {
-    let body = mdhd_body(alloc, timescale, duration)?;
+    let body = mdhd_body(alloc, trak.timescale, trak.duration)?;
     put_atom(atoms, *b"mdhd", body.held())
 }
 
 /// The body of a handler.
-#[tactic(auto, unfolding(crate::specs::MovieBytes::hdlr_body))]
+#[tactic(auto, unfolding(crate::specs::Bodies::hdlr_body))]
 fn hdlr_body(alloc: Global, kind: [u8; 4], subtype: [u8; 4]) -> Result<AtomWriter, NoMemory>
     ensures body { IfOk result (λ body. body ≡ (hdlr_body kind subtype)) }
     ensures size { IfOk result (λ body. length body ≡ 25) }
@@ -154,16 +179,66 @@ pub(crate) fn put_hdlr(
 }
 
 /// Appends the head of the information on pictures.
-#[tactic(auto, unfolding(crate::specs::MovieBytes::vmhd_body))]
-pub(crate) fn put_vmhd(atoms: &mut AtomWriter) -> Result<(), NoMemory>
+#[tactic(auto, unfolding(crate::specs::Bodies::vmhd_body))]
+fn put_vmhd(atoms: &mut AtomWriter) -> Result<(), NoMemory>
     ensures atom { OnOk result (atoms.new ≡ atoms.old ++ atom (codes "vmhd") vmhd_body) }
     ensures size { OnOk result (length atoms.new ≡ length atoms.old + 20) }
 {
     put_atom(atoms, *b"vmhd", &[0, 0, 0, 1, 0, 0, 0, 0, 0, 0, 0, 0])
 }
 
+/// Appends the head of the information on sound.
+#[tactic(auto, unfolding(crate::specs::Trak::smhd_body))]
+fn put_smhd(atoms: &mut AtomWriter) -> Result<(), NoMemory>
+    ensures atom { OnOk result (atoms.new ≡ atoms.old ++ atom (codes "smhd") smhd_body) }
+    ensures size { OnOk result (length atoms.new ≡ length atoms.old + 16) }
+{
+    put_atom(atoms, *b"smhd", &[0; 8])
+}
+
+/// Appends the head of the information on media.
+fn put_head(atoms: &mut AtomWriter, media: Media) -> Result<(), NoMemory>
+    ensures atom { OnOk result (atoms.new ≡ atoms.old ++ atom_of (media_node media)) }
+    ensures size { OnOk result (length atoms.new ≤ length atoms.old + 20) }
+{
+    match media {
+        Media::Video { .. } => put_vmhd(atoms),
+        Media::Sound { .. } => put_smhd(atoms),
+    }
+}
+
+/// Appends the head of the information on the media of a track.
+pub(crate) fn put_media_head(atoms: &mut AtomWriter, trak: &Trak) -> Result<(), NoMemory>
+    ensures atom { OnOk result (atoms.new ≡ atoms.old ++ atom_of (media_node trak.now.media)) }
+    ensures size { OnOk result (length atoms.new ≤ length atoms.old + 20) }
+{
+    put_head(atoms, trak.media)
+}
+
+/// The subtype of the handler of media.
+fn subtype_of(media: Media) -> [u8; 4]
+    ensures { result ≡ subtype_of media }
+{
+    match media {
+        Media::Video { .. } => *b"vide",
+        Media::Sound { .. } => *b"soun",
+    }
+}
+
+/// Appends the handler of the media of a track.
+pub(crate) fn put_media_hdlr(
+    alloc: Global,
+    atoms: &mut AtomWriter,
+    trak: &Trak,
+) -> Result<(), NoMemory>
+    ensures atom { OnOk result (atoms.new ≡ atoms.old ++ atom (codes "hdlr") (hdlr_body (codes "mhlr") (subtype_of trak.now.media))) }
+    ensures size { OnOk result (length atoms.new ≡ length atoms.old + 33) }
+{
+    put_hdlr(alloc, atoms, *b"mhlr", subtype_of(trak.media))
+}
+
 /// Appends the entries that tell where the data lies: one, in the same file.
-#[tactic(auto, unfolding(crate::specs::MovieBytes::dref_body))]
+#[tactic(auto, unfolding(crate::specs::Bodies::dref_body))]
 fn put_dref(atoms: &mut AtomWriter) -> Result<(), NoMemory>
     ensures atom { OnOk result (atoms.new ≡ atoms.old ++ atom (codes "dref") dref_body) }
     ensures size { OnOk result (length atoms.new ≡ length atoms.old + 28) }
@@ -181,53 +256,4 @@ pub(crate) fn put_dinf(atoms: &mut AtomWriter) -> Result<(), NoMemory>
     put_dref(atoms)?;
     atoms.end(begun);
     Ok(())
-}
-
-/// The kind of the description, and how many bits a pixel has.
-fn kind_of(head: &Head) -> [u8; 4]
-    ensures { result ≡ kind_of head.now }
-{
-    match (head.chroma, head.alpha) {
-        (Chroma::C422, AlphaKind::Absent) => *b"apch",
-        _ => *b"ap4h",
-    }
-}
-
-fn bits_of(alpha: AlphaKind) -> u16
-    ensures { result ≡ bits_of alpha }
-{
-    match alpha {
-        AlphaKind::Absent => 24,
-        AlphaKind::Eight | AlphaKind::Sixteen => 32,
-    }
-}
-
-/// The body of the descriptions.
-#[tactic(auto, unfolding(crate::specs::MovieBytes::stsd_body, crate::specs::MovieBytes::description_bytes))]
-fn stsd_body(alloc: Global, head: &Head) -> Result<AtomWriter, NoMemory>
-    ensures body { IfOk result (λ body. body ≡ (stsd_body head.now)) }
-    ensures size { IfOk result (λ body. length body ≡ 94) }
-{
-    let mut body = AtomWriter::new(alloc);
-    body.bytes(b"\x00\x00\x00\x00\x00\x00\x00\x01\x00\x00\x00\x56")?;
-    body.bytes(&kind_of(head))?;
-    body.bytes(
-        b"\x00\x00\x00\x00\x00\x00\x00\x01\x00\x00\x00\x00pwk0\x00\x00\x00\x00\x00\x00\x00\x00",
-    )?;
-    body.bytes(&be16(head.width))?;
-    body.bytes(&be16(head.height))?;
-    body.bytes(b"\x00\x48\x00\x00\x00\x48\x00\x00\x00\x00\x00\x00\x00\x01")?;
-    body.bytes(&[0; 32])?;
-    body.bytes(&be16(bits_of(head.alpha)))?;
-    body.bytes(&[0xff, 0xff])?;
-    Ok(body)
-}
-
-/// Appends the description of the pictures.
-pub(crate) fn put_stsd(alloc: Global, atoms: &mut AtomWriter, head: &Head) -> Result<(), NoMemory>
-    ensures atom { OnOk result (atoms.new ≡ atoms.old ++ atom (codes "stsd") (stsd_body head.now)) }
-    ensures size { OnOk result (length atoms.new ≡ length atoms.old + 102) }
-{
-    let body = stsd_body(alloc, head)?;
-    put_atom(atoms, *b"stsd", body.held())
 }

@@ -1,6 +1,6 @@
 //! Writing a movie.
 
-use crate::containers::moov_of;
+use crate::pictures::moov_of;
 use pic_y4m::{Head, WriteEnd};
 use pw_fields::be32;
 use pw_outside::{ByteSink, Failed, NoMemory, put_all};
@@ -115,7 +115,8 @@ impl MovieWriter {
         ensures settled { K.settled sink.old ≤ K.settled sink.new }
         ensures cause { CountsFault (K.faults sink.old) (K.faults sink.new) (write_failed result) }
     {
-        let atoms = match moov_of(alloc, &self.head, &self.sizes) {
+        let MovieWriter { head, sizes } = self;
+        let atoms = match moov_of(alloc, &head, sizes) {
             Ok(atoms) => atoms,
             Err(_) => return Err(WriteEnd::NoMemory),
         };
