@@ -27,6 +27,7 @@ done_or_no_memory (s.BadMovie kind place) read write h = inl h
 done_or_no_memory (s.BadFrame sample kind place) read write h = inl h
 done_or_no_memory (s.BadProof kind place) read write h = inl h
 done_or_no_memory (s.Refused frame clause) read write h = inl h
+done_or_no_memory (s.BadSound kind place) read write h = inl h
 
 on_false : {P Q : Type 0} (b : Bool) → (P → Q) → OnFalse b P → OnFalse b Q
 on_false true f p = tt

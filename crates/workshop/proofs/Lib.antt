@@ -6,4 +6,5 @@ pub mod Complete
 pub mod Reproofed
 pub mod Decoded
 pub mod Rescued
+pub mod Sounded
 pub mod Certified

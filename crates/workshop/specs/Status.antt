@@ -18,6 +18,7 @@ code_of (s.BadMovie _ _) = 8
 code_of (s.BadFrame _ _ _) = 9
 code_of (s.BadProof _ _) = 10
 code_of (s.Refused _ _) = 11
+code_of (s.BadSound _ _) = 13
 
 abbrev pub is_done : Status → Bool
 is_done s.Done = true

@@ -16,6 +16,7 @@ mod process;
 mod raw_form;
 mod reproofing;
 mod rescuing;
+mod sounding;
 mod status;
 mod store;
 #[cfg(test)]

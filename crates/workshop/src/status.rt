@@ -1,5 +1,6 @@
 //! What a run answers.
 
+use pcm_track::SoundKind;
 use pic_y4m::PictureKind;
 use pr_head::FrameKind;
 use qt_tables::MovieKind;
@@ -80,6 +81,11 @@ pub enum Status {
         frame: u32,
         clause: u8,
     },
+    /// The WAV has this first fault, at this byte.
+    BadSound {
+        kind: SoundKind,
+        place: u64,
+    },
 }
 
 impl Status {
@@ -103,6 +109,7 @@ impl Status {
             Status::BadFrame { .. } => 9,
             Status::BadProof { .. } => 10,
             Status::Refused { .. } => 11,
+            Status::BadSound { .. } => 13,
         }
     }
 }
@@ -133,6 +140,7 @@ impl fmt::Display for Status {
                 f,
                 "frame {frame}: refused by clause {clause}"
             ),
+            Status::BadSound { kind, place } => write!(f, "sound: {kind:?} at {place}"),
         }
     }
 }

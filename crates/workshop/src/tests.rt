@@ -1,6 +1,7 @@
 //! The line and the number of each status. Whole runs are cases of `run_cases`.
 
 use crate::{Status, UsageKind};
+use pcm_track::SoundKind;
 use pic_y4m::PictureKind;
 use pr_head::FrameKind;
 use qt_tables::MovieKind;
@@ -13,7 +14,7 @@ fn each_status_has_its_line_and_its_number(rt: HostRuntime) -> Result<(), Fail> 
         kind: UsageKind::ExtraOperand,
         word: 2,
     };
-    let cases: [(Status, &str, u8); 12] = [
+    let cases: [(Status, &str, u8); 13] = [
         (Status::Done, "", 0),
         (usage, "usage: ExtraOperand at word 2", 1),
         (Status::NoMemory, "no memory", 2),
@@ -72,6 +73,14 @@ fn each_status_has_its_line_and_its_number(rt: HostRuntime) -> Result<(), Fail> 
             },
             "frame 3: refused by clause 7",
             11,
+        ),
+        (
+            Status::BadSound {
+                kind: SoundKind::Truncated,
+                place: 51,
+            },
+            "sound: Truncated at 51",
+            13,
         ),
     ];
     for (status, line, code) in cases {

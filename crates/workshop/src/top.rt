@@ -32,6 +32,8 @@ ghost use Rattle.rescue_run.specs.Laws.{WritesFronts, IsMovieOf};
 ghost use Rattle.workshop.specs.declared.options.Rate.{Rate};
 ghost use Rattle.workshop.specs.Options.{rate_of};
 ghost use Rattle.workshop.specs.Rescuing.{AnswersRescue, CompletesRescue};
+ghost use Rattle.pcm_track.specs.Sounding.{sounded};
+ghost use Rattle.workshop.specs.Sounding.{AnswersSound, WritesUntil as WritesSound, CompletesSound};
 ghost use Rattle.rate_least.specs.Files.{certified};
 ghost use Rattle.rate_least.specs.Ends.{PrintsLines};
 ghost use Rattle.rate_least.specs.Runs.{AnswersCheck as AnswersCertificate, AnswersCurve, SaysTrue, yes_text, PrintsText, IsCurveText};
@@ -45,6 +47,7 @@ use crate::listing::list;
 use crate::plan::plan;
 use crate::reproofing::reproof;
 use crate::rescuing::rescue;
+use crate::sounding::sound;
 use crate::status::Status;
 use crate::words::{Task, settings_of};
 use monitors::Monitor;
@@ -71,6 +74,8 @@ use std::alloc::Global;
 ///   tells each monitor of each picture, and writes their number and the monitors' reports to `text`.
 /// - `rescue FILE OUT` looks through `movie` for frames of ProRes, wherever they stand, and writes a movie of those of the form
 ///   of the first to `out`, and a line for each with its place to `text`.
+/// - `sound MOVIE OUT` reads a QuickTime movie through `movie`, and writes its first track of plain PCM sound to `out` as a WAV, and a
+///   line with the number of its frames and its form to `text`.
 /// - `least TABLE CERT` reads a table file through `proof` to its end, finds the smallest choice of error at most `--cap`, and writes a
 ///   certificate of it to `cert` and its lines to `text`; or says that none meets the cap, with the least error.
 /// - `checkleast CERT` reads such a certificate through `proof` to its end, checks it, and writes the line `yes` to `text`.
@@ -242,6 +247,20 @@ pub fn workshop<S: ByteSource, M: ByteStore, K: ByteSink>(
         → NoPortFailed (uses_in (said words.now)) (faults S.faults M.faults K.faults pictures.old proof.old movie.old out.old cert.old text.old) (faults S.faults M.faults K.faults pictures.new proof.new movie.new out.new cert.new text.new)
         → CompletesRescue file result) }
 
+    // `sound`: where the movie's bytes are told, they decide the answer and all that is written: BadMovie comes with their first fault
+    // in the order of reading, exactly where they have one.
+    ensures sound { Told (M.bytes movie.old) (λ file. IsRun task.Sound (said words.now) → AnswersSound (sounded file).end result) }
+    // After Done the head of a WAV and the bytes of the chunks were appended to `out`, and the line to `text`; after every other answer
+    // a front of each, a byte that the file doesn't have counted as 0.
+    ensures sound_out { Told (M.bytes movie.old) (λ file. IsRun task.Sound (said words.now) → WritesSound result (sounded file).out
+        (sink_state (K.held out.old) (K.taken out.old)) (sink_state (K.held out.new) (K.taken out.new))) }
+    ensures sound_text { Told (M.bytes movie.old) (λ file. IsRun task.Sound (said words.now) → WritesSound result (sounded file).text
+        (sink_state (K.held text.old) (K.taken text.old)) (sink_state (K.held text.new) (K.taken text.new))) }
+    // Where no port failed, the answer is the one that taking the sound out gives, unless memory runs out.
+    ensures sound_complete { Told (M.bytes movie.old) (λ file. IsRun task.Sound (said words.now)
+        → NoPortFailed (uses_in (said words.now)) (faults S.faults M.faults K.faults pictures.old proof.old movie.old out.old cert.old text.old) (faults S.faults M.faults K.faults pictures.new proof.new movie.new out.new cert.new text.new)
+        → CompletesSound (sounded file).end result) }
+
     // `least`: where the table's bytes are told, they decide the answer and all that is written. BadProof comes with their first fault;
     // LayersFull, frame 0, as the table's layers say. After Done the certificate of the smallest choice that meets the cap, or of none,
     // and its lines were appended, whole; after a fault of writing fronts of them, and after every other answer nothing.
@@ -299,6 +318,7 @@ pub fn workshop<S: ByteSource, M: ByteStore, K: ByteSink>(
         Task::Reproof => reproof(alloc, proof, cert, text),
         Task::Decode(values) => decode(alloc, &values, movie, out, text, monitors),
         Task::Rescue(rate) => rescue(alloc, rate, movie, out, text),
+        Task::Sound => sound(alloc, movie, out, text),
         Task::Least(cap) => least(alloc, cap, proof, cert, text),
         Task::CheckLeast => check_least(alloc, proof, text),
         Task::Curve => curve(alloc, proof, text),

@@ -34,6 +34,8 @@ pub enum Command {
     Decode,
     /// `rescue FILE OUT` makes a movie of the frames that stand in a file.
     Rescue,
+    /// `sound MOVIE OUT` takes the sound out of a movie.
+    Sound,
     /// `least TABLE CERT` prints the smallest choice of a table file under a cap on the error, and certifies it.
     Least,
     /// `checkleast CERT` checks a certificate of `least`.
@@ -81,6 +83,7 @@ pub enum Task {
     Decode(DecodeWords),
     /// At this rate.
     Rescue(Rate),
+    Sound,
     /// Under this cap on the error.
     Least(u64),
     CheckLeast,
@@ -108,6 +111,7 @@ impl Command {
             "reproof" => Some(Command::Reproof),
             "decode" => Some(Command::Decode),
             "rescue" => Some(Command::Rescue),
+            "sound" => Some(Command::Sound),
             "least" => Some(Command::Least),
             "checkleast" => Some(Command::CheckLeast),
             "curve" => Some(Command::Curve),
@@ -127,6 +131,7 @@ impl Command {
             Command::Reproof,
             Command::Decode,
             Command::Rescue,
+            Command::Sound,
             Command::Least,
             Command::CheckLeast,
             Command::Curve,
@@ -145,6 +150,7 @@ impl Command {
             Command::Reproof => "reproof",
             Command::Decode => "decode",
             Command::Rescue => "rescue",
+            Command::Sound => "sound",
             Command::Least => "least",
             Command::CheckLeast => "checkleast",
             Command::Curve => "curve",
@@ -161,7 +167,7 @@ impl Command {
             Command::List => &["MOVIE"],
             Command::Check => &["PROOF", "PICTURES", "MOVIE"],
             Command::Reproof => &["PROOF", "OUTPUT"],
-            Command::Decode => &["MOVIE", "OUT"],
+            Command::Decode | Command::Sound => &["MOVIE", "OUT"],
             Command::Rescue => &["FILE", "OUT"],
             Command::Least => &["TABLE", "CERT"],
             Command::CheckLeast => &["CERT"],
@@ -175,7 +181,11 @@ impl Command {
         match self {
             Command::Plan | Command::List | Command::CheckLeast | Command::Curve => &[1],
             Command::Check => &[1, 3],
-            Command::Reproof | Command::Decode | Command::Rescue | Command::Least => &[2],
+            Command::Reproof
+            | Command::Decode
+            | Command::Rescue
+            | Command::Sound
+            | Command::Least => &[2],
             Command::Encode => &[3],
         }
     }
@@ -195,9 +205,11 @@ impl Command {
         match self {
             Command::Plan | Command::List | Command::CheckLeast | Command::Curve => operands == 1,
             Command::Check => operands == 1 || operands == 3,
-            Command::Reproof | Command::Decode | Command::Rescue | Command::Least => {
-                operands == 2
-            }
+            Command::Reproof
+            | Command::Decode
+            | Command::Rescue
+            | Command::Sound
+            | Command::Least => operands == 2,
             Command::Encode => operands == 3,
         }
     }
@@ -211,6 +223,7 @@ impl Command {
             | Command::List
             | Command::Check
             | Command::Reproof
+            | Command::Sound
             | Command::CheckLeast
             | Command::Curve => &[],
             Command::Encode => &[
@@ -241,6 +254,7 @@ impl Command {
             | Command::Reproof
             | Command::Decode
             | Command::Rescue
+            | Command::Sound
             | Command::CheckLeast
             | Command::Curve => None,
             Command::Encode => Some(OptionName::Budget),
@@ -272,6 +286,7 @@ impl Command {
             | Command::Reproof
             | Command::Decode
             | Command::Rescue
+            | Command::Sound
             | Command::CheckLeast
             | Command::Curve => false,
             Command::Encode => values.budget.is_none(),
@@ -291,6 +306,7 @@ impl Command {
             | Command::Reproof
             | Command::Decode
             | Command::Rescue
+            | Command::Sound
             | Command::Least
             | Command::CheckLeast
             | Command::Curve => false,
@@ -317,6 +333,7 @@ impl Command {
             Command::Reproof => Task::Reproof,
             Command::Decode => Task::Decode(decode_words(values)),
             Command::Rescue => Task::Rescue(values.rate.unwrap_or(Rate { num: 25, den: 1 })),
+            Command::Sound => Task::Sound,
             Command::Least => Task::Least(values.cap.unwrap_or(0)),
             Command::CheckLeast => Task::CheckLeast,
             Command::Curve => Task::Curve,
@@ -353,7 +370,7 @@ impl Command {
                 cert: operands.get(1).copied(),
                 ..Names::none()
             },
-            Command::Decode | Command::Rescue => Names {
+            Command::Decode | Command::Rescue | Command::Sound => Names {
                 movie: operands.first().copied(),
                 out: operands.get(1).copied(),
                 ..Names::none()
@@ -375,6 +392,7 @@ impl Task {
             Task::Reproof => Command::Reproof,
             Task::Decode(_) => Command::Decode,
             Task::Rescue(_) => Command::Rescue,
+            Task::Sound => Command::Sound,
             Task::Least(_) => Command::Least,
             Task::CheckLeast => Command::CheckLeast,
             Task::Curve => Command::Curve,
@@ -394,6 +412,7 @@ impl Task {
             | Task::CheckAll
             | Task::Reproof
             | Task::Rescue(_)
+            | Task::Sound
             | Task::Least(_)
             | Task::CheckLeast
             | Task::Curve => false,

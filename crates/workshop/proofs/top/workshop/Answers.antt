@@ -55,6 +55,11 @@ returns-in-Rescue-clause-rescue_complete g c = λ told rate is none.
     let none = unfailed (task.Rescue rate) (said c.args.words.now) _ _ is none in
     c.rescue.ensures.complete told (λ r. none.movie (refl, r)) (λ r. none.out (refl, r)) (λ r. none.text (refl, r))
 
+pub returns-in-Sound-clause-sound_complete : goal.returns-in-Sound-clause-sound_complete
+returns-in-Sound-clause-sound_complete g c = λ told is none.
+    let none = unfailed task.Sound (said c.args.words.now) _ _ is none in
+    c.sound.ensures.complete told (λ r. none.movie (refl, r)) (λ r. none.out (refl, r)) (λ r. none.text (refl, r))
+
 pub returns-in-Least-clause-least_complete : goal.returns-in-Least-clause-least_complete
 returns-in-Least-clause-least_complete g c = λ told cap is none.
     let none = certified.quiet (said c.args.words.now) (settled c.in-Ok.settings) c.in-Least.cap _ _ c.in-Ok.ensures.value c.in-Least.is none in

@@ -1,0 +1,30 @@
+-- What `sound` answers and writes. Our own definitions.
+use Rattle.std.specs.Prelude.{◌≡◌, ℕ, List, ◌⊎◌}
+use Rattle.pw_outside.specs.Writing.{SinkState, Puts, PutsFront}
+use Rattle.pcm_track.specs.declared.end.SoundEnd.{SoundEnd}
+use Rattle.pcm_track.specs.declared.end.SoundEnd.TheVariants as ends
+use Rattle.workshop.specs.Status.{AnswersUnlessOutside}
+use Rattle.workshop.specs.declared.status.Status.{Status}
+use Rattle.workshop.specs.declared.status.Status.TheVariants as s
+
+-- the answer with the fields of a run's end
+abbrev pub status_of : SoundEnd → Status
+status_of ends.Done = s.Done
+status_of ends.NoMemory = s.NoMemory
+status_of ends.ReadFault = s.ReadFault
+status_of ends.WriteFault = s.WriteFault
+status_of (ends.BadMovie kind place) = s.BadMovie kind place
+status_of (ends.BadSound kind place) = s.BadSound kind place
+
+-- the answer: how the run ends by its input, unless a port failed or memory ran out
+abbrev pub AnswersSound : SoundEnd → Status → Type 0
+AnswersSound known status = AnswersUnlessOutside status (status_of known)
+
+-- After Done the sink took all of these bytes, and after every other answer a front of them.
+abbrev pub WritesUntil : Status → List ℕ → SinkState → SinkState → Type 0
+WritesUntil s.Done bytes before after = Puts before after bytes
+WritesUntil _ bytes before after = PutsFront before after bytes
+
+-- The answer is how the run ends by its input, unless memory runs out.
+abbrev pub CompletesSound : SoundEnd → Status → Type 0
+CompletesSound known status = (status ≡ status_of known) ⊎ (status ≡ s.NoMemory)

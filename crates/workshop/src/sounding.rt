@@ -1,0 +1,57 @@
+//! The run of `sound`.
+
+ghost use Rattle.std.specs.Prelude.{◌≡◌, None};
+ghost use Rattle.std.specs.Bool.{OnTrue};
+ghost use Rattle.pw_outside.specs.Ports.{CountsFault, Rose};
+ghost use Rattle.pw_outside.specs.Reading.{Told};
+ghost use Rattle.pw_outside.specs.Writing.{sink_state};
+ghost use Rattle.pcm_track.specs.Ends.{Extends, CountsFaults};
+ghost use Rattle.pcm_track.specs.Sounding.{sounded};
+ghost use Rattle.workshop.specs.Status.{is_read_fault, is_settled, is_write_fault, usage_of};
+ghost use Rattle.workshop.specs.Sounding.{status_of, AnswersSound, WritesUntil, CompletesSound};
+
+use crate::status::Status;
+use pcm_track::{SoundEnd, sound_run};
+use pw_outside::{ByteSink, ByteStore};
+use std::alloc::Global;
+
+/// The answer with the fields of a run's end.
+fn status_of(end: SoundEnd) -> Status
+    ensures { result ≡ status_of end }
+{
+    match end {
+        SoundEnd::Done => Status::Done,
+        SoundEnd::NoMemory => Status::NoMemory,
+        SoundEnd::ReadFault => Status::ReadFault,
+        SoundEnd::WriteFault => Status::WriteFault,
+        SoundEnd::BadMovie { kind, place } => Status::BadMovie { kind, place },
+        SoundEnd::BadSound { kind, place } => Status::BadSound { kind, place },
+    }
+}
+
+/// Takes the sound out of a movie, as a WAV, and prints how much it is.
+#[tactic(auto, using(crate::proofs::Sounded::answers_sound, crate::proofs::Sounded::writes_until))]
+pub(crate) fn sound<M: ByteStore, K: ByteSink>(
+    alloc: Global,
+    movie: &mut M,
+    out: &mut K,
+    text: &mut K,
+) -> Status
+    ensures answer { Told (M.bytes movie.old) (λ file. AnswersSound (sounded file).end result) }
+    ensures complete { Told (M.bytes movie.old) (λ file. (Rose (M.faults movie.old) (M.faults movie.new) → ⊥)
+        → (Rose (K.faults out.old) (K.faults out.new) → ⊥) → (Rose (K.faults text.old) (K.faults text.new) → ⊥)
+        → CompletesSound (sounded file).end result) }
+    ensures usage { usage_of result ≡ None }
+    ensures out { Told (M.bytes movie.old) (λ file. WritesUntil result (sounded file).out
+        (sink_state (K.held out.old) (K.taken out.old)) (sink_state (K.held out.new) (K.taken out.new))) }
+    ensures text { Told (M.bytes movie.old) (λ file. WritesUntil result (sounded file).text
+        (sink_state (K.held text.old) (K.taken text.old)) (sink_state (K.held text.new) (K.taken text.new))) }
+    ensures out_extends { Extends (sink_state (K.held out.old) (K.taken out.old)) (sink_state (K.held out.new) (K.taken out.new)) }
+    ensures text_extends { Extends (sink_state (K.held text.old) (K.taken text.old)) (sink_state (K.held text.new) (K.taken text.new)) }
+    ensures settled { OnTrue (is_settled result) ((K.settled out.new ≡ K.taken out.new) × (K.settled text.new ≡ K.taken text.new)) }
+    ensures bytes { M.bytes movie.new ≡ M.bytes movie.old }
+    ensures read { CountsFault (M.faults movie.old) (M.faults movie.new) (is_read_fault result) }
+    ensures write { CountsFaults (K.faults out.old) (K.faults out.new) (K.faults text.old) (K.faults text.new) (is_write_fault result) }
+{
+    status_of(sound_run(alloc, movie, out, text))
+}
