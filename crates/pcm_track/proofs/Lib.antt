@@ -1,4 +1,5 @@
 pub mod Sinks
+pub mod Completing
 pub mod Passing
 pub mod Pieces
 pub mod ChunkWalk

@@ -25,6 +25,10 @@ AnswersUnlessOutside ends.ReadFault end = Unit {0}
 AnswersUnlessOutside ends.WriteFault end = Unit {0}
 AnswersUnlessOutside answer end = answer ≡ end
 
+-- The answer is this one, or memory ran out.
+abbrev pub Completes : SoundEnd → SoundEnd → Type 0
+Completes end answer = (answer ≡ end) ⊎ (answer ≡ ends.NoMemory)
+
 -- how a part of a run ended
 abbrev pub end_of : {X : Type 0} → Result X SoundEnd → SoundEnd
 end_of (Ok x) = ends.Done

@@ -4,4 +4,5 @@ pub mod Track
 pub mod Writing
 pub mod Ends
 pub mod Sounding
+pub mod Adding
 pub mod Stops

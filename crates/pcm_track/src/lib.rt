@@ -1,10 +1,12 @@
 //! Sound in plain PCM beside the pictures of a movie: WAVs read, sound put into a movie, and taken out of one.
 #![tactic(auto)]
 
+mod adding;
 mod copying;
 mod end;
 mod fault;
 mod form;
+mod parts;
 mod reader;
 mod sounding;
 #[cfg(test)]
@@ -12,6 +14,7 @@ mod tests;
 mod track;
 mod wav;
 
+pub use adding::add_run;
 pub use end::SoundEnd;
 pub use fault::{CopyFault, SoundFault, SoundKind};
 pub use form::{Format, Pcm};
