@@ -1,5 +1,5 @@
 -- Where no port failed, the answer is the defined one, or memory ran out.
-use Rattle.std.proofs.Common.{◌≡◌, refl, inl, inr, ℕ, Bool, true, false}
+use Rattle.std.proofs.Common.{◌≡◌, refl, inl, inr, ℕ, Bool, true, false, subst}
 use Rattle.std.specs.Prelude.{◌⊎◌}
 use Rattle.pw_outside.specs.Ports.{Rose, CountsFault}
 use Rattle.pcm_track.specs.declared.end.SoundEnd.{SoundEnd}
@@ -8,8 +8,8 @@ use Rattle.pcm_track.specs.Ends.{AnswersUnlessOutside, Completes, CountsFaults, 
 
 -- a port that didn't fail
 pub none-failed : (before now : ℕ) (failed : Bool) → CountsFault before now failed → (Rose before now → ⊥) → failed ≡ true → ⊥
-none-failed before now true c no e = no c.rose
-none-failed before now false c no e = absurd cc
+none-failed before now true c h e = h c.rose
+none-failed before now false c h e = absurd cc
 
 neither : (A B : Type 0) → (A → ⊥) → (B → ⊥) → A ⊎ B → ⊥
 neither A B a b (inl x) = a x
@@ -27,3 +27,10 @@ completes end ends.ReadFault h r w = absurd (r refl)
 completes end ends.WriteFault h r w = absurd (w refl)
 completes end (ends.BadMovie kind place) h r w = inl h
 completes end (ends.BadSound kind place) h r w = inl h
+
+-- two ports that didn't fail since counts that were the first ones
+pub none-since : (first before now first' before' now' : ℕ) (failed : Bool) → before ≡ first → before' ≡ first' → CountsFaults before now before' now' failed → (Rose first now → ⊥) → (Rose first' now' → ⊥) → failed ≡ true → ⊥
+none-since first before now first' before' now' failed e e' c a b = none-of-two before now before' now' failed c (λ r. a (subst (λ k. Rose k now) e r)) (λ r. b (subst (λ k. Rose k now') e' r))
+
+pub never : (failed : Bool) → failed ≡ false → failed ≡ true → ⊥
+never failed e k = absurd cc

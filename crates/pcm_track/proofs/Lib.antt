@@ -1,4 +1,9 @@
 pub mod Sinks
+pub mod AddedRuns
+pub mod Borders
+pub mod DataAtoms
+pub mod Shares
+pub mod Runs
 pub mod Completing
 pub mod Passing
 pub mod Pieces

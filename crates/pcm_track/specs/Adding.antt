@@ -1,6 +1,6 @@
 -- Putting sound beside the pictures of a movie: how it ends, and what is written. Atoms by the QuickTime File Format; which sound lies beside which
 -- picture, and the order of the atoms, are our own.
-use Rattle.std.specs.Prelude.{ℕ, ◌+◌, ◌-◌, ◌*◌, ◌/◌, ◌==◌, nat_lt, if◌then◌else◌, min, max, List, [], ◌∷◌, ◌++◌, length, drop, map, codes, sum_by, Result, Ok, Err}
+use Rattle.std.specs.Prelude.{◌≡◌, ◌<◌, ◌^◌, ℕ, ◌+◌, ◌-◌, ◌*◌, ◌/◌, ◌==◌, nat_lt, if◌then◌else◌, min, max, List, [], ◌∷◌, ◌++◌, length, drop, map, codes, sum_by, Option, IfSome, Result, Ok, Err}
 use Rattle.std.specs.Fmt.{decimal}
 use Rattle.std.specs.List.{flat_map}
 use Rattle.pw_outside.specs.Reading.{Fault, Rest, Read}
@@ -196,10 +196,13 @@ abbrev pub behind_sound : Read SoundKind (Unit {0}) → Result Rest SoundEnd
 behind_sound (Ok x) = Ok x.1
 behind_sound (Err f) = Err (ends.BadSound f.kind f.place)
 
-abbrev pub behind_part : (file : List ℕ) → (channels : ℕ) → Part → (sound : Rest) → Result Rest SoundEnd
-behind_part file channels (parts.Picture s) sound =
+abbrev pub behind_picture : (file : List ℕ) → Sample → (sound : Rest) → Result Rest SoundEnd
+behind_picture file s sound =
     if nat_lt (length file) (s.at + s.size) then Err (ends.BadMovie SampleOutside s.at)
     else (if nat_lt 4294967286 s.size then Err (ends.BadMovie SampleLarge s.at) else Ok sound)
+
+abbrev pub behind_part : (file : List ℕ) → (channels : ℕ) → Part → (sound : Rest) → Result Rest SoundEnd
+behind_part file channels (parts.Picture s) sound = behind_picture file s sound
 behind_part file channels (parts.Sound n) sound = behind_sound (passed_over (sound_size channels n) sound)
 
 abbrev pub and_then : Result Rest SoundEnd → (Rest → SoundEnd) → SoundEnd
@@ -210,6 +213,8 @@ and_then (Err end) others = end
 abbrev pub parts_end : (file : List ℕ) → (channels : ℕ) → List Part → (sound : Rest) → SoundEnd
 parts_end file channels [] sound = ends.Done
 parts_end file channels (x ∷ others) sound = and_then (behind_part file channels x sound) (λ rest. parts_end file channels others rest)
+
+-- ---- the movie and the WAV
 
 abbrev pub added_with : (file : List ℕ) → Movie → Result (Pcm × Rest) (Fault SoundKind) → Outcome
 added_with file m (Err f) = record { end = ends.BadSound f.kind f.place; out = []; text = [] }
@@ -226,3 +231,29 @@ added_by file wav (Ok m) = added_with file m (form_at (record { place = 0; bytes
 -- Putting the sound of a WAV beside the pictures of a movie: the movie is read first, then the WAV up to its sound, then each sample and its sound.
 unfoldable pub added : (file wav : List ℕ) → Outcome
 added file wav = added_by file wav (movie_in file)
+
+-- ---- what parts of a run do
+
+-- A run ends here for this cause, unless a port failed or memory ran out.
+abbrev pub Stops : SoundEnd → Result Rest SoundEnd → Type 0
+Stops ends.NoMemory behind = Unit {0}
+Stops ends.ReadFault behind = Unit {0}
+Stops ends.WriteFault behind = Unit {0}
+Stops end behind = behind ≡ Err end
+
+-- a data atom with so many of these bytes, where they are told
+abbrev pub IsAtomOf : Option (List ℕ) → ℕ → List ℕ → Type 0
+IsAtomOf told n bytes = IfSome told (λ there. bytes ≡ data_atom (first_bytes n there))
+
+-- a sample lies at a place that leaves room for its bytes
+abbrev pub IsNear : Sample → Type 0
+IsNear s = s.at < 2 ^ 63
+
+abbrev pub IsPartNear : Part → Type 0
+IsPartNear (parts.Picture s) = IsNear s
+IsPartNear (parts.Sound n) = Unit {0}
+
+-- how many frames of sound a part has
+abbrev pub part_frames : Part → ℕ
+part_frames (parts.Picture s) = 0
+part_frames (parts.Sound n) = n

@@ -4,6 +4,7 @@ use Rattle.std.specs.Prelude.{◌≡◌, ℕ, ◌+◌, ◌*◌, List, ◌++◌, 
 use Rattle.std.specs.Fmt.{decimal}
 use Rattle.std.specs.Int.{w16, w32, to_le_bytes}
 use Rattle.std.specs.Option.{option_map}
+use Rattle.pw_outside.specs.Reading.{Told}
 use Rattle.pw_outside.specs.Writing.{SinkState, Puts, PutsFront}
 use Rattle.pcm_track.specs.declared.form.Format.{Format}
 use Rattle.pcm_track.specs.Wav.{frame_size, sound_size}
@@ -45,3 +46,21 @@ pub record CopiedFront (told : Option (List ℕ)) (n : ℕ) (before after : Sink
 -- the bytes of a store from a place on, where it tells them
 abbrev pub told_from : ℕ → Option (List ℕ) → Option (List ℕ)
 told_from place bytes = option_map (λ xs. drop place xs) bytes
+
+-- ---- bytes of two ports
+
+-- where two ports tell their bytes, the fact holds of them
+abbrev pub BothTold : Option (List ℕ) → Option (List ℕ) → (List ℕ → List ℕ → Type 0) → Type 0
+BothTold one other fact = Told one (λ xs. Told other (λ ys. fact xs ys))
+
+-- A sink took bytes of which this holds.
+pub record PutsSome (fact : List ℕ → Type 0) (before after : SinkState) : Type 0 where
+  pub bytes : List ℕ
+  pub is : fact bytes
+  pub puts : Puts before after bytes
+
+-- A sink took a front of such bytes.
+pub record PutsSomeFront (fact : List ℕ → Type 0) (before after : SinkState) : Type 0 where
+  pub bytes : List ℕ
+  pub is : fact bytes
+  pub front : PutsFront before after bytes

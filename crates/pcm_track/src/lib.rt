@@ -7,6 +7,7 @@ mod end;
 mod fault;
 mod form;
 mod parts;
+mod plan;
 mod reader;
 mod sounding;
 #[cfg(test)]

@@ -25,7 +25,7 @@ use qt_tables::{Chunk, ChunkTables, MovieFault, MovieKind};
 use std::alloc::Global;
 
 /// The number of bytes that are copied at a time.
-const PIECE: usize = 65536;
+pub(crate) const PIECE: usize = 65536;
 
 /// The head of a WAV of so many frames.
 #[tactic(auto, unfolding(crate::specs::Writing::wav_head))]

@@ -8,7 +8,7 @@ use pw_outside::{MemSink, MemStore};
 use std::io;
 
 /// The most bytes that a call of a port moves.
-const MANY: usize = 4096;
+pub(crate) const MANY: usize = 4096;
 
 /// Which calls fail: that of the movie, of the WAV or of the text with this number.
 #[derive(Clone, Copy)]
@@ -26,10 +26,10 @@ const NONE: Fails = Fails {
 
 /// What a run answered and wrote.
 #[derive(Drop)]
-struct Ran {
-    end: SoundEnd,
-    wav: Vec<u8>,
-    text: Vec<u8>,
+pub(crate) struct Ran {
+    pub(crate) end: SoundEnd,
+    pub(crate) out: Vec<u8>,
+    pub(crate) text: Vec<u8>,
 }
 
 /// Takes the sound out of a movie.
@@ -47,7 +47,7 @@ fn run_over(rt: &HostRuntime, movie: &[u8], step: usize, fails: Fails) -> io::Re
     let end = sound_run(alloc, &mut store, &mut wav, &mut text);
     Ok(Ran {
         end,
-        wav: wav.bytes().to_vec(alloc)?,
+        out: wav.bytes().to_vec(alloc)?,
         text: text.bytes().to_vec(alloc)?,
     })
 }
@@ -69,11 +69,11 @@ fn status_of(rt: &HostRuntime, end: SoundEnd) -> io::Result<String> {
     }
 }
 
-fn line_of(rt: &HostRuntime, run: &Ran) -> io::Result<String> {
+pub(crate) fn line_of(rt: &HostRuntime, run: &Ran) -> io::Result<String> {
     let status = status_of(rt, run.end)?;
     let text = text_line(rt.alloc(), &run.text)?;
-    let wav = hashed_of(rt.alloc(), &run.wav)?;
-    Ok(format!(in rt.alloc(); "{status} | {text} | {wav}")?)
+    let out = hashed_of(rt.alloc(), &run.out)?;
+    Ok(format!(in rt.alloc(); "{status} | {text} | {out}")?)
 }
 
 /// The answer over a movie whose ports move so many bytes a call.
@@ -81,6 +81,11 @@ fn answer_of(rt: &HostRuntime, movie: &[u8], step: usize) -> io::Result<String>
     requires { 1 ≤ step }
 {
     line_of(rt, &run_over(rt, movie, step, NONE)?)
+}
+
+/// What is heard of a movie: the answer over it.
+pub(crate) fn hears(rt: &HostRuntime, movie: &[u8]) -> io::Result<String> {
+    answer_of(rt, movie, MANY)
 }
 
 /// The answer over a movie, whatever number of bytes a call moves.
@@ -98,7 +103,7 @@ pub(crate) fn told(rt: &HostRuntime, word: &str) -> io::Result<String> {
 
 /// Whether a run ended so, and wrote fronts of what the whole run wrote.
 fn ended_so(run: &Ran, whole: &Ran, end: SoundEnd) -> bool {
-    run.end == end && whole.wav.starts_with(&run.wav) && whole.text.starts_with(&run.text)
+    run.end == end && whole.out.starts_with(&run.out) && whole.text.starts_with(&run.text)
 }
 
 /// Whether each call of a port that fails ends the run so, up to the first number that no call has.

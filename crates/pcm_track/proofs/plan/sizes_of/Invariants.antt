@@ -1,0 +1,6 @@
+use Rattle.std.proofs.Common.{◌≡◌, map, take}
+use Rattle.qt_tables.specs.declared.runs.Sample.{Sample}
+use Rattle.pcm_track.proofs.plan.sizes_of.Given as goal
+
+abbrev pub invariant-loop-sample : goal.invariant-loop-sample
+invariant-loop-sample l = l.sizes.items ≡ map (λ (s : Sample). s.size) (take l.sample-index l.samples)
