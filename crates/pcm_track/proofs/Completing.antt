@@ -34,3 +34,7 @@ none-since first before now first' before' now' failed e e' c a b = none-of-two 
 
 pub never : (failed : Bool) → failed ≡ false → failed ≡ true → ⊥
 never failed e k = absurd cc
+
+-- one port that didn't fail since a count that was the first one
+pub none-failed-since : (first before now : ℕ) (failed : Bool) → before ≡ first → CountsFault before now failed → (Rose first now → ⊥) → failed ≡ true → ⊥
+none-failed-since first before now failed e c a = none-failed before now failed c (λ r. a (subst (λ k. Rose k now) e r))

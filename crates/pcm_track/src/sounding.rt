@@ -3,13 +3,13 @@
 ghost use Rattle.std.specs.Prelude.{◌≡◌, ◌+◌, ◌≤◌, ◌^◌, ◌++◌, length, OnOk, OnErr, IfOk, IfErr, is_err, map, [], Some, false};
 ghost use Rattle.std.specs.Bool.{OnTrue};
 ghost use Rattle.std.specs.List.{flat_map};
-ghost use Rattle.pw_outside.specs.Ports.{CountsFault};
+ghost use Rattle.pw_outside.specs.Ports.{Rose, CountsFault};
 ghost use Rattle.pw_outside.specs.Reading.{Told};
 ghost use Rattle.pw_outside.specs.Writing.{sink_state, Puts, PutsFront};
 ghost use Rattle.qt_tables.specs.Samples.{chunks, held_by};
 ghost use Rattle.qt_tables.specs.Tables.{AreChunkLists};
 ghost use Rattle.pcm_track.specs.declared.end.SoundEnd.TheVariants as ends;
-ghost use Rattle.pcm_track.specs.Ends.{is_done, is_read_fault, is_write_fault, AnswersUnlessOutside, PutsUntil, Extends, CountsFaults, end_of};
+ghost use Rattle.pcm_track.specs.Ends.{is_done, is_read_fault, is_write_fault, AnswersUnlessOutside, Completes, PutsUntil, Extends, CountsFaults, end_of};
 ghost use Rattle.pcm_track.specs.Wav.{sound_size, IsFormat};
 ghost use Rattle.pcm_track.specs.Writing.{wav_head, sound_line, Copied, CopiedFront, told_from};
 ghost use Rattle.pcm_track.specs.Sounding.{sounded, chunk_bytes, chunk_end, chunks_end};
@@ -226,6 +226,9 @@ pub fn sound_run<M: ByteStore, K: ByteSink>(
 ) -> SoundEnd
     // Where the movie's bytes are told, they decide the answer: BadMovie comes with their first fault in the order of reading, exactly where they have one.
     ensures answer { Told (M.bytes movie.old) (λ file. AnswersUnlessOutside result (sounded file).end) }
+    // Where no port failed, the answer is this one, unless memory runs out.
+    ensures complete { Told (M.bytes movie.old) (λ file. (Rose (M.faults movie.old) (M.faults movie.new) → ⊥)
+        → (Rose (K.faults out.old) (K.faults out.new) → ⊥) → (Rose (K.faults text.old) (K.faults text.new) → ⊥) → Completes (sounded file).end result) }
     // After Done the head of a WAV and the bytes of the chunks were appended, and the line of text; after every other answer a front of these, a
     // byte that the file doesn't have counted as 0.
     ensures out { Told (M.bytes movie.old) (λ file. PutsUntil result (sounded file).out

@@ -1,8 +1,11 @@
-use Rattle.std.proofs.Common.{rules, ◌≡◌, ◌≤◌, ◌∙◌, sym, subst, ap}
+use Rattle.std.proofs.Common.{rules, refl, ◌≡◌, ◌≤◌, ◌∙◌, sym, subst, ap}
 use Rattle.pw_outside.specs.Ports.{last}
+use Rattle.pw_outside.specs.Reading.{bytes_of}
 use Rattle.pw_outside.specs.Writing.{sink_state}
-use Rattle.pcm_track.specs.Ends.{AnswersUnlessOutside, PutsUntil}
+use Rattle.pcm_track.specs.Ends.{AnswersUnlessOutside, PutsUntil, is_read_fault, is_write_fault}
 use Rattle.pcm_track.specs.Writing.{sound_line}
+use Rattle.pcm_track.specs.Sounding.{sounded}
+use Rattle.pcm_track.proofs.Completing.{completes, never, none-failed, none-failed-since, none-since}
 use Rattle.pcm_track.proofs.Sinks.{none_front, puts_until, front_until, line_end, puts_more_none}
 use Rattle.pcm_track.proofs.SoundedRuns.{sounded-bad, sounded-end, sounded-out, sounded-text}
 use Rattle.pcm_track.proofs.sounding.sound_run.Goals as goal
@@ -57,3 +60,18 @@ pub returns-clause-text : goal.returns-clause-text
 returns-clause-text g c h =
     let few : g.K.ByteSink.taken c.args.text.now ≤ last = search rules in
     front_until c.in-Err.end _ _ _ c.in-Err.ensures.not_done (none_front _ _ few)
+
+pub returns-in-Err-Bad-clause-complete : goal.returns-in-Err-Bad-clause-complete
+returns-in-Err-Bad-clause-complete g c h rm ro rt = completes _ _ (returns-in-Err-Bad-clause-answer g c h) (λ e. absurd cc) (λ e. absurd cc)
+
+pub returns-in-Ok-write_wav-clause-complete : goal.returns-in-Ok-write_wav-clause-complete
+returns-in-Ok-write_wav-clause-complete g c h rm ro rt =
+    completes (sounded (bytes_of (g.M.ByteStore.bytes c.args.movie.now))).end c.finish.result (returns-in-Ok-write_wav-clause-answer g c h)
+    (never (is_read_fault c.finish.result) c.finish.ensures.reads)
+    (none-since _ _ _ _ _ _ (is_write_fault c.finish.result) c.in-Ok-write_wav.ensures.write.kept refl c.finish.ensures.write ro rt)
+
+pub returns-clause-complete : goal.returns-clause-complete
+returns-clause-complete g c h rm ro rt =
+    completes (sounded (bytes_of (g.M.ByteStore.bytes c.args.movie.now))).end c.in-Err.end (returns-clause-answer g c h)
+    (none-failed-since _ _ _ (is_read_fault c.in-Err.end) (c.in-Ok-sound_of.ensures.cause.kept ∙ c.in-Ok.ensures.cause.kept) c.in-Err.ensures.read rm)
+    (none-failed _ _ (is_write_fault c.in-Err.end) c.in-Err.ensures.write ro)
