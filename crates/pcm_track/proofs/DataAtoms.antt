@@ -130,9 +130,9 @@ written-on movie wav left left' channels place place' x xs ahead all a b c told 
       let here : q.bytes ≡ data_atom (part_bytes (bytes_of movie) channels x (bytes_of left)) = q.is h (told i) in
       let rest : bytes_of left' ≡ drop (sound_in_part channels x) (bytes_of left) = behind-bytes (bytes_of movie) channels x (rest_of place left) (rest_of place' left') (behind h (told i)) in
       let ahead_is : data_atoms (bytes_of movie) channels ahead (bytes_of left) ≡ q.bytes ++ data_atoms (bytes_of movie) channels xs (bytes_of left') =
-          ap (λ l. data_atoms (bytes_of movie) channels l (bytes_of left)) e
-          ∙ ap (λ l. l ++ data_atoms (bytes_of movie) channels xs (drop (sound_in_part channels x) (bytes_of left))) (sym here)
-          ∙ ap (λ l. q.bytes ++ data_atoms (bytes_of movie) channels xs l) (sym rest) in
+      ap (λ l. data_atoms (bytes_of movie) channels l (bytes_of left)) e
+      ∙ ap (λ l. l ++ data_atoms (bytes_of movie) channels xs (drop (sound_in_part channels x) (bytes_of left))) (sym here)
+      ∙ ap (λ l. q.bytes ++ data_atoms (bytes_of movie) channels xs l) (sym rest) in
       append_assoc p.bytes q.bytes (data_atoms (bytes_of movie) channels xs (bytes_of left')) ∙ ap (λ l. p.bytes ++ l) (sym ahead_is) ∙ p.is h i;
   puts = puts_then p.puts q.puts;
 }
@@ -148,7 +148,7 @@ written-front movie wav left channels x xs ahead all a b c told e p q =
       is = λ h i.
           let here : q.bytes ≡ data_atom (part_bytes (bytes_of movie) channels x (bytes_of left)) = q.is h (told i) in
           let ahead_is : data_atoms (bytes_of movie) channels ahead (bytes_of left) ≡ q.bytes ++ behind =
-              ap (λ l. data_atoms (bytes_of movie) channels l (bytes_of left)) e ∙ ap (λ l. l ++ behind) (sym here) in
+          ap (λ l. data_atoms (bytes_of movie) channels l (bytes_of left)) e ∙ ap (λ l. l ++ behind) (sym here) in
           ap (λ l. p.bytes ++ l) (sym ahead_is) ∙ p.is h i;
       front = then_front p.puts (front_more behind q.front);
     }

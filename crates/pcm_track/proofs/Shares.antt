@@ -38,7 +38,7 @@ pub beside-step : (timescale : ℕ) (p : Pcm) (ahead xs : List Sample) (s : Samp
 beside-step timescale p ahead xs s time time' n start end found pushed found' total a t b c d e f so_far =
     let all = sound_end timescale p (time + s.duration) xs - border timescale p time in
     let more : ((found ++ parts.Picture s ∷ []) ++ with_sound all []) ++ parts_from timescale p (time + s.duration) xs ≡ total =
-        beside-more found total (parts_from timescale p (time + s.duration) xs) s all (sym (ap (λ l. found ++ parts_from timescale p time l) a) ∙ so_far) in
+    beside-more found total (parts_from timescale p (time + s.duration) xs) s all (sym (ap (λ l. found ++ parts_from timescale p time l) a) ∙ so_far) in
     let number : n ≡ all = d ∙ ap (λ k. k - start) (c ∙ ap (λ k. sound_end timescale p k xs) t) ∙ ap (λ k. sound_end timescale p (time + s.duration) xs - k) b in
     let front : found' ≡ (found ++ parts.Picture s ∷ []) ++ with_sound all [] = f ∙ ap (λ l. l ++ with_sound n []) e ∙ ap (λ k. (found ++ parts.Picture s ∷ []) ++ with_sound k []) number in
     ap (λ l. l ++ parts_from timescale p time' xs) front ∙ ap (λ k. ((found ++ parts.Picture s ∷ []) ++ with_sound all []) ++ parts_from timescale p k xs) t ∙ more

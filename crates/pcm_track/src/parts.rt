@@ -8,7 +8,6 @@ ghost use Rattle.pcm_track.specs.Wav.{sound_size, IsPcm};
 ghost use Rattle.pcm_track.specs.Adding.{border, sound_end, with_sound, parts_from, parts_of, IsNear};
 
 use crate::form::Pcm;
-
 use qt_movie::MovieReader;
 use qt_tables::Sample;
 use std::alloc::{AllocError, Global};

@@ -18,7 +18,7 @@ returns-in_err-write_part-clause-err g c =
     let lt : c.loop-k.k < length xs = search rules in
     let err = rw (c.loop-k.invariant.form, c.loop-k.invariant.bytes) at c.in_err-write_part.ensures.err in
     any_err c.from_residual.result (written-front (g.M.ByteStore.bytes c.args.movie.now) (g.S.ByteSource.left c.args.wav.now) (g.S.ByteSource.left c.loop-k.wav) c.args.reader.now.form.channels _ (drop (c.loop-k.k + 1) xs) (drop c.loop-k.k xs) xs _ _ _
-        c.loop-k.invariant.told (drop-at xs c.loop-k.k _ lt) c.loop-k.invariant.put err)
+    c.loop-k.invariant.told (drop-at xs c.loop-k.k _ lt) c.loop-k.invariant.put err)
 
 pub loop-k-preserved : goal.loop-k-preserved
 loop-k-preserved g c =

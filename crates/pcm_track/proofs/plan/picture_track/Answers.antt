@@ -22,7 +22,13 @@ returns-clause-fits c =
       few_times = omega (arith, ap length c.in_ok-runs_of.ensures, runs-few c.deref.result.now, ap length c.deref.ensures.value, ap length c.in_ok-durations.ensures, lasting, c.requires.few);
       few_runs = omega (arith, ap length c.in_ok-where_some.ensures, where-few {A = ℕ × ℕ × ℕ} (length c.args.samples.now) (1, 1, 1));
       few_sizes = omega (arith, ap length c.in_ok-sizes_of.ensures, sized, c.requires.few);
-      few_chunks = omega (arith, ap length c.in_ok-picture_places.ensures, ap (λ l. length (picture_places c.args.pcm.channels first_place l)) c.requires.parts,
-          pictures-of t.timescale c.args.pcm (samples t) c.args.pcm.channels first_place, ap length c.requires.samples, c.requires.few);
+      few_chunks = omega (
+        arith,
+        ap length c.in_ok-picture_places.ensures,
+        ap (λ l. length (picture_places c.args.pcm.channels first_place l)) c.requires.parts,
+        pictures-of t.timescale c.args.pcm (samples t) c.args.pcm.channels first_place,
+        ap length c.requires.samples,
+        c.requires.few,
+      );
       sized = omega (arith, ap length c.in_ok-sizes_of.ensures, sized);
     }
