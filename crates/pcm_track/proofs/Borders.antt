@@ -1,6 +1,6 @@
 -- How many frames of sound are in front of a time.
-use Rattle.std.proofs.Common.{◌≡◌, refl, ℕ, ◌+◌, ◌-◌, ◌*◌, ◌/◌, ◌%◌, ◌<◌, ◌≤◌, min, arith, sym, ap, ◌∙◌}
-use Rattle.std.proofs.Math.Nat.{div-mul-le_self, div-add-mod, mul-add-div_right, add-mul, mul_assoc, mul_comm, min-eq_right, mul-le-mul_right, le-mul_of_pos_right}
+use Rattle.std.proofs.Common.{◌≡◌, ℕ, ◌+◌, ◌*◌, ◌/◌, ◌%◌, ◌≤◌, min, arith, sym, ap, ◌∙◌}
+use Rattle.std.proofs.Math.Nat.{div-mul-le_self, div-add-mod, mul-add-div_right, add-mul, mul_assoc, mul_comm, min-eq_right, le-mul_of_pos_right}
 use Rattle.std.proofs.lemmas.Nat.{le-div}
 
 pub div-up : (a b k : ℕ) → 1 ≤ k → a ≤ b → a / k ≤ b / k

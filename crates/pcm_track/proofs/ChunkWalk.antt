@@ -1,6 +1,6 @@
 -- The chunks in front of the sound, one after the other.
-use Rattle.std.proofs.Common.{◌≡◌, refl, ℕ, zero, suc, ◌+◌, ◌-◌, ◌<◌, List, Option, None, Some, Result, Ok, Err, arith}
-use Rattle.pw_outside.specs.Reading.{Fault, Rest, Read, bind}
+use Rattle.std.proofs.Common.{◌≡◌, refl, ℕ, suc, ◌+◌, ◌-◌, ◌<◌, List, Option, Some, Ok, Err, arith}
+use Rattle.pw_outside.specs.Reading.{Fault, Rest, bind}
 use Rattle.pcm_track.specs.declared.fault.SoundKind.{SoundKind}
 use Rattle.pcm_track.specs.declared.fault.SoundKind.TheVariants.{Form}
 use Rattle.pcm_track.specs.declared.form.Format.{Format}

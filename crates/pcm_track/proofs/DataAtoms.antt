@@ -1,12 +1,12 @@
 -- Data atoms that are written one after the other.
-use Rattle.std.proofs.Common.{◌≡◌, refl, ℕ, zero, suc, ◌+◌, ◌<◌, ◌≤◌, Bool, true, false, nat_lt, if◌then◌else◌, List, [], ◌∷◌, ◌++◌, Option, None, Some, Result, Ok, Err, length, take, drop, codes, min, arith, sym, ap, subst, ◌∙◌, append_assoc}
+use Rattle.std.proofs.Common.{◌≡◌, refl, ℕ, ◌+◌, ◌≤◌, Bool, true, false, nat_lt, if◌then◌else◌, List, [], ◌∷◌, ◌++◌, Option, None, Some, Result, Ok, Err, length, drop, codes, arith, sym, ap, subst, ◌∙◌, append_assoc}
 use Rattle.std.specs.Prelude.{IsSome, IfSome, IfErr, replicate}
 use Rattle.std.specs.Int.{w32, to_be_bytes}
 use Rattle.std.proofs.lemmas.List.{length-take, length-append, length-replicate, append-nil}
 use Rattle.pw_outside.specs.Ports.{last}
-use Rattle.pw_outside.specs.Reading.{Fault, Rest, Read, rest_of, bytes_of, Told}
+use Rattle.pw_outside.specs.Reading.{Rest, Read, rest_of, bytes_of}
 use Rattle.pw_outside.specs.Writing.{SinkState, Puts, PutsFront}
-use Rattle.pw_outside.proofs.Puts.{puts_none, puts_then, puts_front, then_front, front_more}
+use Rattle.pw_outside.proofs.Puts.{puts_none, puts_then, then_front, front_more}
 use Rattle.qt_tables.specs.declared.runs.Sample.{Sample}
 use Rattle.qt_tables.specs.declared.fault.MovieKind.TheVariants.{SampleOutside, SampleLarge}
 use Rattle.qt_movie.specs.MovieBytes.{frame_head_bytes}
@@ -18,7 +18,7 @@ use Rattle.pcm_track.specs.declared.end.SoundEnd.TheVariants as ends
 use Rattle.pcm_track.specs.Ends.{AnswersUnlessOutside, is_done, is_read_fault, end_of}
 use Rattle.pcm_track.specs.Wav.{sound_size, passed_over}
 use Rattle.pcm_track.specs.Writing.{first_bytes, Copied, CopiedFront, told_from, PutsSome, PutsSomeFront, BothTold}
-use Rattle.pcm_track.specs.Adding.{data_atom, data_atoms, part_bytes, sound_in_part, behind_picture, behind_sound, behind_part, and_then, parts_end, Stops, IsAtomOf}
+use Rattle.pcm_track.specs.Adding.{data_atom, data_atoms, part_bytes, sound_in_part, behind_sound, behind_part, and_then, parts_end, Stops, IsAtomOf}
 use Rattle.pcm_track.proofs.Passing.{passed-behind}
 
 -- ---- one atom

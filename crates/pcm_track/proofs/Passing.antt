@@ -1,12 +1,11 @@
 -- Bytes that are passed over piece by piece.
-use Rattle.std.proofs.Common.{◌≡◌, refl, ℕ, ◌+◌, ◌-◌, ◌<◌, ◌≤◌, List, [], ◌++◌, length, take, drop, Option, None, Some, Result, Ok, Err, Bool, true, false, nat_lt, arith, sym, ap, subst, ◌∙◌, inl, inr}
-use Rattle.std.specs.Prelude.{IsSome}
+use Rattle.std.proofs.Common.{◌≡◌, refl, ℕ, ◌+◌, ◌-◌, ◌<◌, ◌≤◌, length, drop, Ok, Err, true, false, nat_lt, arith, sym, ap, ◌∙◌, inl, inr}
 use Rattle.std.proofs.lemmas.Bool.{cases_lt, le-ltb, lt-ltb}
 use Rattle.std.proofs.lemmas.List.{drop-drop, length-drop}
 use Rattle.pw_outside.specs.Reading.{Fault, Rest, Read, bind}
 use Rattle.pcm_track.specs.declared.fault.SoundKind.{SoundKind}
 use Rattle.pcm_track.specs.declared.fault.SoundKind.TheVariants.{Truncated}
-use Rattle.pcm_track.specs.Wav.{next_bytes, passed_over}
+use Rattle.pcm_track.specs.Wav.{passed_over}
 
 abbrev pub behind : ℕ → Rest → Rest
 behind n s = record { place = s.place + n; bytes = drop n s.bytes }

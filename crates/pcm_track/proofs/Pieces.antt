@@ -1,15 +1,15 @@
 -- Bytes that are copied piece by piece.
-use Rattle.std.proofs.Common.{◌≡◌, refl, ℕ, zero, suc, ◌+◌, ◌-◌, ◌<◌, ◌≤◌, List, [], ◌∷◌, ◌++◌, length, take, drop, Option, None, Some, Result, Ok, Err, arith, sym, ap, subst, ◌∙◌}
+use Rattle.std.proofs.Common.{◌≡◌, refl, ℕ, zero, suc, ◌+◌, ◌-◌, ◌≤◌, List, [], ◌∷◌, ◌++◌, length, take, drop, Option, None, Some, Result, Ok, Err, arith, sym, ap, subst, ◌∙◌}
 use Rattle.std.specs.Prelude.{IsSome, IfSome, OnErr, replicate}
-use Rattle.std.proofs.lemmas.List.{drop-drop, length-drop, length-append, take-append-drop}
+use Rattle.std.proofs.lemmas.List.{drop-drop, length-drop, take-append-drop}
 use lib.Seq.{take-add}
 use Rattle.pw_outside.specs.Ports.{last}
 use Rattle.pw_outside.specs.Reading.{Rest, rest_of, bytes_of, Told}
-use Rattle.pw_outside.specs.Writing.{SinkState, Puts, PutsFront}
+use Rattle.pw_outside.specs.Writing.{SinkState}
 use Rattle.pw_outside.proofs.Puts.{puts_none, puts_then, puts_front, then_front, front_more}
 use Rattle.pcm_track.specs.Wav.{passed_over}
 use Rattle.pcm_track.specs.Writing.{first_bytes, Copied, CopiedFront, told_from}
-use Rattle.pcm_track.proofs.Passing.{behind, passed-there, passed-behind}
+use Rattle.pcm_track.proofs.Passing.{passed-there, passed-behind}
 
 -- ---- the first bytes
 

@@ -1,5 +1,5 @@
 -- Samples with their sound.
-use Rattle.std.proofs.Common.{◌≡◌, refl, ℕ, zero, suc, ◌+◌, ◌-◌, ◌*◌, ◌/◌, ◌≤◌, min, Bool, true, false, if◌then◌else◌, ◌==◌, List, [], ◌∷◌, ◌++◌, length, take, drop, get_or, Some, ◌<◌, arith, sym, ap, ◌∙◌, append_assoc}
+use Rattle.std.proofs.Common.{◌≡◌, refl, ℕ, zero, suc, ◌+◌, ◌-◌, ◌*◌, ◌/◌, ◌≤◌, Bool, true, false, if◌then◌else◌, ◌==◌, List, [], ◌∷◌, ◌++◌, length, take, drop, get_or, Some, ◌<◌, arith, sym, ap, ◌∙◌, append_assoc}
 use Rattle.std.specs.Prelude.{slice_get}
 use Rattle.std.specs.List.{sum_by, All}
 use Rattle.std.proofs.Math.Seq.{drop-cons}
@@ -12,7 +12,7 @@ use Rattle.qt_tables.specs.declared.runs.Sample.{Sample}
 use Rattle.pcm_track.specs.declared.form.Pcm.{Pcm}
 use Rattle.pcm_track.specs.declared.parts.Part.{Part}
 use Rattle.pcm_track.specs.declared.parts.Part.TheVariants as parts
-use Rattle.pcm_track.specs.Adding.{border, sound_end, with_sound, parts_from, parts_of, part_frames, chunk_frames, picture_places, sound_places, picture_at, sound_at, part_size, IsNear, IsPartNear}
+use Rattle.pcm_track.specs.Adding.{border, sound_end, with_sound, parts_from, parts_of, part_frames, chunk_frames, picture_places, sound_places, part_size, IsNear, IsPartNear}
 use Rattle.pcm_track.proofs.Borders.{div-up}
 
 -- sound in front of other parts

@@ -1,5 +1,5 @@
 -- What sinks took.
-use Rattle.std.proofs.Common.{◌≡◌, ℕ, ◌≤◌, Bool, true, false, List, [], ◌++◌, take, subst}
+use Rattle.std.proofs.Common.{◌≡◌, ℕ, ◌≤◌, false, List, [], take, subst}
 use Rattle.std.proofs.lemmas.List.{append-nil}
 use Rattle.pw_outside.specs.Ports.{last}
 use Rattle.pw_outside.specs.Writing.{SinkState, Puts, PutsFront}

@@ -1,7 +1,6 @@
 -- Looking at tracks, descriptions and chunks one after the other, as a loop does.
-use Rattle.std.proofs.Common.{◌≡◌, ℕ, zero, suc, ◌-◌, ◌+◌, ◌≤◌, ◌<◌, Bool, true, false, List, [], ◌∷◌, Option, None, Some, Ok, Err, refl, sym, ap, ◌∙◌, arith, take, length, map}
-use Rattle.std.specs.Prelude.{slice_get, not}
-use Rattle.std.specs.List.{filter, list_any}
+use Rattle.std.proofs.Common.{◌≡◌, ℕ, suc, ◌-◌, ◌+◌, ◌≤◌, ◌<◌, Bool, true, false, List, Option, None, Some, Ok, refl, sym, ap, ◌∙◌, arith}
+use Rattle.std.specs.List.{filter}
 use Rattle.pw_outside.specs.Reading.{bind, ◌>>=◌, Fails}
 use Rattle.pw_outside.proofs.Chains.{fails-whole}
 use Rattle.qt_atoms.specs.declared.atom.Atom.{Atom}
@@ -12,7 +11,6 @@ use Rattle.qt_atoms.specs.Atoms.{walk, atom_at, StartsAt, told_fault as atoms_to
 use Rattle.qt_atoms.proofs.Walks.{walk-none, walk_atom, walk_end, walk_bad}
 use Rattle.qt_tables.specs.declared.fault.MovieFault.{MovieFault}
 use Rattle.qt_tables.specs.Faults.{Found, told_fault, lifted}
-use Rattle.qt_tables.specs.Samples.{Chunk, held_by}
 use Rattle.qt_movie.specs.declared.parts.Parts.{Parts}
 use Rattle.qt_movie.specs.declared.description.Description.{Description}
 use Rattle.qt_movie.specs.Movie.{is_trak, or_else, is_external, lies_here}

@@ -6,7 +6,6 @@ use Rattle.qt_tables.specs.declared.fault.MovieKind.{MovieKind}
 use Rattle.pcm_track.specs.declared.end.SoundEnd.TheVariants as ends
 use Rattle.pcm_track.specs.Track.{Sound, sound_in, chunks_of, frames_of}
 use Rattle.pcm_track.specs.Writing.{wav_head, sound_line}
-use Rattle.pcm_track.specs.Ends.{Outcome}
 use Rattle.pcm_track.specs.Sounding.{sounded, sounded_by, chunk_bytes, chunks_end}
 
 pub sounded-bad : (file : List ℕ) (f : Fault MovieKind) → sound_in file ≡ Err f → ends.BadMovie f.kind f.place ≡ (sounded file).end

@@ -1,5 +1,5 @@
 -- Which errors of a call tell a fault of a WAV.
-use Rattle.std.specs.Prelude.{Bool, true, false, Option, Some, None, Result, Ok, Err}
+use Rattle.std.specs.Prelude.{Bool, true, false, Option, Some, None, Result, Err}
 use Rattle.pw_outside.specs.Reading.{Fault}
 use Rattle.pcm_track.specs.declared.fault.SoundKind.{SoundKind}
 use Rattle.pcm_track.specs.declared.fault.SoundFault.{SoundFault}

@@ -5,7 +5,6 @@ use Rattle.pw_outside.specs.Reading.{Fault}
 use Rattle.qt_tables.specs.declared.fault.MovieKind.{MovieKind}
 use Rattle.qt_tables.specs.declared.fault.MovieKind.TheVariants.{SampleOutside}
 use Rattle.qt_tables.specs.Samples.{Chunk}
-use Rattle.pcm_track.specs.declared.form.Format.{Format}
 use Rattle.pcm_track.specs.declared.end.SoundEnd.{SoundEnd}
 use Rattle.pcm_track.specs.declared.end.SoundEnd.TheVariants as ends
 use Rattle.pcm_track.specs.Wav.{sound_size}

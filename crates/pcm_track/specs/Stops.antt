@@ -1,5 +1,5 @@
 -- Why copying stopped.
-use Rattle.std.specs.Prelude.{Bool, true, false, Result, Ok, Err}
+use Rattle.std.specs.Prelude.{Bool, true, false, Result, Err}
 use Rattle.pcm_track.specs.declared.copying.Stop.{Stop}
 use Rattle.pcm_track.specs.declared.copying.Stop.TheVariants as stops
 

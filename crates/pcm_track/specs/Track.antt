@@ -1,9 +1,9 @@
 -- What a QuickTime file says of its sound: the first track of plain PCM, or the first fault in the order of reading.
 -- Atoms and fields by the QuickTime File Format ("Sound Sample Description (Version 0)"); which track is taken, and the order of faults, are our own.
-use Rattle.std.specs.Prelude.{ℕ, zero, suc, ◌+◌, ◌-◌, ◌*◌, Bool, true, false, not, List, [], ◌∷◌, length, Option, Some, None, Result, Ok, Err, nat_lt, nat_le, ◌==◌, ◌&&◌, ◌||◌, if◌then◌else◌, codes}
+use Rattle.std.specs.Prelude.{ℕ, zero, suc, ◌+◌, ◌-◌, Bool, not, List, [], ◌∷◌, Option, Some, None, Ok, nat_lt, nat_le, ◌==◌, ◌&&◌, ◌||◌, if◌then◌else◌, codes}
 use Rattle.std.specs.Str.{bytes_eq}
 use Rattle.std.specs.Int.{w16, w32}
-use Rattle.pw_outside.specs.Reading.{◌>>=◌, bad, refuse}
+use Rattle.pw_outside.specs.Reading.{◌>>=◌, refuse}
 use Rattle.qt_atoms.specs.declared.atom.Atom.{Atom}
 use Rattle.qt_atoms.specs.Atoms.{number_in, bytes_in, kind_in}
 use Rattle.qt_tables.specs.declared.fault.MovieKind.TheVariants.{NoSound, SoundForm, SoundLong}

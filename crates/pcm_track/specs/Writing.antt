@@ -1,6 +1,6 @@
 -- What is written of sound: the head of a WAV, bytes of which some are wanting, and the lines of text.
 -- The head by Microsoft's Multimedia Programming Interface and Data Specifications; the lines are our own.
-use Rattle.std.specs.Prelude.{◌≡◌, ℕ, ◌+◌, ◌*◌, List, ◌++◌, length, take, drop, replicate, codes, Option, IfSome}
+use Rattle.std.specs.Prelude.{◌≡◌, ℕ, ◌+◌, ◌*◌, List, ◌++◌, take, drop, replicate, codes, Option, IfSome}
 use Rattle.std.specs.Fmt.{decimal}
 use Rattle.std.specs.Int.{w16, w32, to_le_bytes}
 use Rattle.std.specs.Option.{option_map}

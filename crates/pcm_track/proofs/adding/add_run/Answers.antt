@@ -1,8 +1,7 @@
 use Rattle.std.proofs.Common.{rules, refl, ◌≤◌, ap, subst, ◌∙◌}
 use Rattle.pw_outside.specs.Ports.{last}
-use Rattle.pw_outside.specs.Reading.{rest_of, bytes_of}
+use Rattle.pw_outside.specs.Reading.{bytes_of}
 use Rattle.pw_outside.specs.Writing.{sink_state}
-use Rattle.pcm_track.specs.declared.form.Pcm.{Pcm}
 use Rattle.pcm_track.specs.declared.end.SoundEnd.TheVariants as ends
 use Rattle.pcm_track.specs.Ends.{PutsUntil, is_read_fault, is_write_fault}
 use Rattle.pcm_track.specs.Adding.{added, added_line, parts_in, two_tracks_bytes}

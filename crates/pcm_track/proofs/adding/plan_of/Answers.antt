@@ -1,4 +1,4 @@
-use Rattle.std.proofs.Common.{rules, arith, ◌≡◌, ◌≤◌, ap, ◌∙◌}
+use Rattle.std.proofs.Common.{arith, ◌≤◌, ap}
 use Rattle.std.specs.List.{sum_by}
 use Rattle.std.proofs.lemmas.List.Elements.{All-same}
 use Rattle.qt_movie.specs.declared.reader.Track.{Track}

@@ -1,7 +1,6 @@
-use Rattle.std.proofs.Common.{rules, ◌≡◌, ◌≤◌, ◌++◌, false, sym, subst}
+use Rattle.std.proofs.Common.{rules, ◌≡◌, ◌≤◌, ◌++◌, sym, subst}
 use Rattle.std.proofs.lemmas.Result.{err_from_is_err_and, on_ok_weaker, on_err_weaker}
 use Rattle.pw_outside.specs.Ports.{last}
-use Rattle.pw_outside.specs.Writing.{sink_state}
 use Rattle.qt_movie.specs.MovieBytes.{ftyp_bytes}
 use Rattle.pcm_track.specs.Ends.{CountsFaults}
 use Rattle.pcm_track.specs.Adding.{data_atoms}

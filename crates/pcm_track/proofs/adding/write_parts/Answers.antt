@@ -1,9 +1,6 @@
-use Rattle.std.proofs.Common.{rules, arith, ◌≡◌, ◌<◌, ◌≤◌, ◌+◌, length, drop, get_or, ap, sym, subst, ◌∙◌}
+use Rattle.std.proofs.Common.{rules, arith, ◌<◌, ◌+◌, length, drop, get_or, ap, ◌∙◌}
 use Rattle.std.specs.List.{sum_by}
 use Rattle.std.proofs.lemmas.List.Sums.{sum_by-cons}
-use Rattle.pw_outside.specs.Reading.{rest_of, bytes_of}
-use Rattle.pw_outside.specs.Writing.{sink_state}
-use Rattle.qt_tables.specs.declared.runs.Sample.{Sample}
 use Rattle.pcm_track.specs.declared.parts.Part.{Part}
 use Rattle.pcm_track.specs.declared.parts.Part.TheVariants as parts
 use Rattle.pcm_track.specs.Adding.{part_frames}

@@ -1,4 +1,4 @@
-use Rattle.std.proofs.Common.{◌≡◌, ap, subst, ◌∙◌}
+use Rattle.std.proofs.Common.{ap, subst, ◌∙◌}
 use Rattle.pw_outside.specs.Writing.{sink_state, Puts, PutsFront}
 use Rattle.qt_movie.specs.MovieBytes.{frame_head_bytes}
 use Rattle.pcm_track.specs.declared.form.Pcm.{Pcm}

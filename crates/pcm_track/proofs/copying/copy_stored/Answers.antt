@@ -1,4 +1,4 @@
-use Rattle.std.proofs.Common.{rules, arith, refl, ◌≡◌, ◌+◌, ◌-◌, ◌≤◌, ◌∙◌, subst, length, drop}
+use Rattle.std.proofs.Common.{rules, arith, ◌+◌, ◌≤◌, length, drop}
 use Rattle.std.proofs.lemmas.List.{length-append, length-drop, length-take}
 use Rattle.pcm_track.proofs.Pieces.{behind-stored, within-stored, copied_then, copied_then_front, front_of_more, any_err, front_resized, copied_resized}
 use Rattle.pcm_track.proofs.copying.copy_stored.Goals as goal

@@ -1,7 +1,6 @@
-use Rattle.std.proofs.Common.{rules, arith, ◌≡◌, ◌<◌, ◌++◌, ◌-◌, ◌+◌, [], ◌∷◌, length, drop, get_or, ap, ◌∙◌}
+use Rattle.std.proofs.Common.{rules, arith, ◌<◌, ◌+◌, length, drop, get_or, ap, ◌∙◌}
 use Rattle.qt_tables.specs.declared.runs.Sample.{Sample}
-use Rattle.pcm_track.specs.declared.parts.Part.TheVariants as parts
-use Rattle.pcm_track.specs.Adding.{parts_from, sound_end, with_sound}
+use Rattle.pcm_track.specs.Adding.{parts_from, sound_end}
 use Rattle.pcm_track.proofs.Shares.{beside-step, drop-at, rest-all}
 use Rattle.pcm_track.proofs.parts.parts_beside.Goals as goal
 

@@ -1,8 +1,8 @@
-use Rattle.std.proofs.Common.{rules, arith, ◌≡◌, ◌≤◌, ℕ, length, ap, map, ◌∙◌}
+use Rattle.std.proofs.Common.{arith, ◌≤◌, ℕ, length, ap}
 use Rattle.std.proofs.lemmas.List.{length-map}
 use Rattle.qt_tables.specs.Samples.{samples}
 use Rattle.qt_tables.specs.declared.runs.Sample.{Sample}
-use Rattle.pcm_track.specs.Adding.{first_place, picture_places, parts_in}
+use Rattle.pcm_track.specs.Adding.{first_place, picture_places}
 use Rattle.pcm_track.proofs.Runs.{runs-few, where-few}
 use Rattle.pcm_track.proofs.Shares.{parts-of-few, pictures-of}
 use Rattle.pcm_track.proofs.plan.picture_track.Goals as goal

@@ -1,7 +1,7 @@
-use Rattle.std.proofs.Common.{rules, arith, ◌≡◌, ◌≤◌, ◌*◌, ◌==◌, false, if◌then◌else◌, ℕ, length, ap, ◌∙◌}
+use Rattle.std.proofs.Common.{arith, ◌≤◌, ℕ, length, ap, ◌∙◌}
 use Rattle.qt_tables.specs.Samples.{samples}
 use Rattle.qt_tables.proofs.Again.{samples_counted}
-use Rattle.pcm_track.specs.Adding.{first_place, sound_places, chunk_frames, parts_in}
+use Rattle.pcm_track.specs.Adding.{first_place, chunk_frames}
 use Rattle.pcm_track.proofs.Runs.{runs-few, runs-counted, counted, chunk-runs-many, where-few}
 use Rattle.pcm_track.proofs.Shares.{parts-of-few, chunks-of-few, sounds-many}
 use Rattle.pcm_track.proofs.plan.sound_track.Goals as goal

@@ -1,6 +1,5 @@
 use Rattle.std.proofs.Common.{rules, arith, refl, ◌≡◌, ◌+◌, ◌-◌, ◌≤◌, ◌∙◌, subst}
 use Rattle.std.proofs.lemmas.Result.{err_from_is_err_and}
-use Rattle.pw_outside.specs.Reading.{rest_of}
 use Rattle.pw_outside.specs.Writing.{sink_state}
 use Rattle.pw_outside.proofs.Chains.{fails-whole}
 use Rattle.pcm_track.specs.Faults.{told_copy}

@@ -1,4 +1,4 @@
-use Rattle.std.proofs.Common.{rules, refl, ◌≡◌, ◌≤◌, ◌∙◌, sym, subst, ap}
+use Rattle.std.proofs.Common.{rules, refl, ◌≡◌, ◌≤◌, ◌∙◌, sym, subst}
 use Rattle.pw_outside.specs.Ports.{last}
 use Rattle.pw_outside.specs.Reading.{bytes_of}
 use Rattle.pw_outside.specs.Writing.{sink_state}

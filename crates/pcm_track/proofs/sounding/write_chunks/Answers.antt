@@ -1,11 +1,9 @@
-use Rattle.std.proofs.Common.{rules, arith, ◌≡◌, ◌+◌, ◌≤◌, ◌∙◌, length, Ok, false}
+use Rattle.std.proofs.Common.{rules, arith, ◌≤◌, ◌∙◌, length}
 use Rattle.std.proofs.lemmas.Result.{err_from_is_err_and}
 use Rattle.qt_tables.specs.Samples.{chunks}
-use Rattle.pcm_track.specs.Ends.{is_done}
-use Rattle.pcm_track.specs.Sounding.{chunk_bytes}
 use Rattle.pcm_track.proofs.HeldFrames.{chunks-counted}
 use Rattle.pcm_track.proofs.Pieces.{any_err}
-use Rattle.pcm_track.proofs.ChunkByChunk.{Next, next-chunk, answer-on, answer-there, answer-all, written-on, written-front, written-all, extends-copied, extends-front}
+use Rattle.pcm_track.proofs.ChunkByChunk.{next-chunk, answer-on, answer-there, answer-all, written-on, written-front, written-all, extends-copied, extends-front}
 use Rattle.pcm_track.proofs.sounding.write_chunks.Goals as goal
 
 pub returns-in_err-write_chunk-clause-answer : goal.returns-in_err-write_chunk-clause-answer

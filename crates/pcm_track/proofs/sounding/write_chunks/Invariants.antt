@@ -1,4 +1,4 @@
-use Rattle.std.proofs.Common.{◌≡◌, ◌≤◌, length, take, drop}
+use Rattle.std.proofs.Common.{◌≡◌, length, take, drop}
 use Rattle.std.specs.List.{flat_map}
 use Rattle.pw_outside.specs.Reading.{Told}
 use Rattle.pw_outside.specs.Writing.{sink_state, Puts}

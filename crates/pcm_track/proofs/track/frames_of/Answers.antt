@@ -1,6 +1,6 @@
-use Rattle.std.proofs.Common.{rules, arith, ◌≡◌, ◌+◌, ◌≤◌, length, take, sym, ap, ◌∙◌}
+use Rattle.std.proofs.Common.{arith, ◌≤◌, length, ap, ◌∙◌}
 use Rattle.std.proofs.lemmas.List.{take_all}
-use Rattle.qt_tables.specs.Samples.{chunks, chunks_from, held_by}
+use Rattle.qt_tables.specs.Samples.{chunks, held_by}
 use Rattle.pcm_track.proofs.HeldFrames.{held-step, chunks-counted}
 use Rattle.pcm_track.proofs.track.frames_of.Goals as goal
 

@@ -1,7 +1,7 @@
-use Rattle.std.proofs.Common.{rules, arith, ap, sym, ◌≡◌, ◌∙◌, Ok, true, false}
+use Rattle.std.proofs.Common.{rules, arith, ap, ◌≡◌, ◌∙◌, Ok, true, false}
 use Rattle.qt_atoms.proofs.Heads.{ok-is}
 use Rattle.qt_movie.specs.Movie.{lies_here}
-use Rattle.pcm_track.proofs.SoundTracks.{readable-end, readable-external, readable-more, readable-none}
+use Rattle.pcm_track.proofs.SoundTracks.{readable-end, readable-external, readable-more}
 use Rattle.pcm_track.proofs.track.has_external.Goals as goal
 
 pub returns-in-None-clause-value : goal.returns-in-None-clause-value
