@@ -38,8 +38,16 @@ fn run_over(
     requires { 1 ≤ step }
 {
     let alloc = rt.alloc();
-    let mut store = MemStore::new(movie.to_vec(alloc)?, step, calls_of(alloc, call_of(fails, 0))?);
-    let mut source = MemSource::new(wav.to_vec(alloc)?, step, calls_of(alloc, call_of(fails, 1))?);
+    let mut store = MemStore::new(
+        movie.to_vec(alloc)?,
+        step,
+        calls_of(alloc, call_of(fails, 0))?,
+    );
+    let mut source = MemSource::new(
+        wav.to_vec(alloc)?,
+        step,
+        calls_of(alloc, call_of(fails, 1))?,
+    );
     let mut out = sink_of(alloc, step, call_of(fails, 2))?;
     let mut text = sink_of(alloc, step, call_of(fails, 3))?;
     let end = add_run(alloc, &mut store, &mut source, &mut out, &mut text);
