@@ -1,0 +1,12 @@
+//! Laws over the definitions alone.
+
+ghost use Rattle.pic_synth.specs.Pictures.{SyntheticIsMeant};
+
+use pic_raw::written_is_meant;
+
+/// The law that the bytes of these pictures as raw planes mean exactly these pictures.
+pub fn synthetic_is_meant()
+    ensures { SyntheticIsMeant }
+{
+    written_is_meant();
+}

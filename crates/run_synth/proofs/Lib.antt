@@ -1,0 +1,3 @@
+mod Laid
+mod Telling
+mod Encoded

@@ -1,0 +1,3 @@
+pub mod Synthesis
+pub mod Ports
+pub mod Parts
