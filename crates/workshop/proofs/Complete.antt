@@ -9,6 +9,7 @@ use Rattle.workshop.specs.declared.status.Status.{Status}
 use Rattle.workshop.specs.declared.status.Status.TheVariants as s
 use Rattle.run_look.specs.Reproofing.{CountsFaults}
 use Rattle.run_look.specs.Agreeing as look
+use Rattle.pcm_track.specs.Ends as sound
 use Rattle.workshop.specs.Status.{AnswersUnlessOutside, is_read_fault, is_write_fault}
 use Rattle.workshop.specs.Words.{Said, IsRun, uses_in, uses_of}
 use Rattle.workshop.specs.Faults.{Faults, NoPortFailed, CountsReads, CountsWrites}
@@ -76,4 +77,16 @@ check_reads said before now failed run h =
       movie = h.later';
       rose = on_true failed (λ r. ⊎_elim (λ a. inr (inl (refl, a))) (λ b. ⊎_elim (λ c. inr (inr (refl, c))) (λ d. inl (refl, d)) b) r) h.rose;
       kept = on_false failed (λ k. (k.2, k.0, k.1)) h.kept;
+    })
+
+-- the counts of the movie and of the WAV among those of all that can be read
+pub add_reads : (said : Said) (before now : Faults) (failed : Bool) → IsRun task.AddSound said → now.proof ≡ before.proof
+    → sound.CountsFaults before.movie now.movie before.pictures now.pictures failed → CountsReads (uses_in said) before now failed
+add_reads said before now failed run proof h =
+    subst (λ u. CountsReads u before now failed) (sym (run_uses task.AddSound said run)) (record {
+      pictures = h.later';
+      proof = subst (λ n. before.proof ≤ n) (sym proof) (omega arith);
+      movie = h.later;
+      rose = on_true failed (λ r. ⊎_elim (λ a. inr (inr (refl, a))) (λ b. inl (refl, b)) r) h.rose;
+      kept = on_false failed (λ k. (k.1, proof, k.0)) h.kept;
     })

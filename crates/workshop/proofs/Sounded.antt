@@ -3,7 +3,7 @@ use Rattle.std.proofs.Common.{◌≡◌, ℕ, List, true, refl, ap, inl, inr}
 use Rattle.pw_outside.specs.Writing.{SinkState}
 use Rattle.pcm_track.specs.declared.end.SoundEnd.{SoundEnd}
 use Rattle.pcm_track.specs.declared.end.SoundEnd.TheVariants as ends
-use Rattle.pcm_track.specs.Ends.{AnswersUnlessOutside, PutsUntil, is_read_fault, is_write_fault}
+use Rattle.pcm_track.specs.Ends.{AnswersUnlessOutside, Completes, PutsUntil, is_read_fault, is_write_fault}
 use Rattle.workshop.specs.Sounding.{status_of, AnswersSound, WritesUntil, CompletesSound}
 
 pub answers_sound : (known end : SoundEnd) → AnswersUnlessOutside end known → AnswersSound known (status_of end)
@@ -23,6 +23,11 @@ writes_until (ends.BadMovie kind place) bytes before after h = h
 writes_until (ends.BadSound kind place) bytes before after h = h
 
 -- ---- where no port failed
+
+-- the same of an end that is known
+pub completes : (known end : SoundEnd) → Completes known end → CompletesSound known (status_of end)
+completes known end (inl e) = inl (ap status_of e)
+completes known end (inr e) = inr (ap status_of e)
 
 pub complete : (known end : SoundEnd) → AnswersUnlessOutside end known
     → (is_read_fault end ≡ true → ⊥) → (is_write_fault end ≡ true → ⊥) → CompletesSound known (status_of end)

@@ -65,6 +65,7 @@ task_allowed command.Check n v a l e = checked (n == 3)
 task_allowed command.Reproof n v a l e = tt
 task_allowed command.Decode n v a l e = tt
 task_allowed command.Rescue n v a l e = rated v.rate a.rate
+task_allowed command.AddSound n v a l e = tt
 task_allowed command.Sound n v a l e = tt
 task_allowed command.Least n v a l e = tt
 task_allowed command.CheckLeast n v a l e = tt

@@ -1,4 +1,4 @@
--- What `sound` answers and writes. Our own definitions.
+-- What `addsound` and `sound` answer and write. Our own definitions.
 use Rattle.std.specs.Prelude.{◌≡◌, ℕ, List, ◌⊎◌}
 use Rattle.pw_outside.specs.Writing.{SinkState, Puts, PutsFront}
 use Rattle.pcm_track.specs.declared.end.SoundEnd.{SoundEnd}

@@ -30,7 +30,7 @@ use Rattle.workshop.specs.declared.status.UsageKind.TheVariants.{NoCommand, Unkn
 -- ---- the table of commands
 
 abbrev pub commands : List Command
-commands = command.Plan ∷ command.Encode ∷ command.List ∷ command.Check ∷ command.Reproof ∷ command.Decode ∷ command.Rescue ∷ command.Sound ∷ command.Least ∷ command.CheckLeast ∷ command.Curve ∷ []
+commands = command.Plan ∷ command.Encode ∷ command.List ∷ command.Check ∷ command.Reproof ∷ command.Decode ∷ command.Rescue ∷ command.AddSound ∷ command.Sound ∷ command.Least ∷ command.CheckLeast ∷ command.Curve ∷ []
 
 -- the word of each command
 abbrev pub name_of : Command → List ℕ
@@ -41,6 +41,7 @@ name_of command.Check = codes "check"
 name_of command.Reproof = codes "reproof"
 name_of command.Decode = codes "decode"
 name_of command.Rescue = codes "rescue"
+name_of command.AddSound = codes "addsound"
 name_of command.Sound = codes "sound"
 name_of command.Least = codes "least"
 name_of command.CheckLeast = codes "checkleast"
@@ -55,6 +56,7 @@ operands_of command.Check = 1 ∷ 3 ∷ []
 operands_of command.Reproof = 2 ∷ []
 operands_of command.Decode = 2 ∷ []
 operands_of command.Rescue = 2 ∷ []
+operands_of command.AddSound = 3 ∷ []
 operands_of command.Sound = 2 ∷ []
 operands_of command.Least = 2 ∷ []
 operands_of command.CheckLeast = 1 ∷ []
@@ -69,6 +71,7 @@ options_of command.Check = []
 options_of command.Reproof = []
 options_of command.Decode = option.Depth ∷ option.Form ∷ []
 options_of command.Rescue = option.Rate ∷ []
+options_of command.AddSound = []
 options_of command.Sound = []
 options_of command.Least = option.Cap ∷ []
 options_of command.CheckLeast = []
@@ -83,6 +86,7 @@ lacks_option command.Check v = false
 lacks_option command.Reproof v = false
 lacks_option command.Decode v = false
 lacks_option command.Rescue v = false
+lacks_option command.AddSound v = false
 lacks_option command.Sound v = false
 lacks_option command.Least v = is_none v.cap
 lacks_option command.CheckLeast v = false
@@ -98,7 +102,7 @@ no_names = record { pictures = None; proof = None; movie = None; out = None; cer
 
 -- The ports that the operands name, by the numbers of their words: `plan TABLE`, `encode PICTURES MOVIE PROOF`, `list MOVIE`,
 -- `check PROOF`, `check PROOF PICTURES MOVIE`, `reproof PROOF OUTPUT`, `decode MOVIE OUT`, `rescue FILE OUT`,
--- `sound MOVIE OUT`, `least TABLE CERT`, `checkleast CERT`, `curve TABLE`.
+-- `addsound MOVIE WAV OUT`, `sound MOVIE OUT`, `least TABLE CERT`, `checkleast CERT`, `curve TABLE`.
 abbrev pub ports_of : Command → List ℕ → Names
 ports_of command.Plan operands = record no_names { proof = slice_get operands 0 }
 ports_of command.Encode operands = record no_names { pictures = slice_get operands 0; out = slice_get operands 1; cert = slice_get operands 2 }
@@ -107,6 +111,7 @@ ports_of command.Check operands = record no_names { proof = slice_get operands 0
 ports_of command.Reproof operands = record no_names { proof = slice_get operands 0; cert = slice_get operands 1 }
 ports_of command.Decode operands = record no_names { movie = slice_get operands 0; out = slice_get operands 1 }
 ports_of command.Rescue operands = record no_names { movie = slice_get operands 0; out = slice_get operands 1 }
+ports_of command.AddSound operands = record no_names { movie = slice_get operands 0; pictures = slice_get operands 1; out = slice_get operands 2 }
 ports_of command.Sound operands = record no_names { movie = slice_get operands 0; out = slice_get operands 1 }
 ports_of command.Least operands = record no_names { proof = slice_get operands 0; cert = slice_get operands 1 }
 ports_of command.CheckLeast operands = record no_names { proof = slice_get operands 0 }
@@ -133,6 +138,7 @@ uses_of task.CheckAll = record no_ports { pictures = true; proof = true; movie =
 uses_of task.Reproof = record no_ports { proof = true; cert = true; text = true }
 uses_of (task.Decode w) = record no_ports { movie = true; out = true; text = true }
 uses_of (task.Rescue rate) = record no_ports { movie = true; out = true; text = true }
+uses_of task.AddSound = record no_ports { pictures = true; movie = true; out = true; text = true }
 uses_of task.Sound = record no_ports { movie = true; out = true; text = true }
 uses_of (task.Least cap) = record no_ports { proof = true; cert = true; text = true }
 uses_of task.CheckLeast = record no_ports { proof = true; text = true }
@@ -187,6 +193,7 @@ clash command.Check v = false
 clash command.Reproof v = false
 clash command.Decode v = false
 clash command.Rescue v = false
+clash command.AddSound v = false
 clash command.Sound v = false
 clash command.Least v = false
 clash command.CheckLeast v = false
@@ -201,6 +208,7 @@ task_of command.Check n v = if n == 3 then task.CheckAll else task.Check
 task_of command.Reproof n v = task.Reproof
 task_of command.Decode n v = task.Decode (decode_words v)
 task_of command.Rescue n v = task.Rescue (unwrap_or v.rate usual_rate)
+task_of command.AddSound n v = task.AddSound
 task_of command.Sound n v = task.Sound
 task_of command.Least n v = task.Least (unwrap_or v.cap 0)
 task_of command.CheckLeast n v = task.CheckLeast
@@ -321,6 +329,7 @@ command_of task.CheckAll = command.Check
 command_of task.Reproof = command.Reproof
 command_of (task.Decode w) = command.Decode
 command_of (task.Rescue rate) = command.Rescue
+command_of task.AddSound = command.AddSound
 command_of task.Sound = command.Sound
 command_of (task.Least cap) = command.Least
 command_of task.CheckLeast = command.CheckLeast
@@ -383,6 +392,7 @@ IsTask task.CheckAll = Unit {0}
 IsTask task.Reproof = Unit {0}
 IsTask (task.Decode w) = Unit {0}
 IsTask (task.Rescue rate) = IsRate (rate_of rate)
+IsTask task.AddSound = Unit {0}
 IsTask task.Sound = Unit {0}
 IsTask (task.Least cap) = Unit {0}
 IsTask task.CheckLeast = Unit {0}

@@ -83,6 +83,8 @@ fn purpose(command: Command) -> &'static str {
         Command::Reproof => "writes a proof again in version 2",
         Command::Decode => "writes the pictures of a movie",
         Command::Rescue => "makes a movie of the frames that stand in a file whose tables are lost",
+        Command::AddSound =>
+            "puts the plain PCM sound of a WAV (- is standard input) beside the pictures of a movie",
         Command::Sound => "takes the first track of plain PCM sound out of a movie, as a WAV",
         Command::Least =>
             "prints the smallest choice for a table of costs under a cap on the error, and writes its certificate",

@@ -1,4 +1,4 @@
-//! The run of `sound`.
+//! The runs of `addsound` and `sound`.
 
 ghost use Rattle.std.specs.Prelude.{◌≡◌, None};
 ghost use Rattle.std.specs.Bool.{OnTrue};
@@ -6,13 +6,14 @@ ghost use Rattle.pw_outside.specs.Ports.{CountsFault, Rose};
 ghost use Rattle.pw_outside.specs.Reading.{Told};
 ghost use Rattle.pw_outside.specs.Writing.{sink_state};
 ghost use Rattle.pcm_track.specs.Ends.{Extends, CountsFaults};
+ghost use Rattle.pcm_track.specs.Adding.{added};
 ghost use Rattle.pcm_track.specs.Sounding.{sounded};
 ghost use Rattle.workshop.specs.Status.{is_read_fault, is_settled, is_write_fault, usage_of};
 ghost use Rattle.workshop.specs.Sounding.{status_of, AnswersSound, WritesUntil, CompletesSound};
 
 use crate::status::Status;
-use pcm_track::{SoundEnd, sound_run};
-use pw_outside::{ByteSink, ByteStore};
+use pcm_track::{SoundEnd, add_run, sound_run};
+use pw_outside::{ByteSink, ByteSource, ByteStore};
 use std::alloc::Global;
 
 /// The answer with the fields of a run's end.
@@ -27,6 +28,35 @@ fn status_of(end: SoundEnd) -> Status
         SoundEnd::BadMovie { kind, place } => Status::BadMovie { kind, place },
         SoundEnd::BadSound { kind, place } => Status::BadSound { kind, place },
     }
+}
+
+/// Puts the sound of a WAV beside the pictures of a movie, and prints how much it is.
+#[tactic(auto, using(crate::proofs::Sounded::answers_sound, crate::proofs::Sounded::writes_until))]
+pub(crate) fn add_sound<M: ByteStore, S: ByteSource, K: ByteSink>(
+    alloc: Global,
+    movie: &mut M,
+    wav: &mut S,
+    out: &mut K,
+    text: &mut K,
+) -> Status
+    ensures answer { Told (M.bytes movie.old) (λ file. Told (S.left wav.old) (λ bytes. AnswersSound (added file bytes).end result)) }
+    ensures complete { Told (M.bytes movie.old) (λ file. Told (S.left wav.old) (λ bytes.
+        (Rose (M.faults movie.old) (M.faults movie.new) → ⊥) → (Rose (S.faults wav.old) (S.faults wav.new) → ⊥)
+        → (Rose (K.faults out.old) (K.faults out.new) → ⊥) → (Rose (K.faults text.old) (K.faults text.new) → ⊥)
+        → CompletesSound (added file bytes).end result)) }
+    ensures usage { usage_of result ≡ None }
+    ensures out { Told (M.bytes movie.old) (λ file. Told (S.left wav.old) (λ bytes. WritesUntil result (added file bytes).out
+        (sink_state (K.held out.old) (K.taken out.old)) (sink_state (K.held out.new) (K.taken out.new)))) }
+    ensures text { Told (M.bytes movie.old) (λ file. Told (S.left wav.old) (λ bytes. WritesUntil result (added file bytes).text
+        (sink_state (K.held text.old) (K.taken text.old)) (sink_state (K.held text.new) (K.taken text.new)))) }
+    ensures out_extends { Extends (sink_state (K.held out.old) (K.taken out.old)) (sink_state (K.held out.new) (K.taken out.new)) }
+    ensures text_extends { Extends (sink_state (K.held text.old) (K.taken text.old)) (sink_state (K.held text.new) (K.taken text.new)) }
+    ensures settled { OnTrue (is_settled result) ((K.settled out.new ≡ K.taken out.new) × (K.settled text.new ≡ K.taken text.new)) }
+    ensures bytes { M.bytes movie.new ≡ M.bytes movie.old }
+    ensures read { CountsFaults (M.faults movie.old) (M.faults movie.new) (S.faults wav.old) (S.faults wav.new) (is_read_fault result) }
+    ensures write { CountsFaults (K.faults out.old) (K.faults out.new) (K.faults text.old) (K.faults text.new) (is_write_fault result) }
+{
+    status_of(add_run(alloc, movie, wav, out, text))
 }
 
 /// Takes the sound out of a movie, as a WAV, and prints how much it is.

@@ -32,6 +32,7 @@ ghost use Rattle.rescue_run.specs.Laws.{WritesFronts, IsMovieOf};
 ghost use Rattle.workshop.specs.declared.options.Rate.{Rate};
 ghost use Rattle.workshop.specs.Options.{rate_of};
 ghost use Rattle.workshop.specs.Rescuing.{AnswersRescue, CompletesRescue};
+ghost use Rattle.pcm_track.specs.Adding.{added};
 ghost use Rattle.pcm_track.specs.Sounding.{sounded};
 ghost use Rattle.workshop.specs.Sounding.{AnswersSound, WritesUntil as WritesSound, CompletesSound};
 ghost use Rattle.rate_least.specs.Files.{certified};
@@ -47,7 +48,7 @@ use crate::listing::list;
 use crate::plan::plan;
 use crate::reproofing::reproof;
 use crate::rescuing::rescue;
-use crate::sounding::sound;
+use crate::sounding::{add_sound, sound};
 use crate::status::Status;
 use crate::words::{Task, settings_of};
 use monitors::Monitor;
@@ -74,6 +75,8 @@ use std::alloc::Global;
 ///   tells each monitor of each picture, and writes their number and the monitors' reports to `text`.
 /// - `rescue FILE OUT` looks through `movie` for frames of ProRes, wherever they stand, and writes a movie of those of the form
 ///   of the first to `out`, and a line for each with its place to `text`.
+/// - `addsound MOVIE WAV OUT` reads a QuickTime movie through `movie` and a WAV of plain PCM sound through `pictures`, and writes a movie of
+///   the same samples with the sound beside them to `out`, and a line with their numbers to `text`.
 /// - `sound MOVIE OUT` reads a QuickTime movie through `movie`, and writes its first track of plain PCM sound to `out` as a WAV, and a
 ///   line with the number of its frames and its form to `text`.
 /// - `least TABLE CERT` reads a table file through `proof` to its end, finds the smallest choice of error at most `--cap`, and writes a
@@ -247,6 +250,20 @@ pub fn workshop<S: ByteSource, M: ByteStore, K: ByteSink>(
         → NoPortFailed (uses_in (said words.now)) (faults S.faults M.faults K.faults pictures.old proof.old movie.old out.old cert.old text.old) (faults S.faults M.faults K.faults pictures.new proof.new movie.new out.new cert.new text.new)
         → CompletesRescue file result) }
 
+    // `addsound`: where the bytes of the movie and of the WAV are told, they decide the answer and all that is written: BadMovie and
+    // BadSound come with the first fault in the order of reading, exactly where there is one.
+    ensures addsound { Told (M.bytes movie.old) (λ file. Told (S.left pictures.old) (λ wav. IsRun task.AddSound (said words.now) → AnswersSound (added file wav).end result)) }
+    // After Done the movie with sound was appended to `out`, and the line to `text`; after every other answer a front of each, a byte
+    // that an input doesn't have counted as 0.
+    ensures addsound_out { Told (M.bytes movie.old) (λ file. Told (S.left pictures.old) (λ wav. IsRun task.AddSound (said words.now) → WritesSound result (added file wav).out
+        (sink_state (K.held out.old) (K.taken out.old)) (sink_state (K.held out.new) (K.taken out.new)))) }
+    ensures addsound_text { Told (M.bytes movie.old) (λ file. Told (S.left pictures.old) (λ wav. IsRun task.AddSound (said words.now) → WritesSound result (added file wav).text
+        (sink_state (K.held text.old) (K.taken text.old)) (sink_state (K.held text.new) (K.taken text.new)))) }
+    // Where no port failed, the answer is how putting the sound beside the pictures ends, unless memory runs out.
+    ensures addsound_complete { Told (M.bytes movie.old) (λ file. Told (S.left pictures.old) (λ wav. IsRun task.AddSound (said words.now)
+        → NoPortFailed (uses_in (said words.now)) (faults S.faults M.faults K.faults pictures.old proof.old movie.old out.old cert.old text.old) (faults S.faults M.faults K.faults pictures.new proof.new movie.new out.new cert.new text.new)
+        → CompletesSound (added file wav).end result)) }
+
     // `sound`: where the movie's bytes are told, they decide the answer and all that is written: BadMovie comes with their first fault
     // in the order of reading, exactly where they have one.
     ensures sound { Told (M.bytes movie.old) (λ file. IsRun task.Sound (said words.now) → AnswersSound (sounded file).end result) }
@@ -318,6 +335,7 @@ pub fn workshop<S: ByteSource, M: ByteStore, K: ByteSink>(
         Task::Reproof => reproof(alloc, proof, cert, text),
         Task::Decode(values) => decode(alloc, &values, movie, out, text, monitors),
         Task::Rescue(rate) => rescue(alloc, rate, movie, out, text),
+        Task::AddSound => add_sound(alloc, movie, pictures, out, text),
         Task::Sound => sound(alloc, movie, out, text),
         Task::Least(cap) => least(alloc, cap, proof, cert, text),
         Task::CheckLeast => check_least(alloc, proof, text),

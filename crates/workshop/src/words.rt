@@ -34,6 +34,8 @@ pub enum Command {
     Decode,
     /// `rescue FILE OUT` makes a movie of the frames that stand in a file.
     Rescue,
+    /// `addsound MOVIE WAV OUT` puts the sound of a WAV beside the pictures of a movie.
+    AddSound,
     /// `sound MOVIE OUT` takes the sound out of a movie.
     Sound,
     /// `least TABLE CERT` prints the smallest choice of a table file under a cap on the error, and certifies it.
@@ -83,6 +85,7 @@ pub enum Task {
     Decode(DecodeWords),
     /// At this rate.
     Rescue(Rate),
+    AddSound,
     Sound,
     /// Under this cap on the error.
     Least(u64),
@@ -111,6 +114,7 @@ impl Command {
             "reproof" => Some(Command::Reproof),
             "decode" => Some(Command::Decode),
             "rescue" => Some(Command::Rescue),
+            "addsound" => Some(Command::AddSound),
             "sound" => Some(Command::Sound),
             "least" => Some(Command::Least),
             "checkleast" => Some(Command::CheckLeast),
@@ -131,6 +135,7 @@ impl Command {
             Command::Reproof,
             Command::Decode,
             Command::Rescue,
+            Command::AddSound,
             Command::Sound,
             Command::Least,
             Command::CheckLeast,
@@ -150,6 +155,7 @@ impl Command {
             Command::Reproof => "reproof",
             Command::Decode => "decode",
             Command::Rescue => "rescue",
+            Command::AddSound => "addsound",
             Command::Sound => "sound",
             Command::Least => "least",
             Command::CheckLeast => "checkleast",
@@ -169,6 +175,7 @@ impl Command {
             Command::Reproof => &["PROOF", "OUTPUT"],
             Command::Decode | Command::Sound => &["MOVIE", "OUT"],
             Command::Rescue => &["FILE", "OUT"],
+            Command::AddSound => &["MOVIE", "WAV", "OUT"],
             Command::Least => &["TABLE", "CERT"],
             Command::CheckLeast => &["CERT"],
         }
@@ -186,7 +193,7 @@ impl Command {
             | Command::Rescue
             | Command::Sound
             | Command::Least => &[2],
-            Command::Encode => &[3],
+            Command::Encode | Command::AddSound => &[3],
         }
     }
 
@@ -210,7 +217,7 @@ impl Command {
             | Command::Rescue
             | Command::Sound
             | Command::Least => operands == 2,
-            Command::Encode => operands == 3,
+            Command::Encode | Command::AddSound => operands == 3,
         }
     }
 
@@ -223,6 +230,7 @@ impl Command {
             | Command::List
             | Command::Check
             | Command::Reproof
+            | Command::AddSound
             | Command::Sound
             | Command::CheckLeast
             | Command::Curve => &[],
@@ -254,6 +262,7 @@ impl Command {
             | Command::Reproof
             | Command::Decode
             | Command::Rescue
+            | Command::AddSound
             | Command::Sound
             | Command::CheckLeast
             | Command::Curve => None,
@@ -286,6 +295,7 @@ impl Command {
             | Command::Reproof
             | Command::Decode
             | Command::Rescue
+            | Command::AddSound
             | Command::Sound
             | Command::CheckLeast
             | Command::Curve => false,
@@ -306,6 +316,7 @@ impl Command {
             | Command::Reproof
             | Command::Decode
             | Command::Rescue
+            | Command::AddSound
             | Command::Sound
             | Command::Least
             | Command::CheckLeast
@@ -333,6 +344,7 @@ impl Command {
             Command::Reproof => Task::Reproof,
             Command::Decode => Task::Decode(decode_words(values)),
             Command::Rescue => Task::Rescue(values.rate.unwrap_or(Rate { num: 25, den: 1 })),
+            Command::AddSound => Task::AddSound,
             Command::Sound => Task::Sound,
             Command::Least => Task::Least(values.cap.unwrap_or(0)),
             Command::CheckLeast => Task::CheckLeast,
@@ -370,6 +382,12 @@ impl Command {
                 cert: operands.get(1).copied(),
                 ..Names::none()
             },
+            Command::AddSound => Names {
+                movie: operands.first().copied(),
+                pictures: operands.get(1).copied(),
+                out: operands.get(2).copied(),
+                ..Names::none()
+            },
             Command::Decode | Command::Rescue | Command::Sound => Names {
                 movie: operands.first().copied(),
                 out: operands.get(1).copied(),
@@ -392,6 +410,7 @@ impl Task {
             Task::Reproof => Command::Reproof,
             Task::Decode(_) => Command::Decode,
             Task::Rescue(_) => Command::Rescue,
+            Task::AddSound => Command::AddSound,
             Task::Sound => Command::Sound,
             Task::Least(_) => Command::Least,
             Task::CheckLeast => Command::CheckLeast,
@@ -412,6 +431,7 @@ impl Task {
             | Task::CheckAll
             | Task::Reproof
             | Task::Rescue(_)
+            | Task::AddSound
             | Task::Sound
             | Task::Least(_)
             | Task::CheckLeast

@@ -13,7 +13,7 @@ use Rattle.rate_table.specs.Reading.{tabled}
 use Rattle.workshop.proofs.top.workshop.Goals as goal
 use Rattle.workshop.specs.Listing.{status_of}
 use Rattle.workshop.specs.Status.{AnswersUnlessOutside}
-use Rattle.workshop.proofs.Complete.{unfailed, is_run, check_reads, reproof_completes, reproof_writes}
+use Rattle.workshop.proofs.Complete.{unfailed, is_run, add_reads, check_reads, reproof_completes, reproof_writes}
 use Rattle.workshop.specs.declared.words.Task.TheVariants as task
 
 pub returns-in-Encode-clause-encode_complete : goal.returns-in-Encode-clause-encode_complete
@@ -54,6 +54,15 @@ pub returns-in-Rescue-clause-rescue_complete : goal.returns-in-Rescue-clause-res
 returns-in-Rescue-clause-rescue_complete g c = λ told rate is none.
     let none = unfailed (task.Rescue rate) (said c.args.words.now) _ _ is none in
     c.rescue.ensures.complete told (λ r. none.movie (refl, r)) (λ r. none.out (refl, r)) (λ r. none.text (refl, r))
+
+pub returns-in-AddSound-clause-read : goal.returns-in-AddSound-clause-read
+returns-in-AddSound-clause-read g c =
+    add_reads (said c.args.words.now) _ _ _ (is_run (said c.args.words.now) (settled c.in-Ok.settings) task.AddSound c.in-Ok.ensures.value c.in-AddSound.is) refl c.add_sound.ensures.read
+
+pub returns-in-AddSound-clause-addsound_complete : goal.returns-in-AddSound-clause-addsound_complete
+returns-in-AddSound-clause-addsound_complete g c = λ told heard is none.
+    let none = unfailed task.AddSound (said c.args.words.now) _ _ is none in
+    c.add_sound.ensures.complete told heard (λ r. none.movie (refl, r)) (λ r. none.pictures (refl, r)) (λ r. none.out (refl, r)) (λ r. none.text (refl, r))
 
 pub returns-in-Sound-clause-sound_complete : goal.returns-in-Sound-clause-sound_complete
 returns-in-Sound-clause-sound_complete g c = λ told is none.
