@@ -8,3 +8,4 @@ pub mod Decoded
 pub mod Rescued
 pub mod Sounded
 pub mod Certified
+pub mod Synthesised

@@ -2,6 +2,7 @@
 use Rattle.std.proofs.Common.{◌≡◌, ℕ, ◌^◌, ◌<◌, ◌≤◌, ◌*◌, ◌%◌, ◌==◌, true, false, not, ◌&&◌, ◌||◌, ltb, Bool, Option, Some, None, refl, sym, ap, arith, IfSome, IsTrue}
 use Rattle.std.specs.Prelude.{unwrap_or, option_map, is_some, is_none, if◌then◌else◌}
 use Rattle.std.proofs.lemmas.Bool.{ltb-true, ltb-false, eqb-false, or_parts, true≢false, false≢true}
+use Rattle.pw_planes.specs.declared.plane.TheConstants.{MAX_WIDTH, MAX_HEIGHT}
 use Rattle.pw_planes.specs.declared.kinds.Interlace.{Interlace}
 use Rattle.pw_planes.specs.declared.kinds.Interlace.TheVariants.{Progressive}
 use Rattle.pic_y4m.specs.declared.head.Head.{Head}
@@ -70,6 +71,16 @@ task_allowed command.Sound n v a l e = tt
 task_allowed command.Least n v a l e = tt
 task_allowed command.CheckLeast n v a l e = tt
 task_allowed command.Curve n v a l e = tt
+task_allowed command.Synth n v a l e = record {
+  some_columns = (given (λ n. (1 ≤ n) × (n ≤ MAX_WIDTH)) v.width 1 (omega arith, omega arith) a.width).0;
+  columns = (given (λ n. (1 ≤ n) × (n ≤ MAX_WIDTH)) v.width 1 (omega arith, omega arith) a.width).1;
+  some_rows = (given (λ n. (1 ≤ n) × (n ≤ MAX_HEIGHT)) v.height 1 (omega arith, omega arith) a.height).0;
+  rows = (given (λ n. (1 ≤ n) × (n ≤ MAX_HEIGHT)) v.height 1 (omega arith, omega arith) a.height).1;
+  some_frames = (given (λ n. (1 ≤ n) × (n ≤ 100)) v.frames 1 (omega arith, omega arith) a.frames).0;
+  frames = (given (λ n. (1 ≤ n) × (n ≤ 100)) v.frames 1 (omega arith, omega arith) a.frames).1;
+  some_budget = (given (λ n. (1 ≤ n) × (n < 2 ^ 31)) v.budget 1 (omega arith, omega arith) a.budget).0;
+  budget = (given (λ n. (1 ≤ n) × (n < 2 ^ 31)) v.budget 1 (omega arith, omega arith) a.budget).1;
+}
 task_allowed command.Encode n v a l e =
     let three = or_parts _ _ e in
     let two = or_parts _ _ three.0 in

@@ -1,4 +1,4 @@
--- The options of the command line: their names and their values. Our own definitions.
+-- The options of the command line: their names and their values; and the numbers that stand as operands. Our own definitions.
 use Rattle.std.specs.Prelude.{◌≡◌, ℕ, ◌+◌, ◌-◌, ◌*◌, ◌^◌, ◌<◌, ◌≤◌, ◌%◌, ◌==◌, nat_lt, Bool, true, false, ◌&&◌, ◌||◌, is_some, is_none, List, take, drop, position, bytes_eq, codes, Option, None, Some, option_map, option_and_then, unwrap_or, IfSome, if◌then◌else◌}
 use Rattle.pw_planes.specs.declared.plane.TheConstants.{MAX_WIDTH, MAX_HEIGHT}
 use Rattle.pw_planes.specs.declared.kinds.Chroma.{Chroma}
@@ -126,7 +126,7 @@ raw_form bytes = do
 -- ---- the values that a command line gives
 
 abbrev pub no_values : Values
-no_values = record { budget = None; lo = None; hi = None; log2 = None; matrix = None; raw = None; interlace = None; group = None; proof = None; depth = None; form = None; rate = None; cap = None }
+no_values = record { budget = None; lo = None; hi = None; log2 = None; matrix = None; raw = None; interlace = None; group = None; proof = None; depth = None; form = None; rate = None; cap = None; width = None; height = None; frames = None; seed = None }
 
 -- whether a value was given
 abbrev pub is_given : OptionName → Values → Bool
@@ -160,6 +160,15 @@ with_value option.Form bytes v = option_map (λ f. record v { form = Some f }) (
 with_value option.Rate bytes v = option_map (λ r. record v { rate = Some r }) (rate_in bytes)
 with_value option.Cap bytes v = option_map (λ n. record v { cap = Some n }) (number_within 0 (2 ^ 64 - 1) bytes)
 
+-- The values with the operand of this number of `synth`: the width and the height of the pictures, how many they are, the seed, and the budget of
+-- each. None where the bytes are no number that it may be.
+abbrev pub with_number : (operand : ℕ) → List ℕ → Values → Option Values
+with_number operand bytes v = if operand == 0 then option_map (λ n. record v { width = Some n }) (number_within 1 MAX_WIDTH bytes)
+    else (if operand == 1 then option_map (λ n. record v { height = Some n }) (number_within 1 MAX_HEIGHT bytes)
+    else (if operand == 2 then option_map (λ n. record v { frames = Some n }) (number_within 1 100 bytes)
+    else (if operand == 3 then option_map (λ n. record v { seed = Some n }) (number_within 0 (2 ^ 32 - 1) bytes)
+    else option_map (λ n. record v { budget = Some n }) (number_within 1 (2 ^ 31 - 1) bytes))))
+
 -- a form of progressive pictures within the limits
 abbrev pub IsRawForm : Head → Type 0
 IsRawForm h = IsHead h × (h.interlace ≡ Progressive)
@@ -174,3 +183,6 @@ pub record AreValues (v : Values) : Type 0 where
   pub group : IfSome v.group (λ n. (1 ≤ n) × (n ≤ 8))
   pub proof : IfSome v.proof (λ n. (1 ≤ n) × (n ≤ 2))
   pub rate : IfSome v.rate (λ r. IsRate (rate_of r))
+  pub width : IfSome v.width (λ n. (1 ≤ n) × (n ≤ MAX_WIDTH))
+  pub height : IfSome v.height (λ n. (1 ≤ n) × (n ≤ MAX_HEIGHT))
+  pub frames : IfSome v.frames (λ n. (1 ≤ n) × (n ≤ 100))

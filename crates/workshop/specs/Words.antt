@@ -11,6 +11,8 @@ use Rattle.run_encode.specs.declared.job.EncodeWords.{EncodeWords}
 use Rattle.run_encode.specs.Groups.{AreWords}
 use Rattle.run_decode.specs.declared.job.Form.TheVariants.{Y4m}
 use Rattle.rescue_run.specs.Rescuing.{IsRate}
+use Rattle.run_synth.specs.declared.words.SynthWords.{SynthWords}
+use Rattle.run_synth.specs.Synthesis.{AreSynthWords}
 use Rattle.workshop.specs.declared.words.Command.{Command}
 use Rattle.workshop.specs.declared.words.Command.TheVariants as command
 use Rattle.workshop.specs.declared.words.Task.{Task}
@@ -23,14 +25,14 @@ use Rattle.workshop.specs.declared.options.OptionName.{OptionName}
 use Rattle.workshop.specs.declared.options.OptionName.TheVariants as option
 use Rattle.workshop.specs.declared.options.Rate.{Rate}
 use Rattle.workshop.specs.declared.options.Values.{Values}
-use Rattle.workshop.specs.Options.{name_of_option, cut, is_given, with_value, no_values, rate_of}
+use Rattle.workshop.specs.Options.{name_of_option, cut, is_given, with_value, with_number, no_values, rate_of}
 use Rattle.workshop.specs.declared.status.UsageKind.{UsageKind}
 use Rattle.workshop.specs.declared.status.UsageKind.TheVariants.{NoCommand, UnknownCommand, UnknownOption, RepeatedOption, BadValue, ExtraOperand, MissingOperand, MissingOption, Conflict}
 
 -- ---- the table of commands
 
 abbrev pub commands : List Command
-commands = command.Plan ∷ command.Encode ∷ command.List ∷ command.Check ∷ command.Reproof ∷ command.Decode ∷ command.Rescue ∷ command.AddSound ∷ command.Sound ∷ command.Least ∷ command.CheckLeast ∷ command.Curve ∷ []
+commands = command.Plan ∷ command.Encode ∷ command.List ∷ command.Check ∷ command.Reproof ∷ command.Decode ∷ command.Rescue ∷ command.AddSound ∷ command.Sound ∷ command.Least ∷ command.CheckLeast ∷ command.Curve ∷ command.Synth ∷ []
 
 -- the word of each command
 abbrev pub name_of : Command → List ℕ
@@ -46,6 +48,7 @@ name_of command.Sound = codes "sound"
 name_of command.Least = codes "least"
 name_of command.CheckLeast = codes "checkleast"
 name_of command.Curve = codes "curve"
+name_of command.Synth = codes "synth"
 
 -- how many operands each command may have, rising
 abbrev pub operands_of : Command → List ℕ
@@ -61,6 +64,7 @@ operands_of command.Sound = 2 ∷ []
 operands_of command.Least = 2 ∷ []
 operands_of command.CheckLeast = 1 ∷ []
 operands_of command.Curve = 1 ∷ []
+operands_of command.Synth = 5 ∷ []
 
 -- the options of each command
 abbrev pub options_of : Command → List OptionName
@@ -76,6 +80,7 @@ options_of command.Sound = []
 options_of command.Least = option.Cap ∷ []
 options_of command.CheckLeast = []
 options_of command.Curve = []
+options_of command.Synth = []
 
 -- an option is wanting that the command needs
 abbrev pub lacks_option : Command → Values → Bool
@@ -91,6 +96,7 @@ lacks_option command.Sound v = false
 lacks_option command.Least v = is_none v.cap
 lacks_option command.CheckLeast v = false
 lacks_option command.Curve v = false
+lacks_option command.Synth v = false
 
 -- this option is wanting, if there is one
 abbrev pub lacks : Option OptionName → Values → Bool
@@ -102,7 +108,7 @@ no_names = record { pictures = None; proof = None; movie = None; out = None; cer
 
 -- The ports that the operands name, by the numbers of their words: `plan TABLE`, `encode PICTURES MOVIE PROOF`, `list MOVIE`,
 -- `check PROOF`, `check PROOF PICTURES MOVIE`, `reproof PROOF OUTPUT`, `decode MOVIE OUT`, `rescue FILE OUT`,
--- `addsound MOVIE WAV OUT`, `sound MOVIE OUT`, `least TABLE CERT`, `checkleast CERT`, `curve TABLE`.
+-- `addsound MOVIE WAV OUT`, `sound MOVIE OUT`, `least TABLE CERT`, `checkleast CERT`, `curve TABLE`. `synth W H FRAMES SEED BUDGET` names none.
 abbrev pub ports_of : Command → List ℕ → Names
 ports_of command.Plan operands = record no_names { proof = slice_get operands 0 }
 ports_of command.Encode operands = record no_names { pictures = slice_get operands 0; out = slice_get operands 1; cert = slice_get operands 2 }
@@ -116,6 +122,7 @@ ports_of command.Sound operands = record no_names { movie = slice_get operands 0
 ports_of command.Least operands = record no_names { proof = slice_get operands 0; cert = slice_get operands 1 }
 ports_of command.CheckLeast operands = record no_names { proof = slice_get operands 0 }
 ports_of command.Curve operands = record no_names { proof = slice_get operands 0 }
+ports_of command.Synth operands = no_names
 
 -- which ports a run uses: it reads `pictures`, `proof` and `movie`, and writes `out`, `cert` and `text`
 pub record Ports : Type 0 where
@@ -143,6 +150,7 @@ uses_of task.Sound = record no_ports { movie = true; out = true; text = true }
 uses_of (task.Least cap) = record no_ports { proof = true; cert = true; text = true }
 uses_of task.CheckLeast = record no_ports { proof = true; text = true }
 uses_of task.Curve = record no_ports { proof = true; text = true }
+uses_of (task.Synth w) = record no_ports { text = true }
 
 -- ---- the values of options, and what stands for one that is absent
 
@@ -167,6 +175,16 @@ encode_words v = record {
 
 abbrev pub decode_words : Values → DecodeWords
 decode_words v = record { depth = unwrap_or v.depth D10; form = unwrap_or v.form Y4m }
+
+-- the numbers of `synth`, each of which stands as an operand
+abbrev pub synth_words : Values → SynthWords
+synth_words v = record {
+  width = unwrap_or v.width 1;
+  height = unwrap_or v.height 1;
+  frames = unwrap_or v.frames 1;
+  seed = unwrap_or v.seed 0;
+  budget = unwrap_or v.budget 1;
+}
 
 -- 25 frames a second
 abbrev pub usual_rate : Rate
@@ -198,6 +216,7 @@ clash command.Sound v = false
 clash command.Least v = false
 clash command.CheckLeast v = false
 clash command.Curve v = false
+clash command.Synth v = false
 
 -- what a command is to do with so many operands
 abbrev pub task_of : Command → ℕ → Values → Task
@@ -213,6 +232,7 @@ task_of command.Sound n v = task.Sound
 task_of command.Least n v = task.Least (unwrap_or v.cap 0)
 task_of command.CheckLeast n v = task.CheckLeast
 task_of command.Curve n v = task.Curve
+task_of command.Synth n v = task.Synth (synth_words v)
 
 -- ---- the walk over the words
 
@@ -264,6 +284,15 @@ with_parts c (Some parts) at v = with_named (option_named c parts.0) parts.1 at 
 unfoldable pub with_option : Command → List ℕ → ℕ → Values → Result Values UsageFault
 with_option c word at v = with_parts c (cut 61 (drop 2 word)) at v
 
+-- what an operand says, with so many in front of it: of `synth` a number, and of every other command a file, which is no value
+abbrev pub operand_values : Command → (operand : ℕ) → List ℕ → Values → Option Values
+operand_values command.Synth operand word v = with_number operand word v
+operand_values _ operand word v = Some v
+
+-- the values with what an operand says, the word of this number
+unfoldable pub with_operand : Command → (operand : ℕ) → List ℕ → ℕ → Values → Result Values UsageFault
+with_operand c operand word at v = unless_bad at (operand_values c operand word v)
+
 -- What the words say, where the last of them has been read.
 unfoldable pub ended : Command → ℕ → List ℕ → Values → Result (Task × List ℕ) UsageFault
 ended c at operands v = if not (takes c (length operands)) then Err (MissingOperand, at)
@@ -280,7 +309,9 @@ abbrev pub walk : Command → List (List ℕ) → ℕ → List ℕ → Values �
 walk c [] at operands v = ended c at operands v
 walk c (word ∷ words) at operands v =
     if is_option word then and_then (with_option c word at v) (λ more. walk c words (at + 1) operands more)
-    else (if nat_lt (length operands) (most_operands c) then walk c words (at + 1) (operands ++ at ∷ []) v else Err (ExtraOperand, at))
+    else (if nat_lt (length operands) (most_operands c)
+    then and_then (with_operand c (length operands) word at v) (λ more. walk c words (at + 1) (operands ++ at ∷ []) more)
+    else Err (ExtraOperand, at))
 
 -- what the words say: what is to be done, and the operands by their word numbers; or the first fault with its word
 abbrev pub Said : Type 0
@@ -320,6 +351,9 @@ IsRescue rate s = IsRun (task.Rescue rate) s
 abbrev pub IsLeast : (cap : ℕ) → Said → Type 0
 IsLeast cap s = IsRun (task.Least cap) s
 
+abbrev pub IsSynth : SynthWords → Said → Type 0
+IsSynth w s = IsRun (task.Synth w) s
+
 abbrev pub command_of : Task → Command
 command_of task.Plan = command.Plan
 command_of (task.Encode w) = command.Encode
@@ -334,6 +368,7 @@ command_of task.Sound = command.Sound
 command_of (task.Least cap) = command.Least
 command_of task.CheckLeast = command.CheckLeast
 command_of task.Curve = command.Curve
+command_of (task.Synth w) = command.Synth
 
 -- the ports that the run uses: none where the words have a fault
 abbrev pub uses_in : Said → Ports
@@ -397,3 +432,4 @@ IsTask task.Sound = Unit {0}
 IsTask (task.Least cap) = Unit {0}
 IsTask task.CheckLeast = Unit {0}
 IsTask task.Curve = Unit {0}
+IsTask (task.Synth w) = AreSynthWords w

@@ -91,6 +91,8 @@ fn purpose(command: Command) -> &'static str {
         Command::CheckLeast => "checks a certificate of least",
         Command::Curve =>
             "prints all pairs of size and error of a table of costs that no other is better than",
+        Command::Synth =>
+            "makes FRAMES pictures of W by H samples up, and encodes, decodes and checks them in memory",
     }
 }
 

@@ -19,6 +19,7 @@ mod rescuing;
 mod sounding;
 mod status;
 mod store;
+mod synthesis;
 #[cfg(test)]
 mod tests;
 mod top;

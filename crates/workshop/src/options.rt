@@ -1,12 +1,12 @@
-//! The options of the command line, and their values.
+//! The options of the command line, their values, and the numbers that stand as operands.
 
 ghost use Rattle.std.specs.Prelude.{◌≡◌, ◌≤◌, ◌<◌, IfSome};
-ghost use Rattle.workshop.specs.Options.{name_of_option, matrix_named, interlace_named, form_named, no_values, is_given, with_value, AreValues};
+ghost use Rattle.workshop.specs.Options.{name_of_option, matrix_named, interlace_named, form_named, no_values, is_given, with_value, with_number, AreValues};
 
 use crate::raw_form::{depth_in, number_within, rate_in, raw_form};
 use pic_y4m::Head;
 use pr_quant::Matrix;
-use pw_planes::{Depth, Interlace};
+use pw_planes::{Depth, Interlace, MAX_HEIGHT, MAX_WIDTH};
 use run_decode::Form;
 
 /// The greatest budget of a group of frames, in bytes.
@@ -14,6 +14,9 @@ pub(crate) const MAX_BUDGET: u32 = 2_147_483_647;
 
 /// The greatest quantisation index.
 const MAX_INDEX: u64 = 224;
+
+/// The most pictures that are made up.
+const MAX_FRAMES: u64 = 100;
 
 /// A frame rate: so many frames in so many seconds.
 #[derive(Clone, Copy, Debug, PartialEq, Eq)]
@@ -72,7 +75,7 @@ impl OptionName {
     }
 }
 
-/// The values that the options of a command line give; `None` for an option that isn't there.
+/// The values that a command line gives; `None` for an option or an operand that isn't there.
 #[derive(Clone, Copy, Debug, PartialEq, Eq)]
 pub(crate) struct Values {
     /// The bytes that each frame of a group adds to the group's budget, from 1.
@@ -99,6 +102,14 @@ pub(crate) struct Values {
     pub(crate) rate: Option<Rate>,
     /// The most error that a choice may have.
     pub(crate) cap: Option<u64>,
+    /// The width of pictures that are made up, in samples.
+    pub(crate) width: Option<u16>,
+    /// Their height.
+    pub(crate) height: Option<u16>,
+    /// How many they are, 1 to 100.
+    pub(crate) frames: Option<u8>,
+    /// The state with which their noise begins.
+    pub(crate) seed: Option<u32>,
 }
 
 /// The matrix of this name.
@@ -154,6 +165,10 @@ impl Values {
             form: None,
             rate: None,
             cap: None,
+            width: None,
+            height: None,
+            frames: None,
+            seed: None,
         }
     }
 
@@ -201,6 +216,24 @@ impl Values {
             OptionName::Form => values.form = Some(form_named(bytes)?),
             OptionName::Rate => values.rate = Some(rate_in(bytes)?),
             OptionName::Cap => values.cap = Some(number_within(bytes, 0, u64::MAX)?),
+        }
+        Some(values)
+    }
+
+    /// The values with the operand of this number of `synth`, if the bytes are a number that it may be: the width and the height of the
+    /// pictures, how many they are, the seed, and the budget of each.
+    pub(crate) fn with_number(self, operand: usize, bytes: &[u8]) -> Option<Values>
+        requires { AreValues self }
+        ensures value { result ≡ with_number operand bytes.now self }
+        ensures limits { IfSome result AreValues }
+    {
+        let mut values = self;
+        match operand {
+            0 => values.width = Some(number_within(bytes, 1, u64::from(MAX_WIDTH))? as u16),
+            1 => values.height = Some(number_within(bytes, 1, u64::from(MAX_HEIGHT))? as u16),
+            2 => values.frames = Some(number_within(bytes, 1, MAX_FRAMES)? as u8),
+            3 => values.seed = Some(number_within(bytes, 0, u64::from(u32::MAX))? as u32),
+            _ => values.budget = Some(number_within(bytes, 1, u64::from(MAX_BUDGET))? as u32),
         }
         Some(values)
     }

@@ -18,7 +18,7 @@ pub enum UsageKind {
     UnknownOption,
     /// An option that was given before.
     RepeatedOption,
-    /// A value that the option doesn't have.
+    /// A value that the option doesn't have, or an operand that is no number that it may be.
     BadValue,
     /// An operand more than the command takes.
     ExtraOperand,

@@ -7,7 +7,7 @@ ghost use Rattle.pw_outside.specs.Reading.{Told};
 ghost use Rattle.rate_table.specs.Reading.{tabled};
 ghost use Rattle.workshop.specs.Status.{is_done, is_read_fault, is_settled, is_write_fault, has_written, usage_of};
 ghost use Rattle.workshop.specs.declared.words.Task.TheVariants as task;
-ghost use Rattle.workshop.specs.Words.{said, usage_fault, IsRun, IsEncode, IsDecode, IsRescue, IsLeast, tells_monitors, uses_in, reads_pictures, reads_proof, reads_movie, writes_out, writes_cert, writes_text};
+ghost use Rattle.workshop.specs.Words.{said, usage_fault, IsRun, IsEncode, IsDecode, IsRescue, IsLeast, IsSynth, tells_monitors, uses_in, reads_pictures, reads_proof, reads_movie, writes_out, writes_cert, writes_text};
 ghost use Rattle.workshop.specs.Faults.{faults, CountsReads, CountsWrites, NoPortFailed, Settles};
 ghost use Rattle.pw_outside.specs.Writing.{sink_state, Puts};
 ghost use Rattle.qt_movie.specs.Movie.{movie_in};
@@ -38,6 +38,8 @@ ghost use Rattle.workshop.specs.Sounding.{AnswersSound, WritesUntil as WritesSou
 ghost use Rattle.rate_least.specs.Files.{certified};
 ghost use Rattle.rate_least.specs.Ends.{PrintsLines};
 ghost use Rattle.rate_least.specs.Runs.{AnswersCheck as AnswersCertificate, AnswersCurve, SaysTrue, yes_text, PrintsText, IsCurveText};
+ghost use Rattle.run_synth.specs.declared.words.SynthWords.{SynthWords};
+ghost use Rattle.workshop.specs.Synthesis.{AnswersSynth, CompletesSynth};
 ghost use Rattle.workshop.specs.Least.{Ended, AnswersLeast, CompletesLeast, CompletesCheckLeast, CompletesCurve};
 
 use crate::checking::{check, check_all};
@@ -50,6 +52,7 @@ use crate::reproofing::reproof;
 use crate::rescuing::rescue;
 use crate::sounding::{add_sound, sound};
 use crate::status::Status;
+use crate::synthesis::synth;
 use crate::words::{Task, settings_of};
 use monitors::Monitor;
 use pw_outside::{ByteSink, ByteSource, ByteStore};
@@ -84,6 +87,8 @@ use std::alloc::Global;
 /// - `checkleast CERT` reads such a certificate through `proof` to its end, checks it, and writes the line `yes` to `text`.
 /// - `curve TABLE` reads a table file through `proof` to its end, and writes a line for each undominated pair of size and error to
 ///   `text`.
+/// - `synth W H FRAMES SEED BUDGET` makes pictures up, encodes, decodes and checks them in memory, and writes what encoding prints, the number
+///   of pictures, and what the check prints to `text`.
 #[tactic(auto, using(run_look::proofs::Texts::none_extends))]
 pub fn workshop<S: ByteSource, M: ByteStore, K: ByteSink>(
     alloc: Global,
@@ -251,7 +256,7 @@ pub fn workshop<S: ByteSource, M: ByteStore, K: ByteSink>(
         → CompletesRescue file result) }
 
     // `addsound`: where the bytes of the movie and of the WAV are told, they decide the answer and all that is written: BadMovie and
-    // BadSound come with the first fault in the order of reading, exactly where there is one.
+    // BadSound come with the first fault in the order of reading and writing, exactly where there is one.
     ensures addsound { Told (M.bytes movie.old) (λ file. Told (S.left pictures.old) (λ wav. IsRun task.AddSound (said words.now) → AnswersSound (added file wav).end result)) }
     // After Done the movie with sound was appended to `out`, and the line to `text`; after every other answer a front of each, a byte
     // that an input doesn't have counted as 0.
@@ -316,6 +321,15 @@ pub fn workshop<S: ByteSource, M: ByteStore, K: ByteSink>(
     ensures curve_complete { Told (S.left proof.old) (λ bytes. IsRun task.Curve (said words.now)
         → NoPortFailed (uses_in (said words.now)) (faults S.faults M.faults K.faults pictures.old proof.old movie.old out.old cert.old text.old) (faults S.faults M.faults K.faults pictures.new proof.new movie.new out.new cert.new text.new)
         → CompletesCurve (tabled bytes) result) }
+
+    // `synth`: the words decide the answer and all that is written: after Done what encoding the pictures prints, their number, and what the
+    // check prints; after TooSmall and LayersFull what encoding prints alone; after a fault of writing a front of these. ReadFault never comes.
+    ensures synth { (w : SynthWords) → IsSynth w (said words.now) → AnswersSynth w result
+        (sink_state (K.held text.old) (K.taken text.old)) (sink_state (K.held text.new) (K.taken text.new)) }
+    // Where no port failed, pictures that each have a fitting choice and layers that aren't too many are Done, unless memory runs out.
+    ensures synth_complete { (w : SynthWords) → IsSynth w (said words.now)
+        → NoPortFailed (uses_in (said words.now)) (faults S.faults M.faults K.faults pictures.old proof.old movie.old out.old cert.old text.old) (faults S.faults M.faults K.faults pictures.new proof.new movie.new out.new cert.new text.new)
+        → CompletesSynth w result }
 {
     let settings = match settings_of(words) {
         Ok(settings) => settings,
@@ -340,5 +354,6 @@ pub fn workshop<S: ByteSource, M: ByteStore, K: ByteSink>(
         Task::Least(cap) => least(alloc, cap, proof, cert, text),
         Task::CheckLeast => check_least(alloc, proof, text),
         Task::Curve => curve(alloc, proof, text),
+        Task::Synth(numbers) => synth(alloc, &numbers, text),
     }
 }

@@ -1,8 +1,8 @@
 //! The words of the command line.
 
-ghost use Rattle.std.specs.Prelude.{◌≡◌, ◌<◌, ◌≤◌, [], IfOk, drop, length, map, string_bytes};
+ghost use Rattle.std.specs.Prelude.{◌≡◌, ◌<◌, ◌≤◌, [], IfOk, IfSome, drop, length, map, string_bytes};
 ghost use Rattle.workshop.specs.Options.{AreValues, no_values};
-ghost use Rattle.workshop.specs.Words.{IsWalk, IsTask, commands, name_of, command_named, option_named, options_of, operands_of, most_operands, takes, lacks, lacks_option, clash, encode_words, decode_words, raw_in, has_odd_form, task_of, with_option_value, with_option, ended, walk, said, settled, command_of, ports_of, names_in, no_names, is_decode, tells_monitors};
+ghost use Rattle.workshop.specs.Words.{IsWalk, IsTask, commands, name_of, command_named, option_named, options_of, operands_of, most_operands, takes, lacks, lacks_option, clash, encode_words, decode_words, raw_in, has_odd_form, task_of, with_option_value, with_option, operand_values, with_operand, synth_words, ended, walk, said, settled, command_of, ports_of, names_in, no_names, is_decode, tells_monitors};
 
 use crate::options::{MAX_BUDGET, OptionName, Rate, Values};
 use crate::raw_form::cut;
@@ -13,6 +13,7 @@ use pr_quant::Matrix;
 use pw_planes::{Depth, Interlace};
 use run_decode::Form;
 use run_encode::EncodeWords;
+use run_synth::SynthWords;
 
 /// No command has more operands.
 const MOST_OPERANDS: usize = 5;
@@ -44,6 +45,8 @@ pub enum Command {
     CheckLeast,
     /// `curve TABLE` prints all undominated pairs of size and error of a table file.
     Curve,
+    /// `synth W H FRAMES SEED BUDGET` makes pictures up, encodes, decodes and checks them.
+    Synth,
 }
 
 /// What the words say of a run of `decode`.
@@ -91,6 +94,8 @@ pub enum Task {
     Least(u64),
     CheckLeast,
     Curve,
+    /// With these pictures and this budget.
+    Synth(SynthWords),
 }
 
 /// What is to be done, with the numbers of the words that are operands.
@@ -119,6 +124,7 @@ impl Command {
             "least" => Some(Command::Least),
             "checkleast" => Some(Command::CheckLeast),
             "curve" => Some(Command::Curve),
+            "synth" => Some(Command::Synth),
             _ => None,
         }
     }
@@ -140,6 +146,7 @@ impl Command {
             Command::Least,
             Command::CheckLeast,
             Command::Curve,
+            Command::Synth,
         ]
     }
 
@@ -160,6 +167,7 @@ impl Command {
             Command::Least => "least",
             Command::CheckLeast => "checkleast",
             Command::Curve => "curve",
+            Command::Synth => "synth",
         }
     }
 
@@ -178,6 +186,7 @@ impl Command {
             Command::AddSound => &["MOVIE", "WAV", "OUT"],
             Command::Least => &["TABLE", "CERT"],
             Command::CheckLeast => &["CERT"],
+            Command::Synth => &["W", "H", "FRAMES", "SEED", "BUDGET"],
         }
     }
 
@@ -194,6 +203,7 @@ impl Command {
             | Command::Sound
             | Command::Least => &[2],
             Command::Encode | Command::AddSound => &[3],
+            Command::Synth => &[5],
         }
     }
 
@@ -218,6 +228,7 @@ impl Command {
             | Command::Sound
             | Command::Least => operands == 2,
             Command::Encode | Command::AddSound => operands == 3,
+            Command::Synth => operands == 5,
         }
     }
 
@@ -233,7 +244,8 @@ impl Command {
             | Command::AddSound
             | Command::Sound
             | Command::CheckLeast
-            | Command::Curve => &[],
+            | Command::Curve
+            | Command::Synth => &[],
             Command::Encode => &[
                 OptionName::Budget,
                 OptionName::Lo,
@@ -265,7 +277,8 @@ impl Command {
             | Command::AddSound
             | Command::Sound
             | Command::CheckLeast
-            | Command::Curve => None,
+            | Command::Curve
+            | Command::Synth => None,
             Command::Encode => Some(OptionName::Budget),
             Command::Least => Some(OptionName::Cap),
         }
@@ -298,7 +311,8 @@ impl Command {
             | Command::AddSound
             | Command::Sound
             | Command::CheckLeast
-            | Command::Curve => false,
+            | Command::Curve
+            | Command::Synth => false,
             Command::Encode => values.budget.is_none(),
             Command::Least => values.cap.is_none(),
         }
@@ -320,7 +334,8 @@ impl Command {
             | Command::Sound
             | Command::Least
             | Command::CheckLeast
-            | Command::Curve => false,
+            | Command::Curve
+            | Command::Synth => false,
             Command::Encode => {
                 let words = encode_words(values);
                 words.hi < words.lo
@@ -349,6 +364,7 @@ impl Command {
             Command::Least => Task::Least(values.cap.unwrap_or(0)),
             Command::CheckLeast => Task::CheckLeast,
             Command::Curve => Task::Curve,
+            Command::Synth => Task::Synth(synth_words(values)),
         }
     }
 
@@ -393,6 +409,31 @@ impl Command {
                 out: operands.get(1).copied(),
                 ..Names::none()
             },
+            Command::Synth => Names::none(),
+        }
+    }
+
+    /// The values with what an operand says, with so many in front of it: of `synth` a number, if the bytes are one that it may be, and of every other
+    /// command a file, which is no value.
+    fn operand_values(self, operand: usize, word: &[u8], values: Values) -> Option<Values>
+        requires { AreValues values }
+        ensures value { result ≡ operand_values self operand word.now values }
+        ensures limits { IfSome result AreValues }
+    {
+        match self {
+            Command::Synth => values.with_number(operand, word),
+            Command::Plan
+            | Command::Encode
+            | Command::List
+            | Command::Check
+            | Command::Reproof
+            | Command::Decode
+            | Command::Rescue
+            | Command::AddSound
+            | Command::Sound
+            | Command::Least
+            | Command::CheckLeast
+            | Command::Curve => Some(values),
         }
     }
 }
@@ -415,6 +456,7 @@ impl Task {
             Task::Least(_) => Command::Least,
             Task::CheckLeast => Command::CheckLeast,
             Task::Curve => Command::Curve,
+            Task::Synth(_) => Command::Synth,
         }
     }
 
@@ -435,7 +477,8 @@ impl Task {
             | Task::Sound
             | Task::Least(_)
             | Task::CheckLeast
-            | Task::Curve => false,
+            | Task::Curve
+            | Task::Synth(_) => false,
         }
     }
 }
@@ -490,6 +533,19 @@ fn decode_words(values: &Values) -> DecodeWords
     DecodeWords {
         depth: values.depth.unwrap_or(Depth::D10),
         form: values.form.unwrap_or(Form::Y4m),
+    }
+}
+
+/// The numbers of `synth`, each of which stands as an operand.
+fn synth_words(values: &Values) -> SynthWords
+    ensures { result ≡ synth_words values.now }
+{
+    SynthWords {
+        width: values.width.unwrap_or(1),
+        height: values.height.unwrap_or(1),
+        frames: values.frames.unwrap_or(1),
+        seed: values.seed.unwrap_or(0),
+        budget: values.budget.unwrap_or(1),
     }
 }
 
@@ -551,6 +607,28 @@ fn with_option(command: Command, word: &[u8], at: usize, values: Values) -> Resu
     with_option_value(option, value, at, values)
 }
 
+/// The values with what an operand says, the word of this number, with so many operands in front of it.
+#[tactic(auto, unfolding(crate::specs::Words::with_operand))]
+fn with_operand(
+    command: Command,
+    operand: usize,
+    word: &[u8],
+    at: usize,
+    values: Values,
+) -> Result<Values, BadWords>
+    requires { AreValues values }
+    ensures value { IsWalk (λ v. v) result (with_operand command operand word.now at values) }
+    ensures limits { IfOk result AreValues }
+{
+    match command.operand_values(operand, word, values) {
+        Some(values) => Ok(values),
+        None => Err(BadWords {
+            kind: UsageKind::BadValue,
+            word: at,
+        }),
+    }
+}
+
 /// What the words say, where so many words have been read and no more are left.
 #[tactic(auto, unfolding(crate::specs::Words::ended), using(crate::proofs::Tasks::task_allowed))]
 fn ended(
@@ -591,6 +669,7 @@ fn walk(command: Command, words: &[String]) -> Result<Settings, BadWords>
         if word.starts_with(b"--") {
             values = with_option(command, word, at, values)?;
         } else if operands.len() < command.most_operands() {
+            values = with_operand(command, operands.len(), word, at, values)?;
             operands.push(at);
         } else {
             return Err(BadWords {

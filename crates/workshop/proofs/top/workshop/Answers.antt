@@ -8,6 +8,8 @@ use Rattle.workshop.specs.Words.{said, settled}
 use Rattle.workshop.proofs.Encoded.{quiet, same-words}
 use Rattle.workshop.proofs.Decoded as decoded
 use Rattle.workshop.proofs.Certified as certified
+use Rattle.workshop.proofs.Synthesised as synthesised
+use Rattle.workshop.specs.Synthesis.{CompletesSynth}
 use Rattle.workshop.specs.Least.{CompletesLeast}
 use Rattle.rate_table.specs.Reading.{tabled}
 use Rattle.workshop.proofs.top.workshop.Goals as goal
@@ -85,3 +87,9 @@ pub returns-in-Curve-clause-curve_complete : goal.returns-in-Curve-clause-curve_
 returns-in-Curve-clause-curve_complete g c = λ told is none.
     let none = unfailed task.Curve (said c.args.words.now) _ _ is none in
     c.curve.ensures.complete told (λ r. none.proof (refl, r)) (λ r. none.text (refl, r))
+
+pub returns-in-Synth-clause-synth_complete : goal.returns-in-Synth-clause-synth_complete
+returns-in-Synth-clause-synth_complete g c = λ w is none.
+    let none = unfailed (task.Synth w) (said c.args.words.now) _ _ is none in
+    let same = synthesised.same-words (said c.args.words.now) (settled c.in-Ok.settings) c.in-Synth.numbers w c.in-Ok.ensures.value c.in-Synth.is is in
+    subst (λ v. CompletesSynth v c.synth.result) same (c.synth.ensures.complete (λ r. none.text (refl, r)))
