@@ -1,5 +1,5 @@
 -- What a run that checks a proof says of the answer.
-use Rattle.std.proofs.Common.{◌≡◌, ℕ, List, ◌⊎◌, inl, inr, refl, ap}
+use Rattle.std.proofs.Common.{◌≡◌, ℕ, ◌⊎◌, inl, inr, refl, ap}
 use Rattle.pw_outside.specs.Writing.{SinkState}
 use Rattle.run_look.specs.declared.end.LookEnd.{LookEnd}
 use Rattle.run_look.specs.declared.end.LookEnd.TheVariants as ends

@@ -2,7 +2,7 @@
 use Rattle.std.proofs.Common.{◌≡◌, ◌≤◌, ℕ, List, arith, sym, Bool, true, false, Ok, Err, refl, ap, subst, inl, inr, ⊎_elim}
 use Rattle.std.specs.Prelude.{◌⊎◌}
 use Rattle.std.specs.Bool.{OnTrue, OnFalse}
-use Rattle.pw_outside.specs.Ports.{CountsFault, Rose}
+use Rattle.pw_outside.specs.Ports.{CountsFault}
 use Rattle.workshop.specs.declared.words.Task.{Task}
 use Rattle.workshop.specs.declared.words.Task.TheVariants as task
 use Rattle.workshop.specs.declared.status.Status.{Status}

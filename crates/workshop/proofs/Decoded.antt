@@ -7,7 +7,6 @@ use Rattle.qt_movie.specs.Movie.{Movie}
 use Rattle.run_decode.specs.declared.end.DecodeEnd.{DecodeEnd}
 use Rattle.run_decode.specs.declared.end.DecodeEnd.TheVariants as ends
 use Rattle.run_decode.specs.Laws as laws
-use Rattle.workshop.specs.declared.status.Status.{Status}
 use Rattle.workshop.specs.declared.status.Status.TheVariants as s
 use Rattle.workshop.specs.Decoding.{status_of, CompletesDecode}
 use Rattle.workshop.specs.declared.words.DecodeWords.{DecodeWords}

@@ -1,6 +1,6 @@
 -- Where no port failed, and each group has a fitting choice, a run of `encode` is done.
-use Rattle.std.proofs.Common.{◌≡◌, refl, ℕ, List, ◌<◌, ◌⊎◌, inl, inr, Bool, true, false, None, Result, Ok, Err, sym, subst, ◌∙◌, ap}
-use Rattle.std.specs.Bool.{OnTrue, OnFalse}
+use Rattle.std.proofs.Common.{◌≡◌, refl, ℕ, List, ◌⊎◌, inl, inr, Bool, true, false, None, Result, Ok, Err, sym, subst, ◌∙◌, ap}
+use Rattle.std.specs.Bool.{OnTrue}
 use Rattle.pw_outside.specs.Ports.{Rose}
 use Rattle.pw_outside.specs.Reading.{Fault}
 use Rattle.pic_y4m.specs.declared.head.Head.{Head}
@@ -10,11 +10,10 @@ use Rattle.run_encode.specs.declared.job.Job.{Job}
 use Rattle.run_encode.specs.declared.job.EncodeWords.{EncodeWords}
 use Rattle.run_encode.specs.declared.end.EncodeEnd.{EncodeEnd}
 use Rattle.run_encode.specs.declared.end.EncodeEnd.TheVariants as ends
-use Rattle.run_encode.specs.Groups.{IsJobOf, has_layout}
+use Rattle.run_encode.specs.Groups.{has_layout}
 use Rattle.run_encode.specs.Outputs.{Outputs}
 use Rattle.run_encode.specs.Encoding.{Ran, RanOn, StopsFirst, is_read_fault, is_write_fault}
 use Rattle.run_encode.specs.Completing.{EachFits}
-use Rattle.workshop.specs.declared.status.Status.{Status}
 use Rattle.workshop.specs.declared.status.Status.TheVariants as s
 use Rattle.workshop.specs.Encoding.{status_of, CompletesEncode}
 use Rattle.workshop.specs.declared.words.Task.{Task}

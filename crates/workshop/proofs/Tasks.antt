@@ -1,6 +1,6 @@
 -- The values of a command are those that its run may be told.
-use Rattle.std.proofs.Common.{◌≡◌, ℕ, ◌^◌, ◌<◌, ◌≤◌, ◌*◌, ◌%◌, ◌==◌, true, false, not, ◌&&◌, ◌||◌, ltb, Bool, Option, Some, None, refl, sym, ap, arith, IfSome, IsTrue}
-use Rattle.std.specs.Prelude.{unwrap_or, option_map, is_some, is_none, if◌then◌else◌}
+use Rattle.std.proofs.Common.{◌≡◌, ℕ, ◌^◌, ◌<◌, ◌≤◌, ◌%◌, ◌==◌, true, false, not, ◌&&◌, Bool, Option, Some, None, refl, arith, IfSome, IsTrue}
+use Rattle.std.specs.Prelude.{unwrap_or, option_map, is_none, if◌then◌else◌}
 use Rattle.std.proofs.lemmas.Bool.{ltb-true, ltb-false, eqb-false, or_parts, true≢false, false≢true}
 use Rattle.pw_planes.specs.declared.plane.TheConstants.{MAX_WIDTH, MAX_HEIGHT}
 use Rattle.pw_planes.specs.declared.kinds.Interlace.{Interlace}
@@ -13,9 +13,8 @@ use Rattle.workshop.specs.declared.options.Values.{Values}
 use Rattle.workshop.specs.declared.words.Command.{Command}
 use Rattle.workshop.specs.declared.words.Command.TheVariants as command
 use Rattle.workshop.specs.declared.words.Task.TheVariants as task
-use Rattle.run_encode.specs.Groups.{AreWords}
 use Rattle.workshop.specs.Options.{AreValues, IsRawForm, rate_of}
-use Rattle.workshop.specs.Words.{IsTask, task_of, clash, lacks_option, encode_words, with_mode, raw_in, has_odd_form, usual_rate}
+use Rattle.workshop.specs.Words.{IsTask, task_of, clash, lacks_option, with_mode, has_odd_form, usual_rate}
 
 -- what holds of a value and of what stands for one that is absent
 given : (P : ℕ → Type 0) (o : Option ℕ) (n : ℕ) → P n → IfSome o P → P (unwrap_or o n)

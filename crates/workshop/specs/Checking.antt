@@ -1,5 +1,5 @@
 -- What `check` answers and writes. Our own definitions.
-use Rattle.std.specs.Prelude.{◌≡◌, ℕ, List, [], ◌⊎◌}
+use Rattle.std.specs.Prelude.{◌≡◌, ℕ, [], ◌⊎◌}
 use Rattle.pw_outside.specs.Writing.{SinkState, Puts, PutsFront}
 use Rattle.run_look.specs.declared.end.LookEnd.{LookEnd}
 use Rattle.run_look.specs.declared.end.LookEnd.TheVariants as ends

@@ -1,5 +1,5 @@
 -- What `encode` answers. Our own definitions.
-use Rattle.std.specs.Prelude.{◌≡◌, ℕ, ◌⊎◌, true, None, Result, Ok, Err}
+use Rattle.std.specs.Prelude.{◌≡◌, ◌⊎◌, true, None, Result, Ok, Err}
 use Rattle.pw_outside.specs.Reading.{Fault}
 use Rattle.pic_y4m.specs.declared.head.Head.{Head}
 use Rattle.pic_y4m.specs.declared.fault.PictureKind.{PictureKind}

@@ -1,5 +1,5 @@
 -- The options of the command line: their names and their values; and the numbers that stand as operands. Our own definitions.
-use Rattle.std.specs.Prelude.{◌≡◌, ℕ, ◌+◌, ◌-◌, ◌*◌, ◌^◌, ◌<◌, ◌≤◌, ◌%◌, ◌==◌, nat_lt, Bool, true, false, ◌&&◌, ◌||◌, is_some, is_none, List, take, drop, position, bytes_eq, codes, Option, None, Some, option_map, option_and_then, unwrap_or, IfSome, if◌then◌else◌}
+use Rattle.std.specs.Prelude.{◌≡◌, ℕ, ◌+◌, ◌-◌, ◌^◌, ◌<◌, ◌≤◌, ◌==◌, Bool, is_some, List, take, drop, position, bytes_eq, codes, Option, None, Some, option_map, option_and_then, IfSome, if◌then◌else◌}
 use Rattle.pw_planes.specs.declared.plane.TheConstants.{MAX_WIDTH, MAX_HEIGHT}
 use Rattle.pw_planes.specs.declared.kinds.Chroma.{Chroma}
 use Rattle.pw_planes.specs.declared.kinds.Chroma.TheVariants.{C422, C444}
@@ -11,7 +11,7 @@ use Rattle.pw_planes.specs.declared.kinds.Interlace.{Interlace}
 use Rattle.pw_planes.specs.declared.kinds.Interlace.TheVariants.{Progressive, TopFirst, BottomFirst}
 use Rattle.pic_y4m.specs.declared.head.Head.{Head}
 use Rattle.pic_y4m.specs.declared.head.TheConstants.{MAX_RATE_NUM, MAX_RATE_DEN}
-use Rattle.pic_y4m.specs.HeadLine.{IsHead, is_interlaced}
+use Rattle.pic_y4m.specs.HeadLine.{IsHead}
 use Rattle.pic_y4m.specs.Values.{number_within}
 use Rattle.pr_quant.specs.declared.weights.Matrix.{Matrix}
 use Rattle.pr_quant.specs.declared.weights.Matrix.TheVariants.{Flat, Steep}

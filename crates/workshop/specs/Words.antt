@@ -1,5 +1,5 @@
 -- The grammar of the command line: a table of commands, and the walk over the words. Our own definition.
-use Rattle.std.specs.Prelude.{◌≡◌, ℕ, ◌+◌, ◌*◌, ◌<◌, ◌≤◌, ◌^◌, ◌%◌, ◌==◌, nat_eq, nat_lt, Bool, true, false, not, ◌&&◌, ◌||◌, is_some, is_none, List, [], ◌∷◌, ◌++◌, length, drop, find, slice_get, position, bytes_eq, Option, None, Some, unwrap_or, option_map, Result, Ok, Err, codes, String, string_bytes, map, IfSome, IfOk, if◌then◌else◌}
+use Rattle.std.specs.Prelude.{◌≡◌, ℕ, ◌+◌, ◌*◌, ◌^◌, ◌%◌, ◌==◌, nat_eq, nat_lt, Bool, true, false, not, ◌&&◌, ◌||◌, is_some, is_none, List, [], ◌∷◌, ◌++◌, length, drop, find, slice_get, bytes_eq, Option, None, Some, unwrap_or, option_map, Result, Ok, Err, codes, String, string_bytes, map, if◌then◌else◌}
 use Rattle.std.specs.List.{starts_with, list_any}
 use Rattle.pw_planes.specs.declared.kinds.Interlace.{Interlace}
 use Rattle.pw_planes.specs.declared.kinds.Interlace.TheVariants.{Progressive}

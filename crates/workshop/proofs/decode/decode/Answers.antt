@@ -1,4 +1,4 @@
-use Rattle.std.proofs.Common.{◌≡◌, sym, subst}
+use Rattle.std.proofs.Common.{sym, subst}
 use Rattle.pw_outside.specs.Reading.{bytes_of}
 use Rattle.qt_movie.specs.Movie.{movie_in}
 use Rattle.workshop.specs.Decoding.{CompletesDecode}

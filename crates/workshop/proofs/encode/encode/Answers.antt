@@ -1,4 +1,4 @@
-use Rattle.std.proofs.Common.{◌≡◌, sym, subst}
+use Rattle.std.proofs.Common.{sym, subst}
 use Rattle.pw_outside.specs.Reading.{bytes_of}
 use Rattle.pic_raw.specs.Any.{pictures_of}
 use Rattle.workshop.specs.Encoding.{CompletesEncode}

@@ -1,4 +1,4 @@
-use Rattle.std.proofs.Common.{◌≡◌, refl, subst}
+use Rattle.std.proofs.Common.{refl, subst}
 use Rattle.pw_outside.specs.Reading.{bytes_of}
 use Rattle.pic_raw.specs.Any.{pictures_of}
 use Rattle.workshop.specs.Encoding.{CompletesEncode}
@@ -15,7 +15,7 @@ use Rattle.rate_table.specs.Reading.{tabled}
 use Rattle.workshop.proofs.top.workshop.Goals as goal
 use Rattle.workshop.specs.Listing.{status_of}
 use Rattle.workshop.specs.Status.{AnswersUnlessOutside}
-use Rattle.workshop.proofs.Complete.{unfailed, is_run, add_reads, check_reads, reproof_completes, reproof_writes}
+use Rattle.workshop.proofs.Complete.{unfailed, is_run, add_reads, check_reads, reproof_completes}
 use Rattle.workshop.specs.declared.words.Task.TheVariants as task
 
 pub returns-in-Encode-clause-encode_complete : goal.returns-in-Encode-clause-encode_complete
