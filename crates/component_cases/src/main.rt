@@ -3,7 +3,7 @@
 //! bytes are printed. The cases and the answers that are compared with it are those of an independent reference.
 #![tactic(auto)]
 
-ghost use Rattle.std.specs.Prelude.{◌≤◌, ◌+◌, length};
+ghost use Rattle.std.specs.Prelude.{◌≤◌, ◌<◌, ◌+◌, length};
 ghost use Rattle.pr_coeff.specs.Component.{AreBlocks};
 
 use gate_words::{bytes_of, put_bytes};
