@@ -4,14 +4,14 @@ use Rattle.std.specs.Fmt.{decimal}
 use Rattle.std.specs.List.{flat_map, filter, prefix_len, sum_by}
 use Rattle.pw_outside.specs.Ports.{last}
 use Rattle.pw_planes.specs.declared.kinds.Depth.{Depth}
-use Rattle.pw_planes.specs.Samples.{bits_of}
+use Rattle.pw_planes.specs.Samples.{sample_bits}
 use Rattle.monitors.specs.declared.facts.PictureFacts.{PictureFacts}
 use Rattle.monitors.specs.declared.black.Run.{Run}
 use Rattle.monitors.specs.States.{State}
 
 -- the greatest luma of a black picture
 abbrev pub black_limit : Depth → ℕ
-black_limit depth = 2 ^ (bits_of depth - 4)
+black_limit depth = 2 ^ (sample_bits depth - 4)
 
 abbrev pub is_black : PictureFacts → Bool
 is_black f = nat_le f.greatest_luma (black_limit f.depth)

@@ -4,7 +4,7 @@ use Rattle.std.specs.Prelude.{slice_get, IsSome}
 use Rattle.std.specs.List.{flat_map}
 use Rattle.std.proofs.lemmas.List.{append-nil, nil_from_length, length-drop, take_all}
 use Rattle.pw_outside.specs.Reading.{bytes_of}
-use Rattle.pw_outside.specs.Writing.{SinkState, Puts, PutsFront}
+use Rattle.pw_outside.specs.Writing.{SinkState, Puts, PutsFront, Extends}
 use Rattle.pw_outside.proofs.Puts.{puts_then, then_front, front_more}
 use Rattle.qt_tables.specs.declared.chunk_tables.Chunk.{Chunk}
 use Rattle.qt_tables.specs.Samples as track
@@ -12,7 +12,7 @@ use Rattle.qt_tables.specs.declared.fault.MovieKind.TheVariants.{SampleOutside}
 use Rattle.pcm_track.specs.declared.end.SoundEnd.{SoundEnd}
 use Rattle.pcm_track.specs.declared.end.SoundEnd.TheVariants as ends
 use Rattle.pcm_track.specs.Wav.{sound_size}
-use Rattle.pcm_track.specs.Ends.{AnswersUnlessOutside, is_done, Extends}
+use Rattle.pcm_track.specs.Ends.{AnswersUnlessOutside, is_done}
 use Rattle.pcm_track.specs.Sounding.{chunk_bytes, chunk_end, chunks_end}
 use Rattle.pcm_track.specs.Writing.{Copied, CopiedFront, told_from}
 use Rattle.pcm_track.proofs.HeldFrames.{told}

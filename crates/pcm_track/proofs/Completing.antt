@@ -1,10 +1,10 @@
 -- Where no port failed, the answer is the defined one, or memory ran out.
 use Rattle.std.proofs.Common.{◌≡◌, refl, inl, inr, ℕ, Bool, true, false, subst}
 use Rattle.std.specs.Prelude.{◌⊎◌}
-use Rattle.pw_outside.specs.Ports.{Rose, CountsFault}
+use Rattle.pw_outside.specs.Ports.{Rose, CountsFault, CountsFaults}
 use Rattle.pcm_track.specs.declared.end.SoundEnd.{SoundEnd}
 use Rattle.pcm_track.specs.declared.end.SoundEnd.TheVariants as ends
-use Rattle.pcm_track.specs.Ends.{AnswersUnlessOutside, Completes, CountsFaults, is_read_fault, is_write_fault}
+use Rattle.pcm_track.specs.Ends.{AnswersUnlessOutside, Completes, is_read_fault, is_write_fault}
 
 -- a port that didn't fail
 pub none-failed : (before now : ℕ) (failed : Bool) → CountsFault before now failed → (Rose before now → ⊥) → failed ≡ true → ⊥

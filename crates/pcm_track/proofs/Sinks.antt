@@ -2,11 +2,11 @@
 use Rattle.std.proofs.Common.{◌≡◌, ℕ, ◌≤◌, false, List, [], take, subst}
 use Rattle.std.proofs.lemmas.List.{append-nil}
 use Rattle.pw_outside.specs.Ports.{last}
-use Rattle.pw_outside.specs.Writing.{SinkState, Puts, PutsFront}
+use Rattle.pw_outside.specs.Writing.{SinkState, Puts, PutsFront, Extends}
 use Rattle.pw_outside.proofs.Puts.{puts_none, puts_then, puts_front}
 use Rattle.pcm_track.specs.declared.end.SoundEnd.TheVariants as ends
 use Rattle.pcm_track.specs.declared.end.SoundEnd.{SoundEnd}
-use Rattle.pcm_track.specs.Ends.{PutsUntil, Extends, is_done, AnswersUnlessOutside}
+use Rattle.pcm_track.specs.Ends.{PutsUntil, is_done, AnswersUnlessOutside}
 
 -- nothing was appended
 pub none_front : (a : SinkState) (bytes : List ℕ) → a.taken ≤ last → PutsFront a a bytes

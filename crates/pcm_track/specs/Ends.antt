@@ -44,14 +44,3 @@ pub record Outcome : Type 0 where
 abbrev pub PutsUntil : SoundEnd → List ℕ → SinkState → SinkState → Type 0
 PutsUntil ends.Done bytes before after = Puts before after bytes
 PutsUntil _ bytes before after = PutsFront before after bytes
-
--- What was held has grown at its end, and as many bytes were taken.
-abbrev pub Extends : SinkState → SinkState → Type 0
-Extends before after = (bytes : List ℕ) × Puts before after bytes
-
--- The counts of faults of two ports never fall. One of them has risen where the call failed, and else both are as they were.
-pub record CountsFaults (before now before' now' : ℕ) (failed : Bool) : Type 0 where
-  pub later : before ≤ now
-  pub later' : before' ≤ now'
-  pub rose : OnTrue failed (Rose before now ⊎ Rose before' now')
-  pub kept : OnFalse failed ((now ≡ before) × (now' ≡ before'))

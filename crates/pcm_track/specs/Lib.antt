@@ -5,4 +5,4 @@ pub mod Writing
 pub mod Ends
 pub mod Sounding
 pub mod Adding
-pub mod Stops
+pub mod inner

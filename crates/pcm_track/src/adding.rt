@@ -3,13 +3,13 @@
 ghost use Rattle.std.specs.Prelude.{◌+◌, ◌≡◌, ◌≤◌, ◌<◌, ◌^◌, ◌++◌, length, sum_by, OnOk, OnErr, IfOk, IfErr, IsSome, Ok, false};
 ghost use Rattle.std.specs.Bool.{OnTrue};
 ghost use Rattle.std.specs.List.{All};
-ghost use Rattle.pw_outside.specs.Ports.{Rose, CountsFault};
+ghost use Rattle.pw_outside.specs.Ports.{Rose, CountsFault, CountsFaults};
 ghost use Rattle.pw_outside.specs.Reading.{Rest, Told, rest_of};
-ghost use Rattle.pw_outside.specs.Writing.{sink_state, Puts, PutsFront};
+ghost use Rattle.pw_outside.specs.Writing.{sink_state, Puts, PutsFront, Extends};
 ghost use Rattle.qt_tables.specs.Tables.{AreTables};
 ghost use Rattle.qt_movie.specs.MovieBytes.{ftyp_bytes, frame_head_bytes};
 ghost use Rattle.pcm_track.specs.declared.end.SoundEnd.TheVariants as ends;
-ghost use Rattle.pcm_track.specs.Ends.{is_done, is_read_fault, is_write_fault, AnswersUnlessOutside, Completes, PutsUntil, Extends, CountsFaults, end_of};
+ghost use Rattle.pcm_track.specs.Ends.{is_done, is_read_fault, is_write_fault, AnswersUnlessOutside, Completes, PutsUntil, end_of};
 ghost use Rattle.pcm_track.specs.Wav.{sound_size, passed_over, IsPcm};
 ghost use Rattle.pcm_track.specs.Writing.{PutsSome, PutsSomeFront, told_from, BothTold};
 ghost use Rattle.pcm_track.specs.Adding.{added, data_atom, data_atoms, part_bytes, part_frames, behind_picture, behind_sound, behind_part, parts_end, parts_in, two_tracks_bytes, added_line, Stops, IsAtomOf, IsNear, IsPartNear};

@@ -5,7 +5,7 @@ ghost use Rattle.pw_outside.specs.Ports.{CountsFault};
 ghost use Rattle.pw_outside.specs.Reading.{Told};
 ghost use Rattle.pw_outside.specs.Writing.{sink_state};
 ghost use Rattle.pcm_track.specs.Writing.{Copied, CopiedFront, told_from};
-ghost use Rattle.pcm_track.specs.Stops.{is_stopped_by_store, is_stopped_by_sink, is_short};
+ghost use Rattle.pcm_track.specs.inner.Stops.{is_stopped_by_store, is_stopped_by_sink, is_short};
 
 use pw_outside::{ByteSink, ByteStore, fill_at, put_all};
 

@@ -20,10 +20,13 @@ pub struct Pcm {
     pub frames: u32,
 }
 
-/// A chunk that was read: a format, one that is passed over, or the head of the sound.
+/// A chunk of a WAV that was read.
 #[derive(Clone, Copy, Debug, PartialEq, Eq)]
-pub(crate) enum Met {
+pub enum Met {
+    /// A format.
     Format(Format),
+    /// A chunk that is passed over.
     Other,
+    /// The head of the sound.
     Data(Pcm),
 }

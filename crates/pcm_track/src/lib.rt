@@ -18,6 +18,7 @@ mod wav;
 pub use adding::add_run;
 pub use end::SoundEnd;
 pub use fault::{CopyFault, SoundFault, SoundKind};
-pub use form::{Format, Pcm};
+pub use form::{Format, Met, Pcm};
+pub use parts::Part;
 pub use reader::WavReader;
 pub use sounding::sound_run;

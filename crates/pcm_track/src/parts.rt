@@ -14,7 +14,7 @@ use std::alloc::{AllocError, Global};
 
 /// What a data atom of the movie that is written holds.
 #[derive(Clone, Copy, Debug, PartialEq, Eq)]
-pub(crate) enum Part {
+pub enum Part {
     /// A sample of pictures of the movie that is read.
     Picture(Sample),
     /// So many frames of sound, at least 1.

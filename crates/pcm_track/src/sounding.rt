@@ -3,13 +3,13 @@
 ghost use Rattle.std.specs.Prelude.{◌≡◌, ◌+◌, ◌≤◌, ◌^◌, ◌++◌, length, OnOk, OnErr, IfOk, IfErr, is_err, map, [], Some, false};
 ghost use Rattle.std.specs.Bool.{OnTrue};
 ghost use Rattle.std.specs.List.{flat_map};
-ghost use Rattle.pw_outside.specs.Ports.{Rose, CountsFault};
+ghost use Rattle.pw_outside.specs.Ports.{Rose, CountsFault, CountsFaults};
 ghost use Rattle.pw_outside.specs.Reading.{Told};
-ghost use Rattle.pw_outside.specs.Writing.{sink_state, Puts, PutsFront};
+ghost use Rattle.pw_outside.specs.Writing.{sink_state, Puts, PutsFront, Extends};
 ghost use Rattle.qt_tables.specs.Samples.{chunks, held_by};
 ghost use Rattle.qt_tables.specs.Tables.{AreChunkLists};
 ghost use Rattle.pcm_track.specs.declared.end.SoundEnd.TheVariants as ends;
-ghost use Rattle.pcm_track.specs.Ends.{is_done, is_read_fault, is_write_fault, AnswersUnlessOutside, Completes, PutsUntil, Extends, CountsFaults, end_of};
+ghost use Rattle.pcm_track.specs.Ends.{is_done, is_read_fault, is_write_fault, AnswersUnlessOutside, Completes, PutsUntil, end_of};
 ghost use Rattle.pcm_track.specs.Wav.{sound_size, IsFormat};
 ghost use Rattle.pcm_track.specs.Writing.{wav_head, sound_line, Copied, CopiedFront, told_from};
 ghost use Rattle.pcm_track.specs.Sounding.{sounded, chunk_bytes, chunk_end, chunks_end};

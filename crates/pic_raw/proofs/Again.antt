@@ -8,7 +8,7 @@ use Rattle.pw_outside.specs.Reading.{bind}
 use Rattle.pw_planes.specs.declared.kinds.AlphaKind.{AlphaKind}
 use Rattle.pw_planes.specs.declared.picture.Picture.{Picture}
 use Rattle.pw_planes.specs.Plane.{Raster, IsPlane, IsSized}
-use Rattle.pw_planes.specs.Samples.{bits_of, chroma_width}
+use Rattle.pw_planes.specs.Samples.{sample_bits, chroma_width}
 use Rattle.pic_y4m.specs.declared.head.Head.{Head}
 use Rattle.pic_y4m.specs.declared.head.TheConstants.{MAX_FRAMES}
 use Rattle.pic_y4m.specs.declared.samples.SampleSize.TheVariants.{Pair}
@@ -68,7 +68,7 @@ behind-again : (h : Head) (p : Picture) (rest : List ℕ) (first place end : ℕ
 unfolding picture_behind bind
 behind-again h p rest first place end w behind =
     let f = w.picture.form in
-    let limit = 2 ^ bits_of h.depth in
+    let limit = 2 ^ sample_bits h.depth in
     let cr_at = place + length (plane_bytes Pair p.cb.samples) in
     let alpha_place = cr_at + length (plane_bytes Pair p.cr.samples) in
     let cb = plane-again Pair p.cb.samples (plane_bytes Pair p.cr.samples ++ (alpha_bytes p.alpha ++ rest)) (chroma_count h) place (chroma-many h p p.cb w.cb f.chroma f.size.cb) in

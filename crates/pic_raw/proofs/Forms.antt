@@ -10,7 +10,7 @@ use Rattle.pw_planes.specs.declared.kinds.AlphaKind.{AlphaKind}
 use Rattle.pw_planes.specs.declared.kinds.AlphaKind.TheVariants.{Absent}
 use Rattle.pw_planes.specs.declared.picture.Picture.{Picture}
 use Rattle.pw_planes.specs.Plane.{IsSized}
-use Rattle.pw_planes.specs.Samples.{bits_of}
+use Rattle.pw_planes.specs.Samples.{sample_bits}
 use Rattle.pic_y4m.specs.declared.fault.PictureKind.{PictureKind}
 use Rattle.pic_y4m.specs.declared.fault.PictureKind.TheVariants as kinds
 use Rattle.pic_y4m.specs.declared.head.Head.{Head}
@@ -84,7 +84,7 @@ behind-form h place y s after p e =
     let r3 = bind-ok _ _ r2.2 in
     let r4 = bind-ok _ _ r3.2 in
     let same : picture_of h y cb.0.0 cr.0.0 alpha.0.0 ≡ p = ok-first r4.2 in
-    let limit = 2 ^ bits_of h.depth in
+    let limit = 2 ^ sample_bits h.depth in
     subst (IsPicture h) same (picture_form h y cb.0.0 cr.0.0 alpha.0.0 (alpha-there (has_alpha h.alpha) _ _ _ alpha.0.0 alpha.1)
     (passed-below Pair limit y _ r1.1) (passed-below Pair limit cb.0.0 _ r2.1) (passed-below Pair limit cr.0.0 _ r3.1) (alpha-below h.alpha alpha.0.0 _ r4.1))
 

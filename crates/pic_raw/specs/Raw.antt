@@ -8,7 +8,7 @@ use Rattle.pw_planes.specs.declared.kinds.AlphaKind.{AlphaKind}
 use Rattle.pw_planes.specs.declared.kinds.AlphaKind.TheVariants.{Absent, Eight, Sixteen}
 use Rattle.pw_planes.specs.declared.picture.Picture.{Picture}
 use Rattle.pw_planes.specs.Plane.{Raster}
-use Rattle.pw_planes.specs.Samples.{bits_of, chroma_width}
+use Rattle.pw_planes.specs.Samples.{sample_bits, chroma_width}
 use Rattle.pic_y4m.specs.declared.fault.PictureKind.{PictureKind}
 use Rattle.pic_y4m.specs.declared.fault.PictureKind.TheVariants as kinds
 use Rattle.pic_y4m.specs.declared.head.Head.{Head}
@@ -66,9 +66,9 @@ picture_behind h place y s = do
   cb ← samples_at Pair (chroma_count h) s
   cr ← samples_at Pair (chroma_count h) cb.1
   alpha ← alpha_at (has_alpha h.alpha) (luma_count h) cr.1
-  _ ← in_range Pair (2 ^ bits_of h.depth) y place
-  _ ← in_range Pair (2 ^ bits_of h.depth) cb.0 s.place
-  _ ← in_range Pair (2 ^ bits_of h.depth) cr.0 cb.1.place
+  _ ← in_range Pair (2 ^ sample_bits h.depth) y place
+  _ ← in_range Pair (2 ^ sample_bits h.depth) cb.0 s.place
+  _ ← in_range Pair (2 ^ sample_bits h.depth) cr.0 cb.1.place
   _ ← alpha_in_range h.alpha alpha.0 cr.1.place
   Ok (picture_of h y cb.0 cr.0 alpha.0, alpha.1)
 

@@ -5,7 +5,7 @@ use Rattle.std.specs.Prelude.{codes}
 use Rattle.pw_outside.specs.Reading.{bind}
 use Rattle.pw_planes.specs.declared.picture.Picture.{Picture}
 use Rattle.pw_planes.specs.Plane.{Raster, IsPlane}
-use Rattle.pw_planes.specs.Samples.{bits_of, chroma_width}
+use Rattle.pw_planes.specs.Samples.{sample_bits, chroma_width}
 use Rattle.pic_y4m.specs.declared.fault.PictureKind.TheVariants as kinds
 use Rattle.pic_y4m.specs.declared.head.TheConstants.{MAX_FRAMES}
 use Rattle.pic_y4m.specs.declared.head_line.Stream.{Stream}
@@ -49,7 +49,7 @@ planes-again : (form : Stream) (p : Picture) (rest : List ℕ) (place end : ℕ)
 unfolding planes_at bind
 planes-again form p rest place end none w behind =
     let size = size_of form.head.depth in
-    let limit = 2 ^ bits_of form.head.depth in
+    let limit = 2 ^ sample_bits form.head.depth in
     let y = plane-again size p.y.samples (plane_bytes size p.cb.samples ++ (plane_bytes size p.cr.samples ++ rest)) (luma_count form) place (plane-count p.y form.head.width form.head.height w.luma w.form.size.luma.0 w.form.size.luma.1) in
     let cb = plane-again size p.cb.samples (plane_bytes size p.cr.samples ++ rest) (chroma_count form) (place + length (plane_bytes size p.y.samples)) (chroma-many form p p.cb none w.cb w.form.chroma w.form.size.cb.0 w.form.size.cb.1) in
     let cr = plane-again size p.cr.samples rest (chroma_count form) (place + length (plane_bytes size p.y.samples) + length (plane_bytes size p.cb.samples)) (chroma-many form p p.cr none w.cr w.form.chroma w.form.size.cr.0 w.form.size.cr.1) in

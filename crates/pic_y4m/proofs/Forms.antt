@@ -18,7 +18,7 @@ use Rattle.pic_y4m.specs.HeadLine.{stream_of, text_stream, stream_at}
 use Rattle.pic_y4m.specs.Frames.{HasForm, picture_of, planes_at, frame_behind, frame_at, State, Pictures, advanced, first_and, started, start_at, next_at, pictures_in, pictures_left, pictured}
 use Rattle.pic_y4m.specs.declared.samples.SampleSize.{SampleSize}
 use Rattle.pic_y4m.specs.Samples.{size_of, in_range, is_past}
-use Rattle.pw_planes.specs.Samples.{bits_of}
+use Rattle.pw_planes.specs.Samples.{sample_bits}
 use Rattle.pic_y4m.proofs.Chain.{answer, bind-ok, refuse-ok, ok-same, ok-first, some-same, none-some}
 use Rattle.pic_y4m.proofs.Planes.{picture_form}
 
@@ -44,7 +44,7 @@ planes-form form s after p alpha e =
     let r2 = bind-ok _ _ r1.2 in
     let r3 = bind-ok _ _ r2.2 in
     let same : picture_of form y.0.0 cb.0.0 cr.0.0 ≡ p = ok-first r3.2 in
-    subst (HasForm form.head) same (picture_form form y.0.0 cb.0.0 cr.0.0 alpha (passed-below (size_of form.head.depth) (2 ^ bits_of form.head.depth) y.0.0 _ r1.1) (passed-below (size_of form.head.depth) (2 ^ bits_of form.head.depth) cb.0.0 _ r2.1) (passed-below (size_of form.head.depth) (2 ^ bits_of form.head.depth) cr.0.0 _ r3.1))
+    subst (HasForm form.head) same (picture_form form y.0.0 cb.0.0 cr.0.0 alpha (passed-below (size_of form.head.depth) (2 ^ sample_bits form.head.depth) y.0.0 _ r1.1) (passed-below (size_of form.head.depth) (2 ^ sample_bits form.head.depth) cb.0.0 _ r2.1) (passed-below (size_of form.head.depth) (2 ^ sample_bits form.head.depth) cr.0.0 _ r3.1))
 
 frame-form : (form : Stream) (s after : Rest) (p : Picture) → form.head.alpha ≡ Absent → frame_at form s ≡ Ok (Some p, after) → HasForm form.head p
 unfolding frame_at

@@ -16,7 +16,7 @@ use Rattle.std.proofs.lemmas.List.{get_or_past}
 use Rattle.pw_planes.specs.declared.kinds.AlphaKind.TheVariants.{Absent}
 use Rattle.pw_planes.specs.declared.kinds.Depth.TheVariants.{D8, D10, D12}
 use Rattle.pw_planes.proofs.RowLemmas.{All-raster}
-use Rattle.pw_planes.specs.Samples.{bits_of, chroma_width}
+use Rattle.pw_planes.specs.Samples.{sample_bits, chroma_width}
 use Rattle.pic_y4m.specs.declared.head_line.Stream.{Stream}
 use Rattle.pic_y4m.specs.declared.fault.PictureKind.TheVariants as kinds
 use Rattle.pic_y4m.specs.declared.samples.SampleSize.{SampleSize}
@@ -119,21 +119,21 @@ module _ {X : Type 0} (view : X → List ℕ) (size : SampleSize) (count : ℕ) 
       told None h = tt
       told (Some f) h = fault-samples size count (rest_of before old) h
 
-some-values : (depth : Depth) → 0 < 2 ^ bits_of depth
+some-values : (depth : Depth) → 0 < 2 ^ sample_bits depth
 some-values D8 = lit< tt
 some-values D10 = lit< tt
 some-values D12 = lit< tt
 
-pub below-limit : (depth : Depth) (limit : ℕ) (xs ys : List ℕ) → limit ≡ 2 ^ bits_of depth → xs ≡ ys → All (λ s. s < limit) xs → AreBelow depth ys
+pub below-limit : (depth : Depth) (limit : ℕ) (xs ys : List ℕ) → limit ≡ 2 ^ sample_bits depth → xs ≡ ys → All (λ s. s < limit) xs → AreBelow depth ys
 below-limit depth limit xs ys e f h = subst (λ n. All (λ s. s < n) ys) e (subst (λ v. All (λ s. s < limit) v) f h)
 
-below-at : (depth : Depth) (samples : List ℕ) (k : ℕ) → AreBelow depth samples → get_or samples k 0 < 2 ^ bits_of depth
+below-at : (depth : Depth) (samples : List ℕ) (k : ℕ) → AreBelow depth samples → get_or samples k 0 < 2 ^ sample_bits depth
 below-at depth samples k below = ⊎_elim (λ lt. below k 0 lt) (λ ge. rw (get_or_past samples k 0 ge) (some-values depth)) (cases_lt k (length samples))
 
 chroma-below : (shares : Bool) (width height : ℕ) (depth : Depth) (stored : List ℕ) → AreBelow depth stored → AreBelow depth (chroma_samples shares width height stored)
 chroma-below false width height depth stored below = below
 chroma-below true width height depth stored below =
-    All-raster (λ s. s < 2 ^ bits_of depth) width height (λ column row. get_or stored (row / 2 * width + column) 0) (λ column row a b. below-at depth stored (row / 2 * width + column) below)
+    All-raster (λ s. s < 2 ^ sample_bits depth) width height (λ column row. get_or stored (row / 2 * width + column) 0) (λ column row a b. below-at depth stored (row / 2 * width + column) below)
 
 -- the picture of planes whose samples are below 2 to the depth has the form
 pub picture_form : (form : Stream) (y cb cr : List ℕ) → form.head.alpha ≡ Absent → AreBelow form.head.depth y → AreBelow form.head.depth cb → AreBelow form.head.depth cr

@@ -9,7 +9,7 @@ use Rattle.pw_planes.specs.declared.picture.Picture.{Picture}
 use Rattle.pw_planes.specs.Picture.{HasSize}
 use Rattle.pw_planes.specs.Plane.{Raster}
 use Rattle.pw_planes.specs.Rows.{raster}
-use Rattle.pw_planes.specs.Samples.{bits_of, chroma_width}
+use Rattle.pw_planes.specs.Samples.{sample_bits, chroma_width}
 use Rattle.pic_y4m.specs.declared.fault.PictureKind.{PictureKind}
 use Rattle.pic_y4m.specs.declared.fault.PictureKind.TheVariants as kinds
 use Rattle.pic_y4m.specs.declared.head.Head.{Head}
@@ -56,9 +56,9 @@ planes_at form s = do
   y ← samples_at (size_of form.head.depth) (luma_count form) s
   cb ← samples_at (size_of form.head.depth) (chroma_count form) y.1
   cr ← samples_at (size_of form.head.depth) (chroma_count form) cb.1
-  _ ← in_range (size_of form.head.depth) (2 ^ bits_of form.head.depth) y.0 s.place
-  _ ← in_range (size_of form.head.depth) (2 ^ bits_of form.head.depth) cb.0 y.1.place
-  _ ← in_range (size_of form.head.depth) (2 ^ bits_of form.head.depth) cr.0 cb.1.place
+  _ ← in_range (size_of form.head.depth) (2 ^ sample_bits form.head.depth) y.0 s.place
+  _ ← in_range (size_of form.head.depth) (2 ^ sample_bits form.head.depth) cb.0 y.1.place
+  _ ← in_range (size_of form.head.depth) (2 ^ sample_bits form.head.depth) cr.0 cb.1.place
   Ok (picture_of form y.0 cb.0 cr.0, cr.1)
 
 -- a line begins with the word FRAME
@@ -88,7 +88,7 @@ has_alpha Sixteen = true
 
 -- each sample is below 2 to the depth
 abbrev pub AreBelow : Depth → List ℕ → Type 0
-AreBelow depth samples = All (λ s. s < 2 ^ bits_of depth) samples
+AreBelow depth samples = All (λ s. s < 2 ^ sample_bits depth) samples
 
 -- a picture of a form: its planes have the sizes, and its samples are below 2 to the depth
 pub record HasForm (h : Head) (p : Picture) : Type 0 where

@@ -6,7 +6,7 @@ ghost use Rattle.std.specs.List.{All};
 ghost use Rattle.std.specs.Option.{IfNone, option_map};
 ghost use Rattle.pw_outside.specs.Ports.{CountsFault, GoesOn};
 ghost use Rattle.pw_outside.specs.Reading.{Answers, Gives};
-ghost use Rattle.pw_planes.specs.Samples.{bits_of};
+ghost use Rattle.pw_planes.specs.Samples.{sample_bits};
 ghost use Rattle.pic_y4m.specs.declared.samples.SampleSize.TheVariants.{Byte, Pair};
 ghost use Rattle.pic_y4m.specs.Faults.{told_fault, is_failed};
 ghost use Rattle.pic_y4m.specs.Samples.{size_of, sample_bytes, samples_in, samples_at, some_samples_at, in_range, is_past};
@@ -167,7 +167,7 @@ fn past_of(samples: &[u16], limit: u32) -> Option<usize>
 
 /// One more than the largest sample of a depth.
 pub fn limit_of(depth: Depth) -> u32
-    ensures { result ≡ 2 ^ bits_of depth }
+    ensures { result ≡ 2 ^ sample_bits depth }
 {
     match depth {
         Depth::D8 => 256,

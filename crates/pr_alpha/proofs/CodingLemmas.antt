@@ -10,7 +10,7 @@ use Rattle.pw_bits.specs.Writing.{Written, Writes, Begins}
 use Rattle.pw_bits.proofs.BitsLemmas.{length-left_mod}
 use Rattle.pw_bits.proofs.WritingLemmas.{Begins-first, Begins-second}
 use Rattle.pr_alpha.specs.Alpha.{Same, joined, rows, row_words, rows_words, spelling, greatest}
-use Rattle.pr_alpha.specs.Writing.{words_behind, Codes}
+use Rattle.pr_alpha.specs.inner.Writing.{words_behind, Codes}
 use Rattle.pr_alpha.specs.declared.write.Coding.{Coding}
 
 -- the row whose words are still to be written

@@ -1,4 +1,4 @@
 pub mod Alpha
 pub mod Reading
-pub mod Writing
 pub mod Calls
+pub mod inner

@@ -6,7 +6,7 @@ ghost use Rattle.pw_outside.specs.Writing.{sink_state, Puts, PutsFront};
 ghost use Rattle.pw_bits.specs.Bits.{bits_of};
 ghost use Rattle.pw_bits.specs.Writing.{written, Writes, Begins};
 ghost use Rattle.pr_alpha.specs.Alpha.{is_width, difference_word, difference_of, run_word, run_of, row_words, alpha, AreBelow};
-ghost use Rattle.pr_alpha.specs.Writing.{words_behind, Codes};
+ghost use Rattle.pr_alpha.specs.inner.Writing.{words_behind, Codes};
 
 use crate::width::{greatest_value, size_of_short};
 use pw_bits::BitWriter;

@@ -19,7 +19,7 @@ use Rattle.pr_coeff.proofs.WovenLemmas.{length-column, column-at, AllSmall_at}
 use Rattle.std.proofs.lemmas.List.{take_more, drop_more, take-append-drop}
 use Rattle.pr_coeff.specs.declared.write.Coding.{Coding}
 use Rattle.pr_coeff.specs.declared.write.Differences.{Differences}
-use Rattle.pr_coeff.specs.Writing.{triple_words, Codes, CodesDc}
+use Rattle.pr_coeff.specs.inner.Writing.{triple_words, Codes, CodesDc}
 use Rattle.pw_outside.specs.Writing.{sink_state, Puts, PutsFront}
 
 -- ---- a run, a level and a sign

@@ -3,7 +3,7 @@ use Rattle.std.proofs.Common.{◌≡◌, ℕ, suc, ◌+◌, ◌-◌, ◌<◌, Li
 use Rattle.pr_coeff.specs.Component.{is_negative}
 use Rattle.pr_coeff.specs.Lengths.{run_class, run_bits, level_class, level_bits}
 use Rattle.pr_coeff.specs.Known.{Known, KnownAtFirst, KnownBehindZero, KnownBehindValue, KnownAtLast}
-use Rattle.pr_coeff.specs.Writing.{triple_words, Codes}
+use Rattle.pr_coeff.specs.inner.Writing.{triple_words, Codes}
 use Rattle.pr_coeff.specs.declared.write.Coding.{Coding}
 use Rattle.pr_coeff.proofs.LengthLemmas.{triple_bits, first_classes}
 use Rattle.pr_coeff.proofs.CodingLemmas.{Codes-zero, Codes-triple, Codes-Codes, Codes-all, signed_parts}

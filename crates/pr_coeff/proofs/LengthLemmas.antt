@@ -8,7 +8,7 @@ use Rattle.pr_codes.specs.declared.book.Codebook.{Codebook}
 use Rattle.pr_codes.specs.Words.{word, is_book}
 use Rattle.pr_codes.proofs.WordsLemmas.{length-word-le}
 use Rattle.pr_coeff.specs.Component.{run_book, level_book, spelling, component, all_dc_words, ac_words, column, listed}
-use Rattle.pr_coeff.specs.Writing.{triple_words}
+use Rattle.pr_coeff.specs.inner.Writing.{triple_words}
 use Rattle.pr_coeff.proofs.CostLemmas.{length-bits, small_exp}
 use Rattle.pr_coeff.specs.Known.{ComponentHasBytes}
 use Rattle.pr_coeff.specs.Lengths.{run_class, run_in, run_bits, run_row, level_class, level_in, level_bits, level_row, ClassesNameBooks}

@@ -6,8 +6,7 @@
 #![tactic(auto)]
 
 ghost use Rattle.std.specs.Prelude.{◌≡◌, IsTrue, map, ◌+◌, ◌*◌, ◌^◌, ◌<◌, ◌≤◌, ℕ, ℤ, pos, ◌*ℤ◌, ◌+ℤ◌, get_or, nat_abs};
-ghost use Rattle.pr_dct.specs.Transform.{total, AreWithin, rounded, coefficients, samples};
-ghost use Rattle.pr_dct.specs.Passes.{flat};
+ghost use Rattle.pr_dct.specs.Transform.{total, AreWithin, rounded, coefficients, samples, flat};
 
 mod by_rows;
 mod halves;

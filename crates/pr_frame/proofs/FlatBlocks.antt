@@ -4,8 +4,7 @@ use Rattle.std.proofs.lemmas.Int.{ints}
 use Rattle.std.proofs.lemmas.List.FromFn.{get_or-map-range_with_len}
 use Rattle.pw_planes.specs.declared.kinds.Depth.{Depth}
 use Rattle.pr_quant.specs.Quantised.{scale_of, dequantised, clipped}
-use Rattle.pr_dct.specs.Transform.{rounded}
-use Rattle.pr_dct.specs.Passes.{flat}
+use Rattle.pr_dct.specs.Transform.{rounded, flat}
 use Rattle.pr_dct.specs.Shown as clipping
 use Rattle.pr_dct.proofs.HalfLemmas.{flat_samples}
 use Rattle.pr_coeff.specs.Component.{Block}

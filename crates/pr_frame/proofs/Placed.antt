@@ -10,7 +10,7 @@ use Rattle.pw_planes.proofs.PlaneLemmas.{sample_with_block, sample_numbered}
 use Rattle.pr_geom.specs.Blocks.{EachOnce}
 use Rattle.pr_geom.specs.declared.places.SlicePlace.{SlicePlace}
 use Rattle.pr_frame.specs.Shown.{Placed, has, sample_among, plane_of, placed}
-use Rattle.pr_frame.specs.Placing.{with_placed, IsInSlice}
+use Rattle.pr_frame.specs.inner.Placing.{with_placed, IsInSlice}
 
 pub no_block : Placed
 no_block = record { corner = (0, 0); samples = [] }

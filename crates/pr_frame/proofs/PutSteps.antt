@@ -19,7 +19,7 @@ use Rattle.pr_frame.specs.declared.coded.CodedPicture.{CodedPicture}
 use Rattle.pr_frame.specs.declared.coded.CodedFrame.{CodedFrame}
 use Rattle.pr_frame.proofs.SliceLoop.{sum-front}
 use Rattle.pr_frame.specs.Forms.{has_alpha}
-use Rattle.pr_frame.specs.Written.{component_bytes, alpha_bytes, slice_header_of, slice_bytes, slice_length, picture_length, picture_bytes, frame_length_of, written}
+use Rattle.pr_frame.specs.Written.{component_bytes, alpha_bytes, slice_header_of, slice_bytes, slice_length, picture_length, picture_bytes, frame_length_of, coded_bytes}
 
 pub on-ok : {X E P Q : Type 0} (r : Result X E) → (P → Q) → OnOk r P → OnOk r Q
 on-ok (Ok x) f p = f p
@@ -125,17 +125,17 @@ module _ (f : CodedSlice → ℕ) (xs : List CodedSlice) (i : ℕ) where
 -- ---- a frame
 
 module _ (f : CodedFrame) (size : ℕ) (pictures : List CodedPicture) (size_is : size ≡ frame_length_of f) (pictures_is : pictures ≡ f.pictures) where
-  pub frame-whole : frame_header_bytes f.header size ++ flat_map (picture_bytes f.header.interlace f.header.alpha) pictures ≡ written f
-  unfolding written
+  pub frame-whole : frame_header_bytes f.header size ++ flat_map (picture_bytes f.header.interlace f.header.alpha) pictures ≡ coded_bytes f
+  unfolding coded_bytes
   frame-whole = λ j. frame_header_bytes f.header (size_is j) ++ flat_map (picture_bytes f.header.interlace f.header.alpha) (pictures_is j)
 
-  pub frame-puts : {a b c : SinkState} → Puts a b (frame_header_bytes f.header size) → Puts b c (flat_map (picture_bytes f.header.interlace f.header.alpha) pictures) → Puts a c (written f)
+  pub frame-puts : {a b c : SinkState} → Puts a b (frame_header_bytes f.header size) → Puts b c (flat_map (picture_bytes f.header.interlace f.header.alpha) pictures) → Puts a c (coded_bytes f)
   frame-puts {a} {b} {c} p q = subst (Puts a c) frame-whole (puts_then p q)
 
-  pub frame-head : {a b : SinkState} → PutsPart a b (frame_header_bytes f.header size) → PutsFront a b (written f)
+  pub frame-head : {a b : SinkState} → PutsPart a b (frame_header_bytes f.header size) → PutsFront a b (coded_bytes f)
   frame-head {a} {b} p = subst (PutsFront a b) frame-whole (front_more (flat_map (picture_bytes f.header.interlace f.header.alpha) pictures) (part_front p))
 
-  pub frame-pictures : {a b c : SinkState} → Puts a b (frame_header_bytes f.header size) → PutsFront b c (flat_map (picture_bytes f.header.interlace f.header.alpha) pictures) → PutsFront a c (written f)
+  pub frame-pictures : {a b c : SinkState} → Puts a b (frame_header_bytes f.header size) → PutsFront b c (flat_map (picture_bytes f.header.interlace f.header.alpha) pictures) → PutsFront a c (coded_bytes f)
   frame-pictures {a} {b} {c} p q = subst (PutsFront a c) frame-whole (then_front p q)
 
 pub err-any : {X E P : Type 0} (r : Result X E) → P → OnErr r P

@@ -25,7 +25,7 @@ use Rattle.pr_frame.specs.declared.coded.CodedFrame.{CodedFrame}
 use Rattle.pr_frame.specs.Forms.{scan_of, has_alpha, places_in, alpha_count, alpha_depth}
 use Rattle.pr_frame.specs.Coded.{IsCodedSlice, AreCodedSlices, IsCodedPicture, IsWritableBlock, IsWritableSlice, IsWritablePicture, HasArrays}
 use Rattle.pr_frame.specs.Ready.{IsReadyPart, IsReadyAlpha, IsReady, IsReadyPicture}
-use Rattle.pr_frame.specs.Written.{component_bytes, alpha_bytes, alpha_size, with_alpha_size, slice_header_of, slice_bytes, slice_length, slice_lengths, picture_length, picture_bytes, frame_length_of, written}
+use Rattle.pr_frame.specs.Written.{component_bytes, alpha_bytes, alpha_size, with_alpha_size, slice_header_of, slice_bytes, slice_length, slice_lengths, picture_length, picture_bytes, frame_length_of, coded_bytes}
 use Rattle.pr_frame.proofs.Counts.{HasBlocksOf, AllHave, places-have, count-places}
 use Rattle.pr_frame.proofs.Standing.{scan-is}
 use Rattle.pr_frame.proofs.SliceLoop.{sum-front}
@@ -97,11 +97,11 @@ pub frame-header-length : (h : FrameHeader) (size : ℕ) → HasArrays h → len
 unfolding frame_header_bytes
 frame-header-length h size is = simp length-append (omega (arith, is.encoder, is.luma, is.chroma_weights))
 
-written-is : (f : CodedFrame) → written f ≡ frame_header_bytes f.header (frame_length_of f) ++ flat_map (picture_bytes f.header.interlace f.header.alpha) f.pictures
-unfolding written
+written-is : (f : CodedFrame) → coded_bytes f ≡ frame_header_bytes f.header (frame_length_of f) ++ flat_map (picture_bytes f.header.interlace f.header.alpha) f.pictures
+unfolding coded_bytes
 written-is f = refl
 
-pub length-written : (f : CodedFrame) → HasArrays f.header → length (written f) ≡ frame_length_of f
+pub length-written : (f : CodedFrame) → HasArrays f.header → length (coded_bytes f) ≡ frame_length_of f
 length-written f is =
     let h = frame_header_bytes f.header (frame_length_of f) in
     let b = flat_map (picture_bytes f.header.interlace f.header.alpha) f.pictures in

@@ -25,7 +25,7 @@ use Rattle.pr_frame.specs.declared.showing.Shown.{Shown}
 use Rattle.pr_frame.specs.Coded.{IsCodedPicture}
 use Rattle.pr_frame.specs.Reading.{coded_picture_at, coded_pictures_at, frame_at, frame_fault}
 use Rattle.pr_frame.specs.Shown.{slice_indices, indices_of, least, greatest, height_of, part_plane, alpha_plane, woven, shown_plane, shown_alpha, shown, HasHeaderForm, IsShownBy}
-use Rattle.pr_frame.specs.Screen.{HasFieldSize, picture_alpha, picture_screen, woven_alpha, woven_screen, frame_screen, shown_with, IsPictureOf, ArePicturesOf, IsFrameOf, Finds}
+use Rattle.pr_frame.specs.inner.Screen.{HasFieldSize, picture_alpha, picture_screen, woven_alpha, woven_screen, frame_screen, shown_with, IsPictureOf, ArePicturesOf, IsFrameOf, Finds}
 use Rattle.pr_frame.proofs.Indices.{least_behind, greatest_behind}
 use Rattle.pr_frame.proofs.ShownForm.{plane_sized, shown_form}
 use Rattle.pr_frame.proofs.Answered.{fault-told}

@@ -24,8 +24,8 @@ use Rattle.pr_frame.specs.Forms.{places_in}
 use Rattle.pr_frame.specs.Coded.{IsCodedSlice, AreCodedSlices, IsCodedPicture}
 use Rattle.pr_frame.specs.Reading.{coded_slice_at, coded_slices_at}
 use Rattle.pr_frame.specs.Shown.{Placed, slice_indices, least, greatest, height_of, shown_part, shown_values, all_shown}
-use Rattle.pr_frame.specs.Placing.{with_placed}
-use Rattle.pr_frame.specs.Screen.{empty_plane, empty_alpha, empty_screen, with_values, with_slice, HasAlpha, picture_alpha, picture_screen, slices_alpha, slices_screen}
+use Rattle.pr_frame.specs.inner.Placing.{with_placed}
+use Rattle.pr_frame.specs.inner.Screen.{empty_plane, empty_alpha, empty_screen, with_values, with_slice, HasAlpha, picture_alpha, picture_screen, slices_alpha, slices_screen}
 use Rattle.pr_frame.proofs.Indices.{least_behind, greatest_behind}
 use Rattle.pr_frame.proofs.Placed.{placed_behind}
 use Rattle.pr_frame.proofs.ShownParts.{part_written, values_written}

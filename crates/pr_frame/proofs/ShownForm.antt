@@ -16,7 +16,7 @@ use Rattle.pw_planes.specs.declared.kinds.Depth.TheVariants.{D8, D10, D12}
 use Rattle.pw_planes.specs.declared.kinds.Interlace.{Interlace}
 use Rattle.pw_planes.specs.declared.kinds.Interlace.TheVariants.{Progressive, TopFirst, BottomFirst}
 use Rattle.pw_planes.specs.Plane.{Raster, IsPlane, IsSized, frame_of}
-use Rattle.pw_planes.specs.Samples.{bits_of, chroma_width}
+use Rattle.pw_planes.specs.Samples.{sample_bits, chroma_width}
 use Rattle.pw_planes.proofs.RowLemmas.{length-raster, All-raster}
 use Rattle.pw_planes.proofs.PlaneLemmas.{frame_small}
 use Rattle.pr_geom.specs.declared.places.Part.{Part}
@@ -40,15 +40,15 @@ use Rattle.pr_dct.specs.Transform.{samples}
 clip_below : (low high : ℕ) (u : ℤ) → low ≤ high → nat_abs (int_max (pos low) (int_min u (pos high))) ≤ high
 clip_below low high u h = omega (arith, ints, int_min_is u (pos high), int_max_is (pos low) (int_min u (pos high)))
 
-clipped_below : (depth : Depth) (a : ℤ) → nat_abs (clipping.shown depth a) < 2 ^ bits_of depth
+clipped_below : (depth : Depth) (a : ℤ) → nat_abs (clipping.shown depth a) < 2 ^ sample_bits depth
 clipped_below D8 a = omega (arith, clip_below 1 254 (clipping.unclipped D8 a) (omega arith))
 clipped_below D10 a = omega (arith, clip_below 4 1019 (clipping.unclipped D10 a) (omega arith))
 clipped_below D12 a = omega (arith, clip_below 16 4079 (clipping.unclipped D12 a) (omega arith))
 
-pub shown_below : (depth : Depth) (values : List ℤ) → All (λ s. s < 2 ^ bits_of depth) (samples_shown depth values)
-shown_below depth values = All-map (λ s. s < 2 ^ bits_of depth) (λ a. nat_abs (clipping.shown depth a)) values (λ k d h. clipped_below depth _)
+pub shown_below : (depth : Depth) (values : List ℤ) → All (λ s. s < 2 ^ sample_bits depth) (samples_shown depth values)
+shown_below depth values = All-map (λ s. s < 2 ^ sample_bits depth) (λ a. nat_abs (clipping.shown depth a)) values (λ k d h. clipped_below depth _)
 
-pub block_below : (depth : Depth) (weights : List ℕ) (index : ℕ) (block : List ℤ) → All (λ s. s < 2 ^ bits_of depth) (shown_block depth weights index block)
+pub block_below : (depth : Depth) (weights : List ℕ) (index : ℕ) (block : List ℤ) → All (λ s. s < 2 ^ sample_bits depth) (shown_block depth weights index block)
 unfolding shown_block
 block_below depth weights index block = shown_below depth (samples (products weights index block))
 
@@ -106,12 +106,12 @@ below_all limit h f each (p ∷ ps) (s ∷ ss) ok = below_behind limit (f p s) (
 some_power : (n : ℕ) → 0 < 2 ^ n
 some_power n = search rules
 
-part_below : (h : FrameHeader) (depth : Depth) (part : Part) (x : CodedPicture) → IsCodedPicture h x → All (λ s. s < 2 ^ bits_of depth) (part_plane h depth part x).samples
+part_below : (h : FrameHeader) (depth : Depth) (part : Part) (x : CodedPicture) → IsCodedPicture h x → All (λ s. s < 2 ^ sample_bits depth) (part_plane h depth part x).samples
 unfolding shown_part
 part_below h depth part x ok =
-    plane_below (2 ^ bits_of depth) _ _ _ (some_power (bits_of depth))
-    (below_all (2 ^ bits_of depth) h (shown_part h depth part)
-    (λ place s _. below_placed (2 ^ bits_of depth) (shown_block depth (weights_of h part) s.index) (block_below depth (weights_of h part) s.index) (blocks_of h.chroma part place) (part_of part s))
+    plane_below (2 ^ sample_bits depth) _ _ _ (some_power (sample_bits depth))
+    (below_all (2 ^ sample_bits depth) h (shown_part h depth part)
+    (λ place s _. below_placed (2 ^ sample_bits depth) (shown_block depth (weights_of h part) s.index) (block_below depth (weights_of h part) s.index) (blocks_of h.chroma part place) (part_of part s))
     (places_in h x.log2) x.slices ok.slices)
 
 alpha_below : (h : FrameHeader) (x : CodedPicture) → IsCodedPicture h x → All (λ s. s < 2 ^ alpha_depth h.alpha) (alpha_plane h x).samples
@@ -243,12 +243,12 @@ module _ (f : CodedFrame) (depth : Depth) (ok : IsCodedFrame f) where
       woven_sized f.header ok.layout (width_of f.header part) (part_plane f.header depth part) w.0 few
       (λ x. plane_sized _ _ _) (λ x. plane_is _ _ _ w.0 rows_some few rows_few) f.header.interlace f.pictures refl ok.number
 
-  part_small : (part : Part) → All (λ s. s < 2 ^ bits_of depth) (shown_plane f depth part).samples
+  part_small : (part : Part) → All (λ s. s < 2 ^ sample_bits depth) (shown_plane f depth part).samples
   part_small part =
       let w = width_some f.header part ok.layout in
       let few : width_of f.header part ≤ 8192 = omega (arith, w.1, ok.layout.columns) in
       woven_below f.header ok.layout (width_of f.header part) (part_plane f.header depth part) w.0 few
-      (λ x. plane_sized _ _ _) (λ x. plane_is _ _ _ w.0 rows_some few rows_few) (2 ^ bits_of depth) f.header.interlace f.pictures ok.number
+      (λ x. plane_sized _ _ _) (λ x. plane_is _ _ _ w.0 rows_some few rows_few) (2 ^ sample_bits depth) f.header.interlace f.pictures ok.number
       (each_picture f.pictures (part_below f.header depth part) ok.pictures)
 
   plane : Raster

@@ -21,7 +21,7 @@ use Rattle.pr_frame.specs.declared.coded.CodedPicture.{CodedPicture}
 use Rattle.pr_frame.specs.Forms.{places_in, alpha_count}
 use Rattle.pr_frame.specs.Coded.{IsCodedSlice, AreCodedSlices, IsCodedPicture}
 use Rattle.pr_frame.specs.Shown.{Placed, shown_block, part_of, weights_of, shown_part, value_block, shown_values, all_shown, width_of, height_of, part_plane, alpha_plane}
-use Rattle.pr_frame.specs.Placing.{with_placed}
+use Rattle.pr_frame.specs.inner.Placing.{with_placed}
 use Rattle.pr_frame.proofs.Placed.{Apart, corners_in, corners_behind, placed_corners, placed_behind, apart_once, all_placed}
 
 -- as many blocks as corners

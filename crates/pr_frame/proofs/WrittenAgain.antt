@@ -34,7 +34,7 @@ use Rattle.pr_frame.specs.declared.coded.CodedFrame.{CodedFrame}
 use Rattle.pr_frame.specs.Forms.{scan_of, has_alpha, places_in, block_count, alpha_count}
 use Rattle.pr_frame.specs.Coded.{IsCodedSlice, AreCodedSlices, IsCodedPicture, IsWritableSlice, IsWritablePicture, HasArrays, HasBlocks, HasShape, CanBeWritten}
 use Rattle.pr_frame.specs.Ready.{AreReadyValues, IsReadyAlpha}
-use Rattle.pr_frame.specs.Written.{component_bytes, alpha_bytes, alpha_size, slice_header_of, slice_bytes, slice_length, slice_lengths, picture_length, picture_bytes, frame_length_of, written}
+use Rattle.pr_frame.specs.Written.{component_bytes, alpha_bytes, alpha_size, slice_header_of, slice_bytes, slice_length, slice_lengths, picture_length, picture_bytes, frame_length_of, coded_bytes}
 use Rattle.pr_frame.specs.Reading.{ahead, blocks_at, values_at, alpha_at, components_at, coded_slice_at, coded_slices_at, coded_picture_at, coded_pictures_at, frame_at, frame_of}
 use Rattle.pr_frame.proofs.Counts.{HasBlocksOf, AllHave, places-have, count-places}
 use Rattle.pr_frame.proofs.Rests.{coded-is}
@@ -239,8 +239,8 @@ header-is f has w = record {
   chroma_weights = has.chroma_weights;
 }
 
-pub frame-written : (f : CodedFrame) → HasShape f → CanBeWritten f → frame_of (written f) ≡ Ok f
-unfolding frame_of frame_at written
+pub frame-written : (f : CodedFrame) → HasShape f → CanBeWritten f → frame_of (coded_bytes f) ≡ Ok f
+unfolding frame_of frame_at coded_bytes
 frame-written f has w =
     let h = f.header in
     let size = frame_length_of f in

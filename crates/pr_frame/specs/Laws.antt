@@ -8,7 +8,7 @@ use Rattle.pr_frame.specs.declared.coded.CodedSlice.{CodedSlice}
 use Rattle.pr_frame.specs.declared.coded.CodedFrame.{CodedFrame}
 use Rattle.pr_frame.specs.Forms.{places_in}
 use Rattle.pr_frame.specs.Coded.{AreCodedSlices, IsWritableSlice, CanBeWritten, HasArrays, HasShape}
-use Rattle.pr_frame.specs.Written.{slice_length, written, frame_length_of}
+use Rattle.pr_frame.specs.Written.{slice_length, coded_bytes, frame_length_of}
 use Rattle.pr_frame.specs.Stands.{FrameStands}
 use Rattle.pr_frame.specs.Reading.{frame_fault}
 
@@ -26,11 +26,11 @@ FrameHasNoFault = (sample : List ℕ) (f : CodedFrame) → FrameStands sample f 
 
 -- what was written stands for what was written
 abbrev pub WrittenStands : Type 0
-WrittenStands = (f : CodedFrame) → HasShape f → CanBeWritten f → FrameStands (written f) f
+WrittenStands = (f : CodedFrame) → HasShape f → CanBeWritten f → FrameStands (coded_bytes f) f
 
 -- how many bytes are written
 abbrev pub WrittenHasLength : Type 0
-WrittenHasLength = (f : CodedFrame) → HasArrays f.header → length (written f) ≡ frame_length_of f
+WrittenHasLength = (f : CodedFrame) → HasArrays f.header → length (coded_bytes f) ≡ frame_length_of f
 
 -- a slice that can be written has fewer than 65,535 bytes
 abbrev pub SlicesAreShort : Type 0
@@ -44,4 +44,4 @@ pub record IsReadAs (sample : List ℕ) (f : CodedFrame) : Type 0 where
   pub no_fault : frame_fault sample ≡ None
 
 abbrev pub WrittenIsReadAgain : Type 0
-WrittenIsReadAgain = (f : CodedFrame) → HasShape f → CanBeWritten f → IsReadAs (written f) f
+WrittenIsReadAgain = (f : CodedFrame) → HasShape f → CanBeWritten f → IsReadAs (coded_bytes f) f

@@ -5,6 +5,5 @@ pub mod Ready
 pub mod Stands
 pub mod Reading
 pub mod Shown
-pub mod Placing
-pub mod Screen
 pub mod Laws
+pub mod inner

@@ -11,7 +11,7 @@ use Rattle.pw_planes.specs.declared.picture.Picture.{Picture}
 use Rattle.pw_planes.specs.Picture.{HasSize}
 use Rattle.pw_planes.specs.Plane.{Raster, uniform, is_among, frame_of}
 use Rattle.pw_planes.specs.Rows.{raster}
-use Rattle.pw_planes.specs.Samples.{bits_of, chroma_width}
+use Rattle.pw_planes.specs.Samples.{sample_bits, chroma_width}
 use Rattle.pr_geom.specs.declared.places.Part.{Part}
 use Rattle.pr_geom.specs.declared.places.Part.TheVariants.{Y, Cb, Cr}
 use Rattle.pr_geom.specs.declared.places.SlicePlace.{SlicePlace}
@@ -187,7 +187,7 @@ pub record IsShownBy (depth : Depth) (sample : List ℕ) (p : Shown) : Type 0 wh
 
 -- each sample is below 2 to the depth
 abbrev pub HasDepth : Depth → List ℕ → Type 0
-HasDepth depth samples = All (λ sample. sample < 2 ^ bits_of depth) samples
+HasDepth depth samples = All (λ sample. sample < 2 ^ sample_bits depth) samples
 
 -- A picture of the form that a header says, at a depth.
 pub record HasHeaderForm (h : FrameHeader) (depth : Depth) (p : Picture) : Type 0 where

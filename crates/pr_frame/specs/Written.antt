@@ -87,5 +87,5 @@ abbrev pub frame_length_of : CodedFrame → ℕ
 frame_length_of f = 156 + sum (map (picture_length f.header.interlace f.header.alpha) f.pictures)
 
 -- the bytes of a frame
-unfoldable pub written : CodedFrame → List ℕ
-written f = frame_header_bytes f.header (frame_length_of f) ++ flat_map (picture_bytes f.header.interlace f.header.alpha) f.pictures
+unfoldable pub coded_bytes : CodedFrame → List ℕ
+coded_bytes f = frame_header_bytes f.header (frame_length_of f) ++ flat_map (picture_bytes f.header.interlace f.header.alpha) f.pictures

@@ -24,6 +24,7 @@ pub use laws::{
     frame_has_no_fault, frame_or_fault, one_frame, slices_are_short, written_has_length,
     written_is_read_again, written_stands,
 };
+pub use parts::scan_of;
 pub use pictures::show;
 pub use read::read_frame;
 pub use showing::{Shown, read_shown};

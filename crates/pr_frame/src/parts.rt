@@ -26,8 +26,8 @@ use pw_outside::{ByteSource, Failed, fill};
 use pw_planes::{AlphaKind, Interlace};
 use std::alloc::Global;
 
-/// The order of the values of a block.
-pub(crate) fn scan_of(interlace: Interlace) -> Scan
+/// The order of the coefficients of a block in frames of this mode (SMPTE RDD 36, scanned coefficients).
+pub fn scan_of(interlace: Interlace) -> Scan
     ensures { places result ≡ scan_of interlace }
 {
     match interlace {
@@ -131,7 +131,6 @@ fn component<S: ByteSource>(
 /// Reads the blocks of a part of a slice in the next `size` bytes. The slice lies at this place of the layout, which is that
 /// of a frame with this header.
 pub(crate) fn read_part<S: ByteSource>(
-    alloc: Global,
     source: &mut S,
     place: &mut u64,
     size: u16,
@@ -150,7 +149,7 @@ pub(crate) fn read_part<S: ByteSource>(
     ensures cause { CountsFault (S.faults source.old) (S.faults source.new) (is_failed result) }
 {
     let count = layout.blocks(slice, part);
-    let mut blocks = Vec::from_elem(alloc, [0; 64], usize::from(count))?;
+    let mut blocks = Vec::from_elem(desk.alloc, [0; 64], usize::from(count))?;
     component(
         source,
         *place,

@@ -7,7 +7,7 @@ ghost use Rattle.pr_geom.specs.Faults.{IsAllowed};
 ghost use Rattle.pr_geom.specs.Layout.{IsLayoutOf, IsSlice};
 ghost use Rattle.pr_frame.specs.Coded.{IsCodedSlice, IsCodedPicture, IsCodedFrame};
 ghost use Rattle.pr_frame.specs.Shown.{width_of, weights_of, shown_part, part_plane, alpha_plane, woven, shown_plane, shown_alpha, shown, HasHeaderForm};
-ghost use Rattle.pr_frame.specs.Placing.{with_placed};
+ghost use Rattle.pr_frame.specs.inner.Placing.{with_placed};
 
 use crate::coded::{CodedFrame, CodedPicture, CodedSlice};
 use crate::placing::{put_part, put_values};

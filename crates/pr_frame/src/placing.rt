@@ -5,7 +5,7 @@ ghost use Rattle.pr_geom.specs.Blocks.{blocks_of};
 ghost use Rattle.pr_geom.specs.Layout.{IsSlice};
 ghost use Rattle.pr_geom.specs.declared.places.Part.TheVariants.{Y};
 ghost use Rattle.pr_frame.specs.Shown.{placed, shown_block, value_block};
-ghost use Rattle.pr_frame.specs.Placing.{with_placed, IsInSlice};
+ghost use Rattle.pr_frame.specs.inner.Placing.{with_placed, IsInSlice};
 
 use crate::products::shown_block;
 use pr_coeff::Block;

@@ -17,13 +17,12 @@ use crate::coded::{CodedFrame, CodedPicture, CodedPictures};
 use crate::desk::{Desk, new_desk};
 use crate::parts::pass;
 use crate::slices::read_slices;
-use pr_geom::Layout;
+use pr_geom::{Layout, pictures_of};
 use pr_head::{
     FrameFault, FrameHeader, PictureHeader, read_frame_header, read_picture_header,
     read_slice_sizes,
 };
 use pw_outside::ByteSource;
-use pw_planes::Interlace;
 use std::alloc::Global;
 
 /// Reads the header of the picture that begins here, in a frame of `frame` bytes.
@@ -97,7 +96,6 @@ pub(crate) fn pass_to<S: ByteSource>(
 /// Reads the picture that begins here, in a frame of `frame` bytes with this header, and passes over what is left of it.
 #[tactic(auto, using(pr_head::proofs::Bounds::lowers_then))]
 fn read_picture<S: ByteSource>(
-    alloc: Global,
     source: &mut S,
     place: &mut u64,
     frame: u32,
@@ -115,8 +113,8 @@ fn read_picture<S: ByteSource>(
 {
     let at = *place;
     let (picture, layout) = picture_header(source, place, frame, header)?;
-    let sizes = slice_sizes(alloc, source, place, &picture, layout.slices())?;
-    let slices = read_slices(alloc, source, place, &sizes, header, &layout, desk)?;
+    let sizes = slice_sizes(desk.alloc, source, place, &picture, layout.slices())?;
+    let slices = read_slices(source, place, &sizes, header, &layout, desk)?;
     pass_to(source, place, at + u64::from(picture.size))?;
     Ok(CodedPicture {
         log2: picture.log2,
@@ -127,7 +125,6 @@ fn read_picture<S: ByteSource>(
 /// Reads so many pictures, one behind the other, in a frame of `frame` bytes with this header.
 #[tactic(auto, using(pr_head::proofs::Bounds::lowers_then))]
 fn read_pictures<S: ByteSource>(
-    alloc: Global,
     source: &mut S,
     place: &mut u64,
     count: u8,
@@ -144,22 +141,12 @@ fn read_pictures<S: ByteSource>(
     ensures becomes { GoesOn S.becomes source.old source.new }
     ensures cause { CountsFault (S.faults source.old) (S.faults source.new) (is_failed result) }
 {
-    let mut pictures = Vec::new(alloc);
+    let mut pictures = Vec::new(desk.alloc);
     for _ in 0..count {
-        let picture = read_picture(alloc, source, place, frame, header, desk)?;
+        let picture = read_picture(source, place, frame, header, desk)?;
         pictures.push(picture)?;
     }
     Ok(CodedPictures::from_vec(pictures))
-}
-
-/// How many pictures a frame has.
-fn pictures_in(interlace: Interlace) -> u8
-    ensures { result ≡ pictures_of interlace }
-{
-    match interlace {
-        Interlace::Progressive => 1,
-        Interlace::TopFirst | Interlace::BottomFirst => 2,
-    }
 }
 
 /// Reads the frame at the front of a sample of `size` bytes.
@@ -180,9 +167,9 @@ fn frame_from<S: ByteSource>(
 {
     let (header, taken, frame) = read_frame_header(source, size)?;
     *place = u64::from(taken);
-    let count = pictures_in(header.interlace);
-    let mut desk = new_desk();
-    let pictures = read_pictures(alloc, source, place, count, frame, &header, &mut desk)?;
+    let count = pictures_of(header.interlace);
+    let mut desk = new_desk(alloc);
+    let pictures = read_pictures(source, place, count, frame, &header, &mut desk)?;
     Ok(CodedFrame { header, pictures })
 }
 

@@ -6,7 +6,7 @@ ghost use Rattle.pw_planes.specs.declared.kinds.Interlace.TheVariants.{Progressi
 ghost use Rattle.pr_geom.specs.Layout.{IsLayoutOf, IsSlice};
 ghost use Rattle.pr_head.specs.Header.{HasLayoutSize};
 ghost use Rattle.pr_frame.specs.Coded.{IsCodedSlice};
-ghost use Rattle.pr_frame.specs.Screen.{empty_plane, empty_alpha, empty_screen, with_values, with_slice, HasAlpha, HasFieldSize, woven_alpha, woven_screen};
+ghost use Rattle.pr_frame.specs.inner.Screen.{empty_plane, empty_alpha, empty_screen, with_values, with_slice, HasAlpha, HasFieldSize, woven_alpha, woven_screen};
 
 use crate::coded::CodedSlice;
 use crate::pictures::{plane_width, put_slice_part, woven};

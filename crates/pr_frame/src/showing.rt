@@ -12,7 +12,7 @@ ghost use Rattle.pr_head.specs.Faults.{told_fault, is_failed};
 ghost use Rattle.pr_head.specs.Header.{HasLayoutSize};
 ghost use Rattle.pr_frame.specs.Reading.{coded_slices_at, coded_picture_at, coded_pictures_at, frame_at, frame_fault};
 ghost use Rattle.pr_frame.specs.Shown.{HasHeaderForm, IsShownBy};
-ghost use Rattle.pr_frame.specs.Screen.{empty_screen, HasFieldSize, woven_screen, shown_with, AreSlicesOf, IsPictureOf, ArePicturesOf, IsFrameOf, Finds};
+ghost use Rattle.pr_frame.specs.inner.Screen.{empty_screen, HasFieldSize, woven_screen, shown_with, AreSlicesOf, IsPictureOf, ArePicturesOf, IsFrameOf, Finds};
 
 use crate::desk::{Desk, new_desk};
 use crate::read::{pass_to, picture_header, slice_sizes};
@@ -54,7 +54,6 @@ fn first_screen(alloc: Global, header: &FrameHeader, layout: &Layout) -> Result<
 /// layout is that of a frame with this header.
 #[tactic(auto, using(pr_head::proofs::Bounds::lowers_then))]
 fn show_slices<S: ByteSource>(
-    alloc: Global,
     source: &mut S,
     place: &mut u64,
     sizes: &[u16],
@@ -74,10 +73,10 @@ fn show_slices<S: ByteSource>(
     ensures becomes { GoesOn S.becomes source.old source.new }
     ensures cause { CountsFault (S.faults source.old) (S.faults source.new) (is_failed result) }
 {
-    let mut screen = first_screen(alloc, header, layout)?;
+    let mut screen = first_screen(desk.alloc, header, layout)?;
     for (number, size) in sizes.iter().enumerate() {
         let spot = layout.slice(number as u32);
-        let slice = read_slice(alloc, source, place, *size, header, layout, &spot, desk)?;
+        let slice = read_slice(source, place, *size, header, layout, &spot, desk)?;
         put_slice(&mut screen, depth, header, layout, &spot, &slice);
     }
     Ok(screen)
@@ -87,7 +86,6 @@ fn show_slices<S: ByteSource>(
 /// left of it.
 #[tactic(auto, using(pr_head::proofs::Bounds::lowers_then))]
 fn show_picture<S: ByteSource>(
-    alloc: Global,
     source: &mut S,
     place: &mut u64,
     frame: u32,
@@ -105,8 +103,8 @@ fn show_picture<S: ByteSource>(
 {
     let at = *place;
     let (picture, layout) = picture_header(source, place, frame, header)?;
-    let sizes = slice_sizes(alloc, source, place, &picture, layout.slices())?;
-    let screen = show_slices(alloc, source, place, &sizes, header, &layout, depth, desk)?;
+    let sizes = slice_sizes(desk.alloc, source, place, &picture, layout.slices())?;
+    let screen = show_slices(source, place, &sizes, header, &layout, depth, desk)?;
     pass_to(source, place, at + u64::from(picture.size))?;
     Ok(screen)
 }
@@ -134,7 +132,6 @@ fn whole_screen(
 /// Reads the pictures of a frame of `frame` bytes with this header into planes: one, or both fields.
 #[tactic(auto, using(pr_head::proofs::Bounds::lowers_then))]
 fn show_pictures<S: ByteSource>(
-    alloc: Global,
     source: &mut S,
     place: &mut u64,
     frame: u32,
@@ -149,12 +146,12 @@ fn show_pictures<S: ByteSource>(
     ensures becomes { GoesOn S.becomes source.old source.new }
     ensures cause { CountsFault (S.faults source.old) (S.faults source.new) (is_failed result) }
 {
-    let first = show_picture(alloc, source, place, frame, header, depth, desk)?;
+    let first = show_picture(source, place, frame, header, depth, desk)?;
     if header.interlace == Interlace::Progressive {
         return Ok(first);
     }
-    let second = show_picture(alloc, source, place, frame, header, depth, desk)?;
-    whole_screen(alloc, header, &first, &second)
+    let second = show_picture(source, place, frame, header, depth, desk)?;
+    whole_screen(desk.alloc, header, &first, &second)
 }
 
 /// What is told of a frame with this header and these planes.
@@ -194,8 +191,8 @@ fn show_frame<S: ByteSource>(
 {
     let (header, taken, frame) = read_frame_header(source, size)?;
     *place = u64::from(taken);
-    let mut desk = new_desk();
-    let screen = show_pictures(alloc, source, place, frame, &header, depth, &mut desk)?;
+    let mut desk = new_desk(alloc);
+    let screen = show_pictures(source, place, frame, &header, depth, &mut desk)?;
     Ok(shown_with(header, depth, screen))
 }
 

@@ -21,7 +21,6 @@ use pr_geom::{Layout, Part, SlicePlace};
 use pr_head::{FrameFault, FrameHeader, SliceHeader, read_slice_header};
 use pw_outside::ByteSource;
 use pw_planes::AlphaKind;
-use std::alloc::Global;
 
 /// Reads the header of the slice that has the next `size` bytes.
 fn slice_header<S: ByteSource>(
@@ -46,7 +45,6 @@ fn slice_header<S: ByteSource>(
 /// Reads the components of the slice at this place of the layout, whose header was read, with alpha values of this kind.
 #[tactic(auto, using(pr_head::proofs::Bounds::lowers_then), unfolding(crate::specs::Reading::components_at, pw_outside::specs::Reading::bind))]
 fn read_components<S: ByteSource>(
-    alloc: Global,
     source: &mut S,
     place: &mut u64,
     head: &SliceHeader,
@@ -70,10 +68,10 @@ fn read_components<S: ByteSource>(
     ensures becomes { GoesOn S.becomes source.old source.new }
     ensures cause { CountsFault (S.faults source.old) (S.faults source.new) (is_failed result) }
 {
-    let y = read_part(alloc, source, place, head.y, layout, slice, Part::Y, desk)?;
-    let cb = read_part(alloc, source, place, head.cb, layout, slice, Part::Cb, desk)?;
-    let cr = read_part(alloc, source, place, head.cr, layout, slice, Part::Cr, desk)?;
-    let alpha = read_alpha_part(alloc, source, place, head.alpha, alpha, slice)?;
+    let y = read_part(source, place, head.y, layout, slice, Part::Y, desk)?;
+    let cb = read_part(source, place, head.cb, layout, slice, Part::Cb, desk)?;
+    let cr = read_part(source, place, head.cr, layout, slice, Part::Cr, desk)?;
+    let alpha = read_alpha_part(desk.alloc, source, place, head.alpha, alpha, slice)?;
     Ok(CodedSlice {
         index: head.index,
         y,
@@ -86,7 +84,6 @@ fn read_components<S: ByteSource>(
 /// Reads the slice at this place of the layout, in the next `size` bytes. The layout is that of a frame with this header.
 #[tactic(auto, using(pr_head::proofs::Bounds::lowers_then))]
 pub(crate) fn read_slice<S: ByteSource>(
-    alloc: Global,
     source: &mut S,
     place: &mut u64,
     size: u16,
@@ -107,22 +104,12 @@ pub(crate) fn read_slice<S: ByteSource>(
     ensures cause { CountsFault (S.faults source.old) (S.faults source.new) (is_failed result) }
 {
     let head = slice_header(source, place, size, header.alpha)?;
-    read_components(
-        alloc,
-        source,
-        place,
-        &head,
-        layout,
-        header.alpha,
-        slice,
-        desk,
-    )
+    read_components(source, place, &head, layout, header.alpha, slice, desk)
 }
 
 /// Reads the slices of a picture with this layout, which have these sizes. The layout is that of a frame with this header.
 #[tactic(auto, using(pr_head::proofs::Bounds::lowers_then))]
 pub(crate) fn read_slices<S: ByteSource>(
-    alloc: Global,
     source: &mut S,
     place: &mut u64,
     sizes: &[u16],
@@ -141,10 +128,10 @@ pub(crate) fn read_slices<S: ByteSource>(
     ensures becomes { GoesOn S.becomes source.old source.new }
     ensures cause { CountsFault (S.faults source.old) (S.faults source.new) (is_failed result) }
 {
-    let mut slices = Vec::new(alloc);
+    let mut slices = Vec::new(desk.alloc);
     for (number, size) in sizes.iter().enumerate() {
         let slice = layout.slice(number as u32);
-        let coded = read_slice(alloc, source, place, *size, header, layout, &slice, desk)?;
+        let coded = read_slice(source, place, *size, header, layout, &slice, desk)?;
         slices.push(coded)?;
     }
     Ok(CodedSlices::from_vec(slices))

@@ -8,7 +8,7 @@ ghost use Rattle.pw_outside.specs.Writing.{sink_state, Puts, PutsFront};
 ghost use Rattle.pr_head.specs.Laws.{sizes_bytes};
 ghost use Rattle.pr_frame.specs.Coded.{CanBeWritten};
 ghost use Rattle.pr_frame.specs.Ready.{IsReadyPart, IsReadyAlpha, IsReady, IsReadyPicture};
-ghost use Rattle.pr_frame.specs.Written.{component_bytes, alpha_bytes, slice_header_of, slice_bytes, slice_length, slice_lengths, picture_bytes, picture_length, written};
+ghost use Rattle.pr_frame.specs.Written.{component_bytes, alpha_bytes, slice_header_of, slice_bytes, slice_length, slice_lengths, picture_bytes, picture_length, coded_bytes};
 
 use crate::coded::{CodedFrame, CodedPicture, CodedSlice};
 use crate::parts::{has_alpha, scan_of};
@@ -233,9 +233,9 @@ fn write_pictures<K: ByteSink>(
 pub fn write_frame<K: ByteSink>(frame: &CodedFrame, sink: &mut K) -> Result<(), Failed>
     requires { CanBeWritten frame.now }
     // The sink took the bytes of the frame, and no others.
-    ensures ok { OnOk result (Puts (sink_state (K.held sink.old) (K.taken sink.old)) (sink_state (K.held sink.new) (K.taken sink.new)) (written frame.now)) }
+    ensures ok { OnOk result (Puts (sink_state (K.held sink.old) (K.taken sink.old)) (sink_state (K.held sink.new) (K.taken sink.new)) (coded_bytes frame.now)) }
     // Where a call failed, it took a front of them.
-    ensures err { OnErr result (PutsFront (sink_state (K.held sink.old) (K.taken sink.old)) (sink_state (K.held sink.new) (K.taken sink.new)) (written frame.now)) }
+    ensures err { OnErr result (PutsFront (sink_state (K.held sink.old) (K.taken sink.old)) (sink_state (K.held sink.new) (K.taken sink.new)) (coded_bytes frame.now)) }
     ensures settled { K.settled sink.old ≤ K.settled sink.new }
     // The call fails only where a call of the sink failed, and each such call is answered by it.
     ensures cause { CountsFault (K.faults sink.old) (K.faults sink.new) (is_err result) }

@@ -11,7 +11,7 @@ use Rattle.pw_planes.specs.declared.kinds.Interlace.{Interlace}
 use Rattle.pw_planes.specs.declared.kinds.Interlace.TheVariants.{Progressive, TopFirst, BottomFirst}
 use Rattle.pr_geom.specs.declared.places.SlicePlace.{SlicePlace}
 use Rattle.pr_geom.specs.Slices.{pictures_of, row_widths, side_by_side, row_slices, picture_slices, no_slice, slice_columns}
-use Rattle.pr_geom.specs.Spots.{spot}
+use Rattle.pr_geom.specs.inner.Spots.{spot}
 use Rattle.pr_geom.proofs.Pieces.{pieces_at, length-pieces}
 
 -- the slice of row y at a spot, from column x on

@@ -2,4 +2,4 @@ pub mod Blocks
 pub mod Faults
 pub mod Layout
 pub mod Slices
-pub mod Spots
+pub mod inner

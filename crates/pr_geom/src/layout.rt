@@ -3,15 +3,15 @@
 ghost use Rattle.std.specs.Prelude.{◌≡◌, ◌+◌, ◌<◌, ◌≤◌, IfOk, length, slice_index_or};
 ghost use Rattle.std.specs.Result.{result_err};
 ghost use Rattle.pr_geom.specs.Slices.{pictures_of, macroblocks, row_widths, no_slice};
-ghost use Rattle.pr_geom.specs.Spots.{spot};
+ghost use Rattle.pr_geom.specs.inner.Spots.{spot};
 ghost use Rattle.pr_geom.specs.Faults.{slice_count, first_fault, IsAllowed};
 ghost use Rattle.pr_geom.specs.Blocks.{blocks_of};
 
 use crate::places::{GeomFault, MAX_SLICES, Part, SlicePlace};
 use pw_planes::{Chroma, Interlace, MAX_HEIGHT, MAX_WIDTH};
 
-/// How many pictures a frame has.
-fn pictures_in(interlace: Interlace) -> u8
+/// How many pictures a frame of this mode has: 1, or 2 where it is interlaced (SMPTE RDD 36, frame syntax).
+pub fn pictures_of(interlace: Interlace) -> u8
     ensures { result ≡ pictures_of interlace }
 {
     match interlace {
@@ -68,7 +68,7 @@ fn slices_in_picture(width: u16, height: u16, log2: u8, interlace: Interlace) ->
     requires size { log2 ≤ 3 }
     ensures { result ≡ slice_count width height log2 interlace }
 {
-    let rows = macroblocks_for(height / u16::from(pictures_in(interlace)));
+    let rows = macroblocks_for(height / u16::from(pictures_of(interlace)));
     rows * slices_in_row(macroblocks_for(width), u32::from(log2))
 }
 
@@ -110,7 +110,7 @@ impl Layout {
         if u32::from(width) > MAX_WIDTH || u32::from(height) > MAX_HEIGHT {
             return Err(GeomFault::SizeLimit);
         }
-        if height % u16::from(pictures_in(interlace)) != 0 {
+        if height % u16::from(pictures_of(interlace)) != 0 {
             return Err(GeomFault::OddInterlaced);
         }
         if slices_in_picture(width, height, log2, interlace) > MAX_SLICES {
@@ -129,7 +129,7 @@ impl Layout {
     pub fn pictures(&self) -> u8
         ensures { result ≡ pictures_of self.now.interlace }
     {
-        pictures_in(self.interlace)
+        pictures_of(self.interlace)
     }
 
     /// The height of each picture in samples.

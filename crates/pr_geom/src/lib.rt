@@ -4,7 +4,7 @@
 mod layout;
 mod places;
 
-pub use layout::Layout;
+pub use layout::{Layout, pictures_of};
 pub use places::{GeomFault, MAX_SLICES, Part, SlicePlace};
 
 #[cfg(test)]

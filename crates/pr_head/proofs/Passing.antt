@@ -7,7 +7,7 @@ use Rattle.pw_outside.proofs.Chains.{fails-whole}
 use Rattle.pr_head.specs.declared.fault.FrameKind.{FrameKind}
 use Rattle.pr_head.specs.declared.fault.FrameFault.{FrameFault}
 use Rattle.pr_head.specs.Faults.{told_fault}
-use Rattle.pr_head.specs.Steps.{passed}
+use Rattle.pr_head.specs.inner.Steps.{passed}
 
 -- n bytes further on
 abbrev pub ahead : ℕ → Rest → Rest

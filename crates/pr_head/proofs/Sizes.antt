@@ -6,7 +6,7 @@ use Rattle.pw_outside.proofs.Chains.{with_front, with_front-more, fails-whole}
 use Rattle.pr_head.specs.declared.fault.FrameKind.{FrameKind}
 use Rattle.pr_head.specs.declared.fault.FrameFault.{FrameFault}
 use Rattle.pr_head.specs.Faults.{told_fault}
-use Rattle.pr_head.specs.Steps.{size_in, sizes_in}
+use Rattle.pr_head.specs.inner.Steps.{size_in, sizes_in}
 
 pub sizes-more : (front : List ℕ) (at count i : ℕ) (s after : Rest) (size : ℕ) (total : Read FrameKind (List ℕ)) → i < count → size_in at s ≡ Ok (size, after)
     → with_front front (sizes_in at (count - i) s) ≡ total → with_front (front ++ size ∷ []) (sizes_in at (count - (i + 1)) after) ≡ total

@@ -13,7 +13,7 @@ use Rattle.pr_head.specs.Bytes.{number16}
 use Rattle.pr_head.specs.Header.{start_of, loads_luma, loads_chroma, matrix_size, matrices_size, matrix_at, luma_of, size_fault, header_at, HasSizes}
 use Rattle.pr_head.specs.Picture.{picture_of, picture_fault, picture_at, sizes_of, table_at}
 use Rattle.pr_head.specs.Slice.{least_slice_header, stated_of, slice_fault, with_last, slice_at}
-use Rattle.pr_head.specs.Steps.{piece_at, matrix_in, start_in, matrices_in, header_in, picture_in, size_in, sizes_in, table_in, stated_in, cr_in, slice_in}
+use Rattle.pr_head.specs.inner.Steps.{piece_at, matrix_in, start_in, matrices_in, header_in, picture_in, size_in, sizes_in, table_in, stated_in, cr_in, slice_in}
 use Rattle.pr_head.proofs.Places.{front_piece, number16-front, number32-front, number16-drop}
 use Rattle.pr_head.proofs.Passing.{ahead, same_rest, ahead-ahead, ahead-none, passed-whole}
 use Rattle.pw_outside.proofs.Steps.{bind-step, bind-first, bind-same, bind-ok, bind-bind, refuse-ok}

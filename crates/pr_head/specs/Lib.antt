@@ -4,5 +4,5 @@ pub mod Header
 pub mod Picture
 pub mod Slice
 pub mod Own
-pub mod Steps
 pub mod Laws
+pub mod inner

@@ -5,7 +5,7 @@ ghost use Rattle.pw_outside.specs.Ports.{CountsFault, Lowers, GoesOn};
 ghost use Rattle.pw_outside.specs.Reading.{Gives, GivesValue, Told};
 ghost use Rattle.pr_head.specs.Faults.{told_fault, is_failed, is_out_of_memory};
 ghost use Rattle.pr_head.specs.Header.{matrices_size, header_at, IsHeader, HasSizes, HasForm};
-ghost use Rattle.pr_head.specs.Steps.{matrix_in, start_in, matrices_in, header_in};
+ghost use Rattle.pr_head.specs.inner.Steps.{matrix_in, start_in, matrices_in, header_in};
 
 use crate::fault::{FrameFault, FrameKind, bad};
 use crate::pieces::{pass, whole};
@@ -47,7 +47,7 @@ pub struct FrameHeader {
 }
 
 /// The next matrix where it is loaded, and the other one else.
-#[tactic(auto, using(crate::proofs::Bounds::lowers_same), unfolding(crate::specs::Steps::matrix_in))]
+#[tactic(auto, using(crate::proofs::Bounds::lowers_same), unfolding(crate::specs::inner::Steps::matrix_in))]
 fn matrix_of<S: ByteSource>(
     source: &mut S,
     place: &mut u64,
@@ -70,7 +70,7 @@ fn matrix_of<S: ByteSource>(
 }
 
 /// The fields of the first 28 bytes of a sample of `size` bytes.
-#[tactic(auto, using(crate::proofs::Bounds::lowers_same), unfolding(crate::specs::Steps::start_in, pw_outside::specs::Reading::bind))]
+#[tactic(auto, using(crate::proofs::Bounds::lowers_same), unfolding(crate::specs::inner::Steps::start_in, pw_outside::specs::Reading::bind))]
 fn start_of<S: ByteSource>(source: &mut S, place: &mut u64, size: u32) -> Result<Start, FrameFault>
     requires { place.old ≡ 0 }
     ensures bytes { Gives told_fault (λ x. x) (S.left source.old) (S.left source.new) place.old place.new result (start_in size) }
@@ -94,7 +94,7 @@ fn start_of<S: ByteSource>(source: &mut S, place: &mut u64, size: u32) -> Result
 }
 
 /// The matrices in use of luma and of chroma. The bytes behind them, up to the header's end, are passed over.
-#[tactic(auto, using(crate::proofs::Bounds::lowers_then), unfolding(crate::specs::Steps::matrices_in, pw_outside::specs::Reading::bind))]
+#[tactic(auto, using(crate::proofs::Bounds::lowers_then), unfolding(crate::specs::inner::Steps::matrices_in, pw_outside::specs::Reading::bind))]
 fn matrices_of<S: ByteSource>(
     source: &mut S,
     place: &mut u64,
@@ -115,7 +115,7 @@ fn matrices_of<S: ByteSource>(
     Ok((luma, chroma_weights))
 }
 
-#[tactic(auto, using(crate::proofs::Bounds::lowers_then), unfolding(crate::specs::Steps::header_in, pw_outside::specs::Reading::bind))]
+#[tactic(auto, using(crate::proofs::Bounds::lowers_then), unfolding(crate::specs::inner::Steps::header_in, pw_outside::specs::Reading::bind))]
 fn header_of<S: ByteSource>(
     source: &mut S,
     place: &mut u64,

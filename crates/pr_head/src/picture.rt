@@ -8,7 +8,7 @@ ghost use Rattle.pr_geom.specs.Layout.{IsLayoutOf};
 ghost use Rattle.pr_head.specs.Faults.{told_fault, is_failed, is_out_of_memory};
 ghost use Rattle.pr_head.specs.Picture.{picture_of, picture_fault, picture_at, table_at, picture_size, IsPicture};
 ghost use Rattle.pr_head.specs.Header.{HasLayoutSize};
-ghost use Rattle.pr_head.specs.Steps.{size_in, sizes_in, picture_in, table_in};
+ghost use Rattle.pr_head.specs.inner.Steps.{size_in, sizes_in, picture_in, table_in};
 
 use crate::fault::{FrameFault, FrameKind, bad};
 use crate::frame::FrameHeader;
@@ -79,7 +79,7 @@ fn layout_of(
     }
 }
 
-#[tactic(auto, using(crate::proofs::Bounds::lowers_same, crate::proofs::Bounds::lowers_then), unfolding(crate::specs::Steps::picture_in, pw_outside::specs::Reading::bind))]
+#[tactic(auto, using(crate::proofs::Bounds::lowers_same, crate::proofs::Bounds::lowers_then), unfolding(crate::specs::inner::Steps::picture_in, pw_outside::specs::Reading::bind))]
 fn picture_from<S: ByteSource>(
     source: &mut S,
     place: &mut u64,
@@ -143,7 +143,7 @@ pub fn read_picture_header<S: ByteSource>(
 }
 
 /// The next size.
-#[tactic(auto, unfolding(crate::specs::Steps::size_in, pw_outside::specs::Reading::bind))]
+#[tactic(auto, unfolding(crate::specs::inner::Steps::size_in, pw_outside::specs::Reading::bind))]
 fn size_of<S: ByteSource>(source: &mut S, place: &mut u64, at: u64) -> Result<u16, FrameFault>
     requires { place.old + 2 < 2 ^ 64 }
     ensures bytes { Gives told_fault (λ x. x) (S.left source.old) (S.left source.new) place.old place.new result (size_in at) }
@@ -194,7 +194,7 @@ fn total(sizes: &[u16]) -> u64
     total
 }
 
-#[tactic(auto, using(crate::proofs::Bounds::lowers_same), unfolding(crate::specs::Steps::table_in, pw_outside::specs::Reading::bind))]
+#[tactic(auto, using(crate::proofs::Bounds::lowers_same), unfolding(crate::specs::inner::Steps::table_in, pw_outside::specs::Reading::bind))]
 fn table_of<S: ByteSource>(
     alloc: Global,
     source: &mut S,

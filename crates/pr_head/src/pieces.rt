@@ -5,7 +5,7 @@ ghost use Rattle.pw_outside.specs.Ports.{CountsFault, Lowers, GoesOn};
 ghost use Rattle.pw_outside.specs.Reading.{Gives};
 ghost use Rattle.pr_head.specs.Bytes.{number16, number32};
 ghost use Rattle.pr_head.specs.Faults.{told_fault, is_failed, is_out_of_memory};
-ghost use Rattle.pr_head.specs.Steps.{piece_at, passed};
+ghost use Rattle.pr_head.specs.inner.Steps.{piece_at, passed};
 
 use crate::fault::{FrameFault, FrameKind, bad};
 use pw_outside::{ByteSource, fill};
@@ -36,7 +36,7 @@ pub(crate) fn whole<S: ByteSource>(
 }
 
 /// Passes over some of the next bytes, at most 64.
-#[tactic(auto, unfolding(crate::specs::Steps::passed))]
+#[tactic(auto, unfolding(crate::specs::inner::Steps::passed))]
 fn pass_some<S: ByteSource>(
     source: &mut S,
     place: &mut u64,

@@ -6,7 +6,7 @@ ghost use Rattle.pw_outside.specs.Reading.{Answers, Gives, GivesValue, Told};
 ghost use Rattle.pr_head.specs.Bytes.{number16};
 ghost use Rattle.pr_head.specs.Faults.{told_fault, is_failed, is_out_of_memory};
 ghost use Rattle.pr_head.specs.Slice.{least_slice_header, slice_size, with_last, slice_fault, slice_at, IsSliceHeader};
-ghost use Rattle.pr_head.specs.Steps.{stated_in, cr_in, slice_in};
+ghost use Rattle.pr_head.specs.inner.Steps.{stated_in, cr_in, slice_in};
 
 use crate::fault::{FrameFault, FrameKind, bad};
 use crate::pieces::{pass, u16_at, whole};
@@ -110,7 +110,7 @@ impl SliceHeader {
 }
 
 /// The two bytes of the size of Cr where it is stated, and zeros else.
-#[tactic(auto, using(crate::proofs::Bounds::lowers_same), unfolding(crate::specs::Steps::cr_in, crate::specs::Bytes::number16))]
+#[tactic(auto, using(crate::proofs::Bounds::lowers_same), unfolding(crate::specs::inner::Steps::cr_in, crate::specs::Bytes::number16))]
 fn cr_of<S: ByteSource>(
     source: &mut S,
     place: &mut u64,
@@ -133,7 +133,7 @@ fn cr_of<S: ByteSource>(
     Ok(bytes)
 }
 
-#[tactic(auto, using(crate::proofs::Bounds::lowers_then, crate::proofs::Bounds::lowers_same), unfolding(crate::specs::Steps::slice_in, pw_outside::specs::Reading::bind))]
+#[tactic(auto, using(crate::proofs::Bounds::lowers_then, crate::proofs::Bounds::lowers_same), unfolding(crate::specs::inner::Steps::slice_in, pw_outside::specs::Reading::bind))]
 fn slice_of<S: ByteSource>(
     source: &mut S,
     place: &mut u64,

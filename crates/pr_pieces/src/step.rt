@@ -4,7 +4,7 @@ ghost use Rattle.std.specs.Prelude.{◌≡◌, ◌+◌, ◌*◌, ◌<◌, ◌≤
 ghost use Rattle.pw_bits.specs.Places.{ahead};
 ghost use Rattle.pr_coeff.specs.Reading.{triple_at};
 ghost use Rattle.pr_coeff.specs.Lengths.{run_class, run_in, level_class, level_in};
-ghost use Rattle.pr_pieces.specs.Finding.{Finds};
+ghost use Rattle.pr_pieces.specs.inner.Finding.{Finds};
 
 use crate::shorts::ShortWords;
 use crate::triple::triple_in;

@@ -4,7 +4,7 @@ ghost use Rattle.std.specs.Prelude.{◌≡◌, ◌+◌, ◌*◌, ◌<◌, ◌≤
 ghost use Rattle.pw_bits.specs.Places.{ahead, LastOne};
 ghost use Rattle.pr_coeff.specs.Component.{places, listed, AreBlocks};
 ghost use Rattle.pr_coeff.specs.Reading.{values_at};
-ghost use Rattle.pr_pieces.specs.Finding.{Finds};
+ghost use Rattle.pr_pieces.specs.inner.Finding.{Finds};
 
 use crate::blocks::put_value;
 use crate::shorts::ShortWords;

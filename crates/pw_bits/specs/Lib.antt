@@ -1,7 +1,7 @@
 pub mod Bits
-pub mod Bytes
 pub mod Writing
 pub mod Reading
 pub mod Window
 pub mod Places
 pub mod Spelled
+pub mod inner

@@ -3,7 +3,7 @@
 ghost use Rattle.std.specs.Prelude.{◌≡◌, ◌+◌, ◌-◌, ◌%◌, ◌^◌, ◌<◌, ◌≤◌, true, ◌∷◌, ◌++◌, length, slice_index, IsSome, is_err};
 ghost use Rattle.pw_outside.specs.Ports.{CountsFault, Lowers, GoesOn};
 ghost use Rattle.pw_bits.specs.Bits.{bits_of, zeros};
-ghost use Rattle.pw_bits.specs.Bytes.{GivesByte, byte_count};
+ghost use Rattle.pw_bits.specs.inner.Bytes.{GivesByte, byte_count};
 
 use pw_outside::{ByteSource, Failed};
 

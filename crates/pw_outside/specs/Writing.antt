@@ -26,3 +26,7 @@ pub record PutsPart (before after : SinkState) (bytes : List ℕ) : Type 0 where
   pub out : ℕ
   pub short : out < length bytes
   pub front : Puts before after (take out bytes)
+
+-- what was held has grown at its end, and as many bytes were taken
+abbrev pub Extends : SinkState → SinkState → Type 0
+Extends before after = (bytes : List ℕ) × Puts before after bytes

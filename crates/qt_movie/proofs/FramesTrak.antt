@@ -9,7 +9,7 @@ use Rattle.qt_tables.specs.Writing.{sizes_of, places_of}
 use Rattle.qt_movie.specs.declared.trak.Media.TheVariants as media
 use Rattle.qt_movie.specs.Bodies.{nodes_bytes}
 use Rattle.qt_movie.specs.Trak.{TrakValues, IsTrak, trak_node, moov_of_traks}
-use Rattle.qt_movie.specs.MovieBytes.{kind_of, bits_of, one_run, duration_of, frames_trak, moov_bytes, extents_from, extents}
+use Rattle.qt_movie.specs.MovieBytes.{kind_of, pixel_bits, one_run, duration_of, frames_trak, moov_bytes, extents_from, extents}
 
 -- ---- tracks one behind the other
 
@@ -59,7 +59,7 @@ values duration timescale kind width height depth stts stsc count sizes offsets 
 }
 
 pub trak_is : (head : Head) (sizes : List ℕ) (duration : ℕ) (kind : List ℕ) (bits : ℕ) (stts : List (ℕ × ℕ)) (stsc : List (ℕ × ℕ × ℕ)) (count : ℕ) (offsets : List ℕ)
-    → duration ≡ length sizes * head.den → count ≡ length sizes → kind ≡ kind_of head → bits ≡ bits_of head.alpha → stts ≡ one_run count (count, head.den) → stsc ≡ one_run count (1, 1, 1) → offsets ≡ places_of (extents sizes)
+    → duration ≡ length sizes * head.den → count ≡ length sizes → kind ≡ kind_of head → bits ≡ pixel_bits head.alpha → stts ≡ one_run count (count, head.den) → stsc ≡ one_run count (1, 1, 1) → offsets ≡ places_of (extents sizes)
     → values duration head.num kind head.width head.height bits stts stsc count sizes offsets ≡ frames_trak head (extents sizes)
 trak_is head sizes duration kind bits stts stsc count offsets d n k b t c o =
     let m : count ≡ length (extents sizes) = n ∙ sym (length-extents sizes) in
@@ -70,11 +70,11 @@ trak_is head sizes duration kind bits stts stsc count offsets d n k b t c o =
     ap (λ d. values d head.num kind head.width head.height bits stts stsc count sizes offsets) e
     ∙ ap (λ k. values (duration_of head (extents sizes)) head.num k head.width head.height bits stts stsc count sizes offsets) k
     ∙ ap (λ b. values (duration_of head (extents sizes)) head.num (kind_of head) head.width head.height b stts stsc count sizes offsets) b
-    ∙ ap (λ l. values (duration_of head (extents sizes)) head.num (kind_of head) head.width head.height (bits_of head.alpha) l stsc count sizes offsets) t'
-    ∙ ap (λ l. values (duration_of head (extents sizes)) head.num (kind_of head) head.width head.height (bits_of head.alpha) (one_run (length (extents sizes)) (length (extents sizes), head.den)) l count sizes offsets) c'
-    ∙ ap (λ n. values (duration_of head (extents sizes)) head.num (kind_of head) head.width head.height (bits_of head.alpha) (one_run (length (extents sizes)) (length (extents sizes), head.den)) (one_run (length (extents sizes)) (1, 1, 1)) n sizes offsets) m
-    ∙ ap (λ l. values (duration_of head (extents sizes)) head.num (kind_of head) head.width head.height (bits_of head.alpha) (one_run (length (extents sizes)) (length (extents sizes), head.den)) (one_run (length (extents sizes)) (1, 1, 1)) (length (extents sizes)) sizes l) o
-    ∙ ap (λ l. values (duration_of head (extents sizes)) head.num (kind_of head) head.width head.height (bits_of head.alpha) (one_run (length (extents sizes)) (length (extents sizes), head.den)) (one_run (length (extents sizes)) (1, 1, 1)) (length (extents sizes)) l (places_of (extents sizes))) s
+    ∙ ap (λ l. values (duration_of head (extents sizes)) head.num (kind_of head) head.width head.height (pixel_bits head.alpha) l stsc count sizes offsets) t'
+    ∙ ap (λ l. values (duration_of head (extents sizes)) head.num (kind_of head) head.width head.height (pixel_bits head.alpha) (one_run (length (extents sizes)) (length (extents sizes), head.den)) l count sizes offsets) c'
+    ∙ ap (λ n. values (duration_of head (extents sizes)) head.num (kind_of head) head.width head.height (pixel_bits head.alpha) (one_run (length (extents sizes)) (length (extents sizes), head.den)) (one_run (length (extents sizes)) (1, 1, 1)) n sizes offsets) m
+    ∙ ap (λ l. values (duration_of head (extents sizes)) head.num (kind_of head) head.width head.height (pixel_bits head.alpha) (one_run (length (extents sizes)) (length (extents sizes), head.den)) (one_run (length (extents sizes)) (1, 1, 1)) (length (extents sizes)) sizes l) o
+    ∙ ap (λ l. values (duration_of head (extents sizes)) head.num (kind_of head) head.width head.height (pixel_bits head.alpha) (one_run (length (extents sizes)) (length (extents sizes), head.den)) (one_run (length (extents sizes)) (1, 1, 1)) (length (extents sizes)) l (places_of (extents sizes))) s
 
 run-few : {Run : Type 0} (b : Bool) (run : Run) → length (if b then [] else run ∷ []) ≤ 1
 run-few true run = omega arith

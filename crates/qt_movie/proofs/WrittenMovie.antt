@@ -15,7 +15,7 @@ use Rattle.qt_tables.proofs.Again.{written_given}
 use Rattle.qt_tables.proofs.Reread.{is-not-none}
 use Rattle.qt_movie.specs.Movie.{is_prores, Movie, movie_in}
 use Rattle.qt_movie.specs.Trak.{TrakValues, IsTrak}
-use Rattle.qt_movie.specs.MovieBytes.{is_422, kind_of, bits_of, one_run, duration_of, frames_trak, moov_bytes, extents_from, extents, movie_bytes}
+use Rattle.qt_movie.specs.MovieBytes.{is_422, kind_of, pixel_bits, one_run, duration_of, frames_trak, moov_bytes, extents_from, extents, movie_bytes}
 use Rattle.qt_movie.specs.Laws.{written_movie, traks_bytes, tables_of, HasKind, IsReadable, one_each, HasSamples}
 use Rattle.qt_movie.proofs.Frames.{frames_lie}
 use Rattle.qt_movie.proofs.FramesTrak.{length-extents, trak_can}
@@ -95,7 +95,7 @@ sizes-fit [] h = tt
 sizes-fit (e ∷ es) h = (h.0, sizes-fit es h.1)
 
 readable : (head : Head) (es : List Extent) → IsHead head → length es ≤ 1000000 → AllByRecursion (λ (e : Extent). e.at < 2 ^ 62) es → AllByRecursion (λ (e : Extent). e.size < 2 ^ 32) es
-    → IsReadable (frames_trak head es) (kind_of head) head.width head.height (bits_of head.alpha)
+    → IsReadable (frames_trak head es) (kind_of head) head.width head.height (pixel_bits head.alpha)
 readable head es is few close sized =
     let t = frames_trak head es in
     let ss = written_samples es head.den in
@@ -145,7 +145,7 @@ movie_read head frames is few small =
     let r = readable head es is all close (extents-sized 20 sizes (sizes-small frames each)) in
     let fit = All-from_recursion (λ (frame : List ℕ). length frame + 8 < 2 ^ 32) frames (frames-fit frames each) in
     ap movie_in (movie-is head frames)
-    ∙ traks_read frames head.num (duration_of head es) t [] (kind_of head) head.width head.height (bits_of head.alpha) fit r (All-from_recursion IsTrak [] tt) (All-from_recursion (λ (o : TrakValues). HasKind o.media) [] tt) (omega arith)
+    ∙ traks_read frames head.num (duration_of head es) t [] (kind_of head) head.width head.height (pixel_bits head.alpha) fit r (All-from_recursion IsTrak [] tt) (All-from_recursion (λ (o : TrakValues). HasKind o.media) [] tt) (omega arith)
     ∙ ap (λ (T : Tables). (let m : Movie = record { number = 1; kind = kind_of head; width = head.width; height = head.height; tables = T } in Ok m)) (tables-same head es)
 
 -- ---- its samples

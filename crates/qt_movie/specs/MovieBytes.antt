@@ -40,10 +40,10 @@ abbrev pub kind_of : Head → List ℕ
 kind_of head = if is_422 head then codes "apch" else codes "ap4h"
 
 -- bits of a pixel
-abbrev pub bits_of : AlphaKind → ℕ
-bits_of alphas.Absent = 24
-bits_of alphas.Eight = 32
-bits_of alphas.Sixteen = 32
+abbrev pub pixel_bits : AlphaKind → ℕ
+pixel_bits alphas.Absent = 24
+pixel_bits alphas.Eight = 32
+pixel_bits alphas.Sixteen = 32
 
 -- the duration of so many frames
 abbrev pub duration_of : Head → List Extent → ℕ
@@ -60,7 +60,7 @@ frames_trak head es = record {
   movie_duration = duration_of head es;
   timescale = head.num;
   duration = duration_of head es;
-  media = media.Video (kind_of head) head.width head.height (bits_of head.alpha);
+  media = media.Video (kind_of head) head.width head.height (pixel_bits head.alpha);
   stts = one_run (length es) (length es, head.den);
   stsc = one_run (length es) (1, 1, 1);
   common = 0;

@@ -4,7 +4,7 @@ ghost use Rattle.std.specs.Prelude.{◌≡◌, ◌≤◌, ◌*◌, length, IfOk}
 ghost use Rattle.pic_y4m.specs.HeadLine.{IsHead};
 ghost use Rattle.qt_tables.specs.Writing.{places_of};
 ghost use Rattle.qt_movie.specs.Trak.{IsTrak};
-ghost use Rattle.qt_movie.specs.MovieBytes.{kind_of, bits_of, one_run, frames_trak, moov_bytes, extents};
+ghost use Rattle.qt_movie.specs.MovieBytes.{kind_of, pixel_bits, one_run, frames_trak, moov_bytes, extents};
 
 use crate::containers::write_moov;
 use crate::trak::{Media, Trak};
@@ -71,8 +71,8 @@ fn kind_of(head: &Head) -> [u8; 4]
     }
 }
 
-fn bits_of(alpha: AlphaKind) -> u16
-    ensures { result ≡ bits_of alpha }
+fn pixel_bits(alpha: AlphaKind) -> u16
+    ensures { result ≡ pixel_bits alpha }
 {
     match alpha {
         AlphaKind::Absent => 24,
@@ -100,7 +100,7 @@ fn trak_of(alloc: Global, head: &Head, duration: u32, sizes: Vec<u32>) -> Result
             kind: kind_of(head),
             width: head.width,
             height: head.height,
-            depth: bits_of(head.alpha),
+            depth: pixel_bits(head.alpha),
         },
         stts,
         stsc,

@@ -9,7 +9,7 @@ ghost use Rattle.qt_atoms.specs.Atoms.{number_in};
 ghost use Rattle.qt_atoms.specs.Written.{rows};
 ghost use Rattle.qt_tables.specs.Faults.{told_fault, is_failed};
 ghost use Rattle.qt_tables.specs.Tables.{time_run_at, chunk_run_at};
-ghost use Rattle.qt_tables.specs.Window.{Shows};
+ghost use Rattle.qt_tables.specs.inner.Window.{Shows};
 
 use crate::fault::MovieFault;
 use crate::runs::{ChunkRun, TimeRun};

@@ -6,7 +6,7 @@ ghost use Rattle.pw_outside.specs.Ports.{CountsFault};
 ghost use Rattle.pw_outside.specs.Reading.{Answers, Told};
 ghost use Rattle.qt_atoms.specs.Atoms.{number_in};
 ghost use Rattle.qt_tables.specs.Faults.{told_fault, is_failed};
-ghost use Rattle.qt_tables.specs.Window.{Shows};
+ghost use Rattle.qt_tables.specs.inner.Window.{Shows};
 
 use crate::fault::{MovieFault, MovieKind, bad};
 use pw_outside::{ByteStore, fill_at};

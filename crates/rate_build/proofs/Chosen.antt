@@ -11,7 +11,7 @@ use Rattle.pr_frame.specs.declared.coded.CodedSlice.{CodedSlice}
 use Rattle.pr_frame.specs.Coded.{AreCodedSlices, IsWritableBlock}
 use Rattle.rate_build.specs.declared.slices.SliceCoefficients.{SliceCoefficients}
 use Rattle.pr_quant.specs.Errors.{multipliers}
-use Rattle.rate_build.specs.Measures.{quantised_block, quantised_part, IsMultiplier, IsBlock}
+use Rattle.rate_build.specs.Measures.{quantised_block, quantised_part, IsFrameMultiplier, IsCoefficientBlock}
 use Rattle.rate_build.specs.Coefficients.{FrameCoefficients, IsSliceAt}
 use Rattle.rate_build.specs.Coding.{coded_slice, coded_slices, coded_picture, weights_in, IsIndex}
 use Rattle.rate_build.proofs.InTurn.{take_more}
@@ -23,10 +23,10 @@ pub part_is : (weights : List ℕ) (index : ℕ) (blocks values : List (List ℤ
 unfolding quantised_part
 part_is weights index blocks values ms is e = e ∙ ap (λ (ms : List ℕ). map (quantised_block ms) blocks) is
 
-block_writable : (ms : List ℕ) → ((p : ℕ) → p < 64 → IsMultiplier (get_or ms p 0)) → (block : List ℤ) → IsBlock block → IsWritableBlock (quantised_block ms block)
+block_writable : (ms : List ℕ) → ((p : ℕ) → p < 64 → IsFrameMultiplier (get_or ms p 0)) → (block : List ℤ) → IsCoefficientBlock block → IsWritableBlock (quantised_block ms block)
 block_writable ms are block is k d l = subst (λ (v : ℤ). nat_abs v ≤ 8191) (get_or_default (quantised_block ms block) k (pos 0) d l) (value_small ms are block is.within k)
 
-pub blocks_writable : (ms : List ℕ) → ((p : ℕ) → p < 64 → IsMultiplier (get_or ms p 0)) → (blocks values : List (List ℤ)) → All IsBlock blocks → values ≡ map (quantised_block ms) blocks → All IsWritableBlock values
+pub blocks_writable : (ms : List ℕ) → ((p : ℕ) → p < 64 → IsFrameMultiplier (get_or ms p 0)) → (blocks values : List (List ℤ)) → All IsCoefficientBlock blocks → values ≡ map (quantised_block ms) blocks → All IsWritableBlock values
 blocks_writable ms are blocks values each e =
     subst (All IsWritableBlock) (sym e) (All-map IsWritableBlock (quantised_block ms) blocks (λ k d l. block_writable ms are (get_or blocks k d) (each k d l)))
 

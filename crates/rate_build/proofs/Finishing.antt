@@ -14,7 +14,7 @@ use Rattle.rate_build.specs.declared.costs.Measure.{Measure}
 use Rattle.rate_build.specs.declared.walk.State.{State}
 use Rattle.pr_quant.specs.Errors.{multipliers, part_error}
 use Rattle.rate_build.specs.Measures.{quantised_block, quantised_part, measured, ArePart}
-use Rattle.rate_build.specs.Walk.{start_state, IsSound, after_places, squares_at, squares_behind, dc_gain, dc_values}
+use Rattle.rate_build.specs.inner.Walk.{start_state, IsSound, after_places, squares_at, squares_behind, dc_gain, dc_values}
 use Rattle.rate_build.proofs.Walking.{multiplier_two, places_sound}
 use Rattle.rate_build.proofs.Following.{all_bits}
 use Rattle.rate_build.proofs.Gaining.{part_gain}

@@ -16,7 +16,7 @@ use Rattle.pr_coeff.proofs.CodingLemmas.{column_more, listed_more}
 use Rattle.rate_build.specs.declared.walk.State.{State}
 use Rattle.pr_quant.specs.Errors.{multipliers}
 use Rattle.rate_build.specs.Measures.{quantised_block}
-use Rattle.rate_build.specs.Walk.{start_state, level_at, taken, after_value, after_blocks, after_places, size_at}
+use Rattle.rate_build.specs.inner.Walk.{start_state, level_at, taken, after_value, after_blocks, after_places, size_at}
 use Rattle.rate_build.proofs.Walking.{value_none, value_some}
 
 -- the state behind n places with these values

@@ -13,7 +13,7 @@ use Rattle.pr_coeff.specs.declared.scan.Scan.{Scan}
 use Rattle.pr_coeff.specs.declared.scan.Scan.TheVariants.{Progressive, Interlaced}
 use Rattle.rate_build.specs.declared.walk.State.{State}
 use Rattle.pr_quant.specs.Errors.{multipliers, block_error, part_error}
-use Rattle.rate_build.specs.Walk.{start_state, level_at, taken, after_value, after_blocks, after_places, size_at, sum_blocks, squares_at, squares_behind, dc_gain}
+use Rattle.rate_build.specs.inner.Walk.{start_state, level_at, taken, after_value, after_blocks, after_places, size_at, sum_blocks, squares_at, squares_behind, dc_gain}
 use Rattle.rate_build.proofs.Walking.{value_none, value_some}
 
 -- ---- one value

@@ -8,7 +8,7 @@ use Rattle.std.proofs.lemmas.List.Sums.{sum_by-cons}
 use Rattle.pr_geom.specs.Layout.{slices_of}
 use Rattle.pr_geom.specs.Slices.{pictures_of}
 use Rattle.pr_quant.specs.declared.weights.Weights.{Weights}
-use Rattle.rate_table.specs.Table.{Table, IsTable, IsSlice}
+use Rattle.rate_table.specs.Table.{Table, IsTable, IsSliceTable}
 use Rattle.rate_build.specs.Coefficients.{FrameCoefficients, AreOfLayout}
 use Rattle.rate_build.specs.Tables.{table_of, fixed_bytes, AreWeights}
 use Rattle.rate_build.specs.Laws.{AreMatrices}
@@ -29,7 +29,7 @@ module _ (w : Weights) (whole : AreMatrices w) (weights : AreWeights w) (lo hi b
     fixed_few : sum_by (λ (t : Table). t.fixed) (map one cs) ≤ 172 * length cs + 2 * group_slices cs
     number : length (flat_map (λ (t : Table). t.slices) (map one cs)) ≡ group_slices cs
     frames : length cs ≤ group_slices cs
-    each : All IsSlice (flat_map (λ (t : Table). t.slices) (map one cs))
+    each : All IsSliceTable (flat_map (λ (t : Table). t.slices) (map one cs))
 
   fixed_of : (c : FrameCoefficients) → AreOfLayout c → fixed_bytes c.layout ≤ 172 + 2 * length c.slices
   fixed_of c are =
@@ -39,7 +39,7 @@ module _ (w : Weights) (whole : AreMatrices w) (weights : AreWeights w) (lo hi b
       omega (arith, two, slices_number c are, (pictures_few c.layout.interlace).1)
 
   bounds : (cs : List FrameCoefficients) → All AreOfLayout cs → Bounds cs
-  bounds [] are = record { budget_is = omega arith; fixed_few = omega arith; number = refl; frames = omega arith; each = All-nil IsSlice }
+  bounds [] are = record { budget_is = omega arith; fixed_few = omega arith; number = refl; frames = omega arith; each = All-nil IsSliceTable }
   bounds (c ∷ cs) are =
       let first = All-head AreOfLayout c cs are in
       let t = one_within c first in
@@ -52,7 +52,7 @@ module _ (w : Weights) (whole : AreMatrices w) (weights : AreWeights w) (lo hi b
         fixed_few = omega (arith, b.fixed_few, slices, fixed_of c first, sum_by-cons (λ (t : Table). t.fixed) (one c) (map one cs));
         number = omega (arith, n, b.number, slices, length-append (one c).slices (flat_map (λ (t : Table). t.slices) (map one cs)));
         frames = omega (arith, t.some, n, b.frames, slices);
-        each = All-append IsSlice (one c).slices (flat_map (λ (t : Table). t.slices) (map one cs)) t.each b.each;
+        each = All-append IsSliceTable (one c).slices (flat_map (λ (t : Table). t.slices) (map one cs)) t.each b.each;
       }
 
 pub group_within : GroupTableIsTable

@@ -18,7 +18,7 @@ use Rattle.pw_planes.specs.declared.kinds.Interlace.TheVariants.{Progressive, To
 use Rattle.pw_planes.specs.declared.kinds.Parity.{Parity}
 use Rattle.pw_planes.specs.declared.kinds.Parity.TheVariants.{Top, Bottom}
 use Rattle.pw_planes.specs.Plane.{Raster, sample_at, block_at, field_of, samples_at}
-use Rattle.pw_planes.specs.Samples.{bits_of, signed_sample, first_row}
+use Rattle.pw_planes.specs.Samples.{sample_bits, signed_sample, first_row}
 use Rattle.pw_planes.proofs.RowLemmas.{length-raster, All-raster}
 use Rattle.pr_geom.specs.declared.layout.Layout.{Layout}
 use Rattle.pr_geom.specs.declared.places.Part.{Part}
@@ -30,10 +30,10 @@ use Rattle.pr_geom.specs.Slices.{pictures_of}
 use Rattle.pr_geom.proofs.BlockLemmas.{length-blocks_of}
 use Rattle.pr_geom.proofs.SliceLemmas.{slice_inside}
 use Rattle.pr_dct.specs.Transform.{cosines, coefficient, coefficients, AreWithin}
-use Rattle.pr_dct.specs.Passes.{row_sums}
+use Rattle.pr_dct.specs.inner.Passes.{row_sums}
 use Rattle.pr_dct.proofs.PassLemmas.{cosines_reach, passes, all_within}
 use Rattle.pr_frame.specs.Forms.{alpha_count, alpha_depth}
-use Rattle.rate_build.specs.Measures.{IsBlock, ArePart}
+use Rattle.rate_build.specs.Measures.{IsCoefficientBlock, ArePart}
 use Rattle.rate_build.specs.Coefficients.{coefficients_at, part_coefficients, alpha_values, Planes, field_of_alpha, field_planes, coded_pictures, planes_of, slice_coefficients, picture_coefficients, IsSliceAt, HasDepth}
 use Rattle.rate_build.specs.Laws.{HasAlpha, CoefficientsAreOfLayout}
 use Rattle.rate_build.proofs.Sliced.{part_length}
@@ -54,7 +54,7 @@ field_below p parity limit some small =
     All-raster (λ s. s < limit) p.width (p.height / 2) (λ column row. sample_at p column (2 * row + first_row parity))
     (λ column row _ _. sample_below p column (2 * row + first_row parity) limit some small)
 
-some_samples : (depth : Depth) → 0 < 2 ^ bits_of depth
+some_samples : (depth : Depth) → 0 < 2 ^ sample_bits depth
 some_samples D8 = omega arith
 some_samples D10 = omega arith
 some_samples D12 = omega arith
@@ -62,9 +62,9 @@ some_samples D12 = omega arith
 -- the samples of a field have the depth of its frame's
 pub field_has_depth : (frame field : Raster) (parity : Parity) (depth other : Depth) → field ≡ field_of frame parity → other ≡ depth → HasDepth frame depth → HasDepth field other
 field_has_depth frame field parity depth other is same small =
-    subst (HasDepth field) (sym same) (subst (λ plane. HasDepth plane depth) (sym is) (field_below frame parity (2 ^ bits_of depth) (some_samples depth) small))
+    subst (HasDepth field) (sym same) (subst (λ plane. HasDepth plane depth) (sym is) (field_below frame parity (2 ^ sample_bits depth) (some_samples depth) small))
 
-signed_small : (depth : Depth) (s : ℕ) → s < 2 ^ bits_of depth → nat_abs (signed_sample depth s) ≤ 2048
+signed_small : (depth : Depth) (s : ℕ) → s < 2 ^ sample_bits depth → nat_abs (signed_sample depth s) ≤ 2048
 signed_small D8 s h = omega (arith, ints)
 signed_small D10 s h = omega (arith, ints)
 signed_small D12 s h = omega (arith, ints)
@@ -78,7 +78,7 @@ block_within p x y depth small k h =
     let each : All (λ (v : ℤ). nat_abs v ≤ 2048) (map (signed_sample depth) (samples_at p x y)) =
     All-map (λ (v : ℤ). nat_abs v ≤ 2048) (signed_sample depth) (samples_at p x y)
     (All-raster (λ s. nat_abs (signed_sample depth s) ≤ 2048) 8 8 f
-    (λ column row _ _. signed_small depth (f column row) (sample_below p (x + column) (y + row) (2 ^ bits_of depth) (some_samples depth) small))) in
+    (λ column row _ _. signed_small depth (f column row) (sample_below p (x + column) (y + row) (2 ^ sample_bits depth) (some_samples depth) small))) in
     each k (pos 0) (omega (arith, length-map (samples_at p x y) (signed_sample depth), length-raster 8 8 f))
 
 coefficients_within : (b : List ℤ) → AreWithin 2048 b → AreWithin 16383 (coefficients b)
@@ -86,7 +86,7 @@ coefficients_within b h =
     let rows = row_sums cosines b in
     all_within cosines cosines_reach 2048 b h b rows (row_sums cosines rows) (coefficients b) 16383 refl refl refl (sym (passes cosines b)) (lit< tt)
 
-block_is : (p : Raster) (depth : Depth) (corner : ℕ × ℕ) → HasDepth p depth → IsBlock (coefficients_at p depth corner)
+block_is : (p : Raster) (depth : Depth) (corner : ℕ × ℕ) → HasDepth p depth → IsCoefficientBlock (coefficients_at p depth corner)
 unfolding coefficients_at
 block_is p depth corner small = record {
   whole = length-map-range_with_len (λ k. coefficient (block_at p corner.0 corner.1 depth) (k / 8) (k % 8)) 0 64;
@@ -113,7 +113,7 @@ part_is p depth chroma part slice small some few =
     record {
       some = omega (arith, number, low);
       few = omega (arith, number, high);
-      each = All-map IsBlock (coefficients_at p depth) (blocks_of chroma part slice) (λ k d l. block_is p depth (get_or (blocks_of chroma part slice) k d) small);
+      each = All-map IsCoefficientBlock (coefficients_at p depth) (blocks_of chroma part slice) (λ k d l. block_is p depth (get_or (blocks_of chroma part slice) k d) small);
     }
 
 alpha_below : (plane : Raster) (slice : SlicePlace) (limit : ℕ) → 0 < limit → All (λ value. value < limit) plane.samples → All (λ value. value < limit) (alpha_values (Some plane) slice)
@@ -191,7 +191,7 @@ field_alpha Sixteen (Some plane) parity h = field_below plane parity (2 ^ 16) (o
 field_is : (depth : Depth) (alpha : AlphaKind) (p : Planes) (parity : Parity) → ArePlanes depth alpha p → ArePlanes depth alpha (field_planes p parity)
 field_is depth alpha p parity are =
     let some = some_samples depth in
-    let limit = 2 ^ bits_of depth in
+    let limit = 2 ^ sample_bits depth in
     record {
       y = field_below p.y parity limit some are.y;
       cb = field_below p.cb parity limit some are.cb;

@@ -19,7 +19,7 @@ use Rattle.pr_frame.specs.Forms.{scan_of, has_alpha}
 use Rattle.pr_frame.specs.Written.{component_bytes}
 use Rattle.pr_frame.proofs.Short.{with-short}
 use Rattle.rate_build.specs.Coding.{coded_slice}
-use Rattle.rate_table.specs.Table.{IsEntry, IndicesRise, IsSlice}
+use Rattle.rate_table.specs.Table.{IsEntry, IndicesRise, IsSliceTable}
 use Rattle.rate_build.specs.declared.slices.SliceCoefficients.{SliceCoefficients}
 use Rattle.rate_build.specs.Tables.{entry_of, entries_of, fixed_bytes, HasParts, AreWeights}
 use Rattle.rate_build.specs.Laws.{AreMatrices, TableIsTable}
@@ -59,7 +59,7 @@ module _ (mode : Interlace) (alpha : AlphaKind) (w : Weights) (whole : AreMatric
     );
   }
 
-  pub slice_within : (lo hi : ℕ) → 1 ≤ lo → lo ≤ hi → hi ≤ 224 → IsSlice (entries_of mode alpha w lo hi s)
+  pub slice_within : (lo hi : ℕ) → 1 ≤ lo → lo ≤ hi → hi ≤ 224 → IsSliceTable (entries_of mode alpha w lo hi s)
   unfolding entries_of
   slice_within lo hi least order most =
       let n = hi + 1 - lo in
@@ -101,5 +101,5 @@ table_within c w lo hi budget are whole weights least order most some_budget bud
       fixed_limit = fixed_small c.layout;
       some = omega (arith, n, number.0);
       few = omega (arith, n, number.1);
-      each = All-map IsSlice f c.slices (λ k d l. slice_within c.layout.interlace c.alpha w whole weights (get_or c.slices k d) (parts k d l) lo hi least order most);
+      each = All-map IsSliceTable f c.slices (λ k d l. slice_within c.layout.interlace c.alpha w whole weights (get_or c.slices k d) (parts k d l) lo hi least order most);
     }

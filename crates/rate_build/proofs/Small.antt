@@ -22,7 +22,7 @@ use Rattle.rate_build.specs.declared.costs.Measure.{Measure}
 use Rattle.pr_coeff.proofs.CostLemmas.{component_cost}
 use Rattle.pr_coeff.proofs.WovenLemmas.{AllSmall_from}
 use Rattle.pr_quant.specs.Errors.{multipliers, part_error}
-use Rattle.rate_build.specs.Measures.{quantised_block, quantised_part, measured, all_measured, no_measure, IsSmall, AreSmall, IsMultiplier, IsBlock, ArePart}
+use Rattle.rate_build.specs.Measures.{quantised_block, quantised_part, measured, all_measured, no_measure, IsSmall, AreSmall, IsFrameMultiplier, IsCoefficientBlock, ArePart}
 
 -- ---- multipliers
 
@@ -33,17 +33,17 @@ scale_range index least most = elim (cases_lt 128 index) [
 ]
 
 -- a product of a weight and a factor of an index
-product_range : (w f : ℕ) → (2 ≤ w) × (w ≤ 63) → (1 ≤ f) × (f ≤ 512) → IsMultiplier (w * f)
+product_range : (w f : ℕ) → (2 ≤ w) × (w ≤ 63) → (1 ≤ f) × (f ≤ 512) → IsFrameMultiplier (w * f)
 product_range w f weight factor = record {
   least = omega (arith, mul-le 2 1 w f weight.0 factor.0);
   most = omega (arith, mul-le w f 63 512 weight.1 factor.1);
 }
 
-pub are_multipliers : (weights : List ℕ) (index : ℕ) → length weights ≡ 64 → All IsWeight weights → 1 ≤ index → index ≤ 224 → (p : ℕ) → p < 64 → IsMultiplier (get_or (multipliers weights index) p 0)
+pub are_multipliers : (weights : List ℕ) (index : ℕ) → length weights ≡ 64 → All IsWeight weights → 1 ≤ index → index ≤ 224 → (p : ℕ) → p < 64 → IsFrameMultiplier (get_or (multipliers weights index) p 0)
 unfolding multipliers
 are_multipliers weights index whole each least most p h =
     let lt : p < length weights = omega arith in
-    subst IsMultiplier (sym (get_or-map (λ (w : ℕ). w * scale_of index) weights p 0 0 lt)) (product_range (get_or weights p 0) (scale_of index) (each p 0 lt) (scale_range index least most))
+    subst IsFrameMultiplier (sym (get_or-map (λ (w : ℕ). w * scale_of index) weights p 0 0 lt)) (product_range (get_or weights p 0) (scale_of index) (each p 0 lt) (scale_range index least most))
 
 -- ---- quantised values
 
@@ -51,7 +51,7 @@ pub quantised_whole : (ms : List ℕ) (block : List ℤ) → length (quantised_b
 unfolding quantised_block
 quantised_whole ms block = length-map-range_with_len (λ p. quantised (get_or block p (pos 0)) (get_or ms p 0)) 0 64
 
-module _ (ms : List ℕ) (are : (p : ℕ) → p < 64 → IsMultiplier (get_or ms p 0)) where
+module _ (ms : List ℕ) (are : (p : ℕ) → p < 64 → IsFrameMultiplier (get_or ms p 0)) where
   pub value_small : (block : List ℤ) → AreWithin greatest_coefficient block → (k : ℕ) → nat_abs (get_or (quantised_block ms block) k (pos 0)) ≤ 8191
   unfolding quantised_block
   value_small block within k = elim (cases_lt k 64) [
@@ -61,13 +61,13 @@ module _ (ms : List ℕ) (are : (p : ℕ) → p < 64 → IsMultiplier (get_or ms
     | inr h ↦ rw (get_or_past (quantised_block ms block) k (pos 0) (omega (arith, length-map-range_with_len (λ p. quantised (get_or block p (pos 0)) (get_or ms p 0)) 0 64))) (omega arith)
   ]
 
-  pub blocks_fit : (blocks : List (List ℤ)) → All IsBlock blocks → AreBlocks (map (quantised_block ms) blocks)
+  pub blocks_fit : (blocks : List (List ℤ)) → All IsCoefficientBlock blocks → AreBlocks (map (quantised_block ms) blocks)
   blocks_fit [] each = tt
   blocks_fit (b ∷ blocks) each =
-      let small = value_small b (All-head IsBlock b blocks each).within in
-      (quantised_whole ms b, AllSmall_from (quantised_block ms b) (λ k l. omega (arith, small k)), blocks_fit blocks (All-tail IsBlock b blocks each))
+      let small = value_small b (All-head IsCoefficientBlock b blocks each).within in
+      (quantised_whole ms b, AllSmall_from (quantised_block ms b) (λ k l. omega (arith, small k)), blocks_fit blocks (All-tail IsCoefficientBlock b blocks each))
 
-  pub values_small : (blocks : List (List ℤ)) → All IsBlock blocks → (i place : ℕ) → nat_abs (get_or (get_or (map (quantised_block ms) blocks) i []) place (pos 0)) ≤ 8191
+  pub values_small : (blocks : List (List ℤ)) → All IsCoefficientBlock blocks → (i place : ℕ) → nat_abs (get_or (get_or (map (quantised_block ms) blocks) i []) place (pos 0)) ≤ 8191
   values_small blocks each i place = elim (cases_lt i (length blocks)) [
     | inl h ↦ rw (get_or-map (quantised_block ms) blocks i [] [] h) (value_small (get_or blocks i []) (each i [] h).within place)
     | inr h ↦ rw (get_or_past (map (quantised_block ms) blocks) i [] (omega (arith, length-map blocks (quantised_block ms)))) (omega arith)

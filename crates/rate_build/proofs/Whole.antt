@@ -18,7 +18,7 @@ use Rattle.pr_frame.proofs.Short.{few-values}
 use Rattle.pr_geom.specs.Layout.{slices_of}
 use Rattle.pr_geom.specs.Slices.{pictures_of}
 use Rattle.rate_table.specs.declared.entry.Entry.{Entry}
-use Rattle.rate_table.specs.Table.{IsEntry, IsSlice, IsChoice, error_of}
+use Rattle.rate_table.specs.Table.{IsEntry, IsSliceTable, IsChoice, error_of}
 use Rattle.rate_build.specs.declared.slices.SliceCoefficients.{SliceCoefficients}
 use Rattle.rate_build.specs.Coefficients.{FrameCoefficients, IsSliceAt, frame_places, AreOfLayout}
 use Rattle.rate_build.specs.Tables.{HasParts}
@@ -67,15 +67,15 @@ frame_slices c h some few =
 
 -- ---- errors
 
-choice_error : (slices : List (List Entry)) (choice : List Entry) → All IsSlice slices → IsChoice slices choice → error_of choice ≤ length slices * 2 ^ 43
+choice_error : (slices : List (List Entry)) (choice : List Entry) → All IsSliceTable slices → IsChoice slices choice → error_of choice ≤ length slices * 2 ^ 43
 choice_error [] [] each h = omega arith
 choice_error [] (e ∷ choice) each h = absurd h
 choice_error (s ∷ slices) [] each h = absurd h
 choice_error (s ∷ slices) (e ∷ choice) each h =
-    let limits = (All-contains IsEntry s e (All-head IsSlice s slices each).limits h.0).error in
-    let rest = choice_error slices choice (All-tail IsSlice s slices each) h.1 in
+    let limits = (All-contains IsEntry s e (All-head IsSliceTable s slices each).limits h.0).error in
+    let rest = choice_error slices choice (All-tail IsSliceTable s slices each) h.1 in
     omega (arith, limits, rest, sum_by-cons (λ (x : Entry). x.error) e choice)
 
 -- the error of a choice of at most 131,070 slices
-pub choice_error_small : (slices : List (List Entry)) (choice : List Entry) → All IsSlice slices → length slices ≤ 131070 → IsChoice slices choice → error_of choice < 2 ^ 60
+pub choice_error_small : (slices : List (List Entry)) (choice : List Entry) → All IsSliceTable slices → length slices ≤ 131070 → IsChoice slices choice → error_of choice < 2 ^ 60
 choice_error_small slices choice each few h = omega (arith, choice_error slices choice each h, mul-le-mul_right (2 ^ 43) few)

@@ -13,7 +13,7 @@ use Rattle.pw_planes.specs.declared.picture.Picture.{Picture}
 use Rattle.pw_planes.specs.Plane.{Raster, sample_at, block_at, field_of}
 use Rattle.pw_planes.specs.Picture.{HasSize}
 use Rattle.pw_planes.specs.Rows.{raster}
-use Rattle.pw_planes.specs.Samples.{bits_of}
+use Rattle.pw_planes.specs.Samples.{sample_bits}
 use Rattle.pr_geom.specs.declared.layout.Layout.{Layout}
 use Rattle.pr_geom.specs.declared.places.Part.{Part}
 use Rattle.pr_geom.specs.declared.places.Part.TheVariants.{Y, Cb, Cr}
@@ -115,7 +115,7 @@ AreOfLayout c = AllZip (IsSliceAt c.layout.chroma c.alpha) (frame_places c.layou
 
 -- the samples of a plane are of this depth
 abbrev pub HasDepth : Raster → Depth → Type 0
-HasDepth plane depth = All (λ sample. sample < 2 ^ bits_of depth) plane.samples
+HasDepth plane depth = All (λ sample. sample < 2 ^ sample_bits depth) plane.samples
 
 -- a picture of the layout's size and chroma format, with samples of its depth
 pub record IsPictureOf (l : Layout) (p : Picture) : Type 0 where

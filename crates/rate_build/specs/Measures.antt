@@ -9,7 +9,7 @@ use Rattle.pr_coeff.specs.Component.{component}
 use Rattle.rate_build.specs.declared.costs.Measure.{Measure}
 
 -- a multiplier of written frames
-pub record IsMultiplier (m : ℕ) : Type 0 where
+pub record IsFrameMultiplier (m : ℕ) : Type 0 where
   pub least : 2 ≤ m
   pub most : m ≤ greatest_multiplier
 
@@ -33,7 +33,7 @@ abbrev pub all_measured : List ℕ → List ℕ → List (List ℤ) → ℕ → 
 all_measured scan weights blocks lo hi = map (measured scan weights blocks) (range_with_len lo (hi + 1 - lo))
 
 -- a block of coefficients
-pub record IsBlock (block : List ℤ) : Type 0 where
+pub record IsCoefficientBlock (block : List ℤ) : Type 0 where
   pub whole : length block ≡ 64
   pub within : AreWithin greatest_coefficient block
 
@@ -41,7 +41,7 @@ pub record IsBlock (block : List ℤ) : Type 0 where
 pub record ArePart (blocks : List (List ℤ)) : Type 0 where
   pub some : 1 ≤ length blocks
   pub few : length blocks ≤ 32
-  pub each : All IsBlock blocks
+  pub each : All IsCoefficientBlock blocks
 
 -- a measure within the bounds that parts have
 pub record IsSmall (m : Measure) : Type 0 where

@@ -7,7 +7,7 @@ ghost use Rattle.pr_quant.specs.Quantised.{quantised, error_of, greatest_coeffic
 ghost use Rattle.pr_quant.specs.Matrices.{IsWeight};
 ghost use Rattle.pr_coeff.specs.Component.{component, places};
 ghost use Rattle.pr_quant.specs.Errors.{multipliers, block_error, part_error};
-ghost use Rattle.rate_build.specs.Measures.{quantised_block, quantised_part, all_measured, IsMultiplier, IsBlock, ArePart};
+ghost use Rattle.rate_build.specs.Measures.{quantised_block, quantised_part, all_measured, IsFrameMultiplier, IsCoefficientBlock, ArePart};
 
 use crate::walk::{Measuring, measure_part};
 #[cfg(test)]
@@ -45,7 +45,7 @@ pub(crate) fn multipliers_of(weights: &[u8; 64], index: u8) -> [u32; 64]
 /// A coefficient quantised, and the square of what it loses.
 fn quantise_value(value: i16, multiplier: u32) -> (i16, u64)
     requires value { nat_abs value ≤ greatest_coefficient }
-    requires multiplier { IsMultiplier multiplier }
+    requires multiplier { IsFrameMultiplier multiplier }
     ensures value { result.0 ≡ quantised value multiplier }
     ensures error { result.1 ≡ error_of value multiplier }
     ensures small { result.1 < 2 ^ 28 }
@@ -59,7 +59,7 @@ fn quantise_value(value: i16, multiplier: u32) -> (i16, u64)
 /// Writes a block quantised, and gives the sum of its squared errors.
 pub(crate) fn quantise_block(block: &Block, multipliers: &[u32; 64], quantised: &mut Block) -> u64
     requires block { AreWithin greatest_coefficient block.now }
-    requires multipliers { (p : ℕ) → p < 64 → IsMultiplier (slice_index multipliers.now p) }
+    requires multipliers { (p : ℕ) → p < 64 → IsFrameMultiplier (slice_index multipliers.now p) }
     ensures value { quantised.new ≡ quantised_block multipliers.now block.now }
     ensures error { result ≡ block_error multipliers.now block.now }
     ensures small { result ≤ 64 * 2 ^ 28 }
@@ -81,8 +81,8 @@ pub(crate) fn quantise_blocks(
 ) -> u64
     requires few { length blocks.now ≤ 32 }
     requires room { length blocks.now ≤ length quantised.old }
-    requires each { All IsBlock blocks.now }
-    requires multipliers { (p : ℕ) → p < 64 → IsMultiplier (slice_index multipliers.now p) }
+    requires each { All IsCoefficientBlock blocks.now }
+    requires multipliers { (p : ℕ) → p < 64 → IsFrameMultiplier (slice_index multipliers.now p) }
     ensures value { take (length blocks.now) quantised.new ≡ map (quantised_block multipliers.now) blocks.now }
     ensures error { result ≡ sum_by (block_error multipliers.now) blocks.now }
     ensures small { result ≤ length blocks.now * (64 * 2 ^ 28) }
@@ -104,7 +104,7 @@ fn measure_at(
 ) -> Measure
     requires part { ArePart blocks.now }
     requires room { length blocks.now ≤ length quantised.old }
-    requires multipliers { (p : ℕ) → p < 64 → IsMultiplier (slice_index multipliers.now p) }
+    requires multipliers { (p : ℕ) → p < 64 → IsFrameMultiplier (slice_index multipliers.now p) }
     ensures bytes { result.bytes ≡ length (component (places scan) (map (quantised_block multipliers.now) blocks.now)) }
     ensures error { result.error ≡ sum_by (block_error multipliers.now) blocks.now }
 {

@@ -1,7 +1,7 @@
 //! Tables that were worked out outside of this crate.
 
 ghost use Rattle.std.specs.Prelude.{◌≡◌, ◌<◌, ◌^◌};
-ghost use Rattle.pw_planes.specs.Samples.{bits_of};
+ghost use Rattle.pw_planes.specs.Samples.{sample_bits};
 ghost use Rattle.std.specs.List.{All};
 ghost use Rattle.pr_geom.specs.Layout.{IsLayoutOf};
 ghost use Rattle.pr_dct.specs.Transform.{AreWithin};
@@ -51,7 +51,7 @@ fn plain(depth: Depth, log2: u8, matrix: Matrix) -> Form {
 }
 
 fn limit(depth: Depth) -> u32
-    ensures { result ≡ 2 ^ bits_of depth }
+    ensures { result ≡ 2 ^ sample_bits depth }
 {
     match depth {
         Depth::D8 => 256,

@@ -3,7 +3,7 @@
 ghost use Rattle.std.specs.Prelude.{◌≡◌, ◌++◌, ◌%◌, IfOk, IfSome, OnOk, Some};
 ghost use Rattle.pr_dct.specs.Transform.{AreWithin};
 ghost use Rattle.pr_geom.specs.Layout.{IsSlice};
-ghost use Rattle.rate_build.specs.Measures.{IsBlock, ArePart};
+ghost use Rattle.rate_build.specs.Measures.{IsCoefficientBlock, ArePart};
 ghost use Rattle.rate_build.specs.Coefficients.{coefficients_at, part_coefficients, alpha_values, field_of_alpha, planes_of, field_planes, slice_coefficients, picture_coefficients, frame_coefficients, AreOfLayout, HasDepth, IsPictureOf};
 ghost use Rattle.rate_build.specs.Laws.{HasAlpha};
 
@@ -32,7 +32,7 @@ fn narrowed(block: &[i32; 64]) -> Block
 fn block_of(plane: &Plane, depth: Depth, corner: (u32, u32)) -> Block
     requires { HasDepth plane.now depth }
     ensures value { result ≡ coefficients_at plane.now depth corner }
-    ensures block { IsBlock result }
+    ensures block { IsCoefficientBlock result }
 {
     let samples = plane.block(corner.0, corner.1, depth);
     narrowed(&forward(&samples))

@@ -11,7 +11,7 @@ ghost use Rattle.pr_quant.specs.Matrices.{IsWeight};
 ghost use Rattle.pr_head.specs.Laws.{sizes_bytes};
 ghost use Rattle.pr_frame.specs.Coded.{IsWritableHeader};
 ghost use Rattle.pr_frame.specs.Ready.{IsReadyPart, IsReadyAlpha};
-ghost use Rattle.pr_frame.specs.Written.{slice_bytes, picture_bytes, picture_length, written};
+ghost use Rattle.pr_frame.specs.Written.{slice_bytes, picture_bytes, picture_length, coded_bytes};
 ghost use Rattle.rate_build.specs.Measures.{quantised_part, ArePart};
 ghost use Rattle.rate_build.specs.Coding.{coded_slice, coded_slices, coded_picture, coded_frame, weights_in, IsHeaderOf, IsIndex};
 ghost use Rattle.rate_build.specs.Tables.{HasParts};
@@ -274,9 +274,9 @@ pub fn write_part<K: ByteSink>(
     requires tables { AreTablesOf coefficients.now (weights_in header.now) slices.now }
     requires choice { IsPart slices.now choice.now }
     // The sink took the bytes of the frame, and no others.
-    ensures ok { OnOk result (Puts (sink_state (K.held sink.old) (K.taken sink.old)) (sink_state (K.held sink.new) (K.taken sink.new)) (written (coded_frame coefficients.now header.now choice.now))) }
+    ensures ok { OnOk result (Puts (sink_state (K.held sink.old) (K.taken sink.old)) (sink_state (K.held sink.new) (K.taken sink.new)) (coded_bytes (coded_frame coefficients.now header.now choice.now))) }
     // Where a call failed, it took a front of them.
-    ensures err { OnErr result (PutsFront (sink_state (K.held sink.old) (K.taken sink.old)) (sink_state (K.held sink.new) (K.taken sink.new)) (written (coded_frame coefficients.now header.now choice.now))) }
+    ensures err { OnErr result (PutsFront (sink_state (K.held sink.old) (K.taken sink.old)) (sink_state (K.held sink.new) (K.taken sink.new)) (coded_bytes (coded_frame coefficients.now header.now choice.now))) }
     ensures settled { K.settled sink.old ≤ K.settled sink.new }
     // The call fails only where a call of the sink failed, and each such call is answered by it.
     ensures cause { CountsFault (K.faults sink.old) (K.faults sink.new) (is_err result) }
@@ -301,8 +301,8 @@ pub fn write_chosen<K: ByteSink>(
     requires writable { IsWritableHeader header.now }
     requires tables { AreTablesOf coefficients.now (weights_in header.now) table.now.slices }
     requires choice { IsPart table.now.slices choice.now }
-    ensures ok { OnOk result (Puts (sink_state (K.held sink.old) (K.taken sink.old)) (sink_state (K.held sink.new) (K.taken sink.new)) (written (coded_frame coefficients.now header.now choice.now))) }
-    ensures err { OnErr result (PutsFront (sink_state (K.held sink.old) (K.taken sink.old)) (sink_state (K.held sink.new) (K.taken sink.new)) (written (coded_frame coefficients.now header.now choice.now))) }
+    ensures ok { OnOk result (Puts (sink_state (K.held sink.old) (K.taken sink.old)) (sink_state (K.held sink.new) (K.taken sink.new)) (coded_bytes (coded_frame coefficients.now header.now choice.now))) }
+    ensures err { OnErr result (PutsFront (sink_state (K.held sink.old) (K.taken sink.old)) (sink_state (K.held sink.new) (K.taken sink.new)) (coded_bytes (coded_frame coefficients.now header.now choice.now))) }
     ensures settled { K.settled sink.old ≤ K.settled sink.new }
     ensures cause { CountsFault (K.faults sink.old) (K.faults sink.new) (is_err result) }
 {

@@ -14,7 +14,7 @@ use Rattle.rate_table.specs.declared.entry.Pair.{Pair}
 use Rattle.rate_table.specs.Pairs.{RisesAndFalls}
 use Rattle.rate_cert.specs.Numbers.{number_bytes}
 use Rattle.rate_cert.specs.Layers.{pair_bytes, wide_bytes, steps_bytes, close_pairs_bytes, close_bytes, layer_bytes}
-use Rattle.rate_cert.specs.Gathered.{Gathers}
+use Rattle.rate_cert.specs.inner.Gathered.{Gathers}
 
 -- the pairs of a layer
 abbrev pub pairs_in : Vec Pair Global → List Pair

@@ -4,5 +4,5 @@ pub mod Numbers
 pub mod Layers
 pub mod Head
 pub mod Files
-pub mod Gathered
 pub mod Laws
+pub mod inner

@@ -3,7 +3,7 @@ use Rattle.std.specs.Prelude.{◌≡◌, ℕ, ◌+◌, ◌*◌, ◌≤◌, ◌�
 use Rattle.std.specs.List.{All}
 use Rattle.rate_table.specs.declared.entry.Entry.{Entry}
 use Rattle.rate_table.specs.Table.{Table, HasNoFit}
-use Rattle.rate_table.specs.Records.{Printed, IsGoodFit, IsLeast, SaysNone, HasCounts, HasEntries, SumsAreRight, BeginsEmpty, InOrder, AllStep, EndsAbove}
+use Rattle.rate_table.specs.Records.{Printed, IsGoodFit, TellsLeast, SaysNone, HasCounts, HasEntries, SumsAreRight, BeginsEmpty, InOrder, AllStep, EndsAbove}
 use Rattle.rate_cert.specs.declared.settings.Settings.{Settings}
 use Rattle.rate_cert.specs.declared.proof.Verdict.{Verdict}
 use Rattle.rate_cert.specs.declared.proof.Verdict.TheVariants as verdicts
@@ -90,5 +90,5 @@ Fails s r n = Asks 1 (IsTableOf s r.table × HasCountsOf r.table r.said) (FailsV
 
 -- the printed choice is a fitting one with the printed sums, and no fitting choice has less error; or no choice fits
 abbrev pub IsTrueOf : Table → Said → Type 0
-IsTrueOf t (fits r) = IsLeast t r
+IsTrueOf t (fits r) = TellsLeast t r
 IsTrueOf t (none least) = HasNoFit t

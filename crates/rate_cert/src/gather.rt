@@ -3,7 +3,7 @@
 ghost use Rattle.std.specs.Prelude.{◌≡◌, ◌+◌, ◌≤◌, ◌++◌, [], OnOk, OnErr, is_err, length};
 ghost use Rattle.pw_outside.specs.Ports.{CountsFault};
 ghost use Rattle.pw_outside.specs.Writing.{sink_state, Puts, PutsFront};
-ghost use Rattle.rate_cert.specs.Gathered.{Gathers};
+ghost use Rattle.rate_cert.specs.inner.Gathered.{Gathers};
 
 use arrayvec::ArrayVec;
 use pw_outside::{ByteSink, Failed, put};

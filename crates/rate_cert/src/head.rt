@@ -14,7 +14,7 @@ ghost use Rattle.rate_cert.specs.Head.{chroma_of, depth_of, alpha_of, interlace_
 
 use crate::field::{SHORT, bytes_of};
 use crate::settings::Settings;
-use pr_geom::Layout;
+use pr_geom::{Layout, pictures_of};
 use pw_outside::ByteSource;
 use pw_planes::{AlphaKind, Chroma, Depth, Interlace};
 use rate_table::{ProofKind, TableFault, bad, read_u8, read_u16, read_u32};
@@ -110,16 +110,6 @@ fn group_in(number: u8) -> u8
     ensures { result ≡ group_of number }
 {
     if number == 16 { 1 } else { number / 2 + 1 }
-}
-
-/// How many pictures a frame has.
-fn pictures_in(interlace: Interlace) -> u16
-    ensures { result ≡ pictures_of interlace }
-{
-    match interlace {
-        Interlace::Progressive => 1,
-        Interlace::TopFirst | Interlace::BottomFirst => 2,
-    }
 }
 
 /// Whether such pictures can't be cut into slices, or a group of their frames has too many.
@@ -278,7 +268,7 @@ fn kinds_of<S: ByteSource>(
     let alpha = alpha_of(source, place)?;
     let at = *place;
     let interlace = interlace_of(source, place)?;
-    if 0 < height % pictures_in(interlace) {
+    if 0 < height % u16::from(pictures_of(interlace)) {
         return Err(bad(ProofKind::ProofShape, at));
     }
     Ok(Kinds {

@@ -5,7 +5,7 @@ ghost use Rattle.std.specs.List.{All, flat_map, sum_by};
 ghost use Rattle.pw_outside.specs.Ports.{CountsFault};
 ghost use Rattle.pw_outside.specs.Writing.{sink_state, PutsFront};
 ghost use Rattle.rate_table.specs.Pairs.{RisesAndFalls};
-ghost use Rattle.rate_cert.specs.Gathered.{Gathers};
+ghost use Rattle.rate_cert.specs.inner.Gathered.{Gathers};
 ghost use Rattle.rate_cert.specs.Files.{IsFormat};
 ghost use Rattle.rate_cert.specs.Numbers.{number_bytes};
 ghost use Rattle.rate_cert.specs.Layers.{most_pairs, pair_bytes, wide_bytes, steps_bytes, close_pairs_bytes, close_bytes, layer_bytes};

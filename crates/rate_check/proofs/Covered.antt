@@ -7,7 +7,7 @@ use Rattle.rate_table.specs.declared.entry.Entry.{Entry}
 use Rattle.rate_table.specs.declared.entry.Pair.{Pair}
 use Rattle.rate_table.specs.Pairs.{Dominates, joined, RisesAndFalls}
 use Rattle.rate_check.specs.declared.bound.Bound.{Bound}
-use Rattle.rate_check.specs.Covering.{Covers, CoversEntry, ReachesTo, weight}
+use Rattle.rate_check.specs.inner.Covering.{Covers, CoversEntry, ReachesTo, weight}
 use Rattle.rate_check.proofs.Orders.{no_pair, apart}
 
 -- the first i pairs of the layer joined with the entry are covered

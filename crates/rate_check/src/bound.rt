@@ -1,7 +1,7 @@
 //! What the pairs of a layer are compared with.
 
 ghost use Rattle.std.specs.Prelude.{◌≡◌, ◌<◌, ◌^◌};
-ghost use Rattle.rate_check.specs.Covering.{weight};
+ghost use Rattle.rate_check.specs.inner.Covering.{weight};
 
 use rate_table::Pair;
 

@@ -4,7 +4,7 @@ ghost use Rattle.std.specs.Prelude.{◌≡◌, ◌↔◌, ℕ, suc, List, IsTrue
 ghost use Rattle.rate_table.specs.Records.{SaysNone, HasCounts, HasEntries, SumsAreRight, IsGoodFit};
 ghost use Rattle.rate_cert.specs.Settings.{IsSettings};
 ghost use Rattle.rate_cert.specs.Records.{IsGood, Fails, FailsFit, FailsLayers, AreGood, Asks, AsksNothing, IsTrueOf};
-ghost use Rattle.rate_check.specs.Printed.{of_sums, of_layers};
+ghost use Rattle.rate_check.specs.inner.Printed.{of_sums, of_layers};
 
 use crate::layers::{are_in_order, is_empty_pair, none_is_below};
 use crate::shape::is_table_of;

@@ -3,7 +3,7 @@
 ghost use Rattle.std.specs.Prelude.{◌≡◌, ◌+◌, ◌-◌, ◌*◌, ◌<◌, ◌≤◌, ◌^◌, ◌↔◌, IsTrue, length, slice_index_or};
 ghost use Rattle.std.specs.List.{All};
 ghost use Rattle.rate_table.specs.Pairs.{RisesAndFalls};
-ghost use Rattle.rate_check.specs.Covering.{IsSmall, ReachesTo, Covers, CoversEntry, IsBelowWeights, weight};
+ghost use Rattle.rate_check.specs.inner.Covering.{IsSmall, ReachesTo, Covers, CoversEntry, IsBelowWeights, weight};
 
 use crate::bound::{Bound, weight_of};
 use rate_table::{Entry, Pair, cost_of};

@@ -4,7 +4,7 @@ ghost use Rattle.std.specs.Prelude.{◌≡◌, ◌↔◌, IsTrue, ℕ, List, suc
 ghost use Rattle.std.specs.List.{All};
 ghost use Rattle.rate_table.specs.Pairs.{RisesAndFalls};
 ghost use Rattle.rate_table.specs.Records.{AllStep};
-ghost use Rattle.rate_check.specs.Printed.{of_layers};
+ghost use Rattle.rate_check.specs.inner.Printed.{of_layers};
 
 use crate::bound::Bound;
 use crate::covering::covers;

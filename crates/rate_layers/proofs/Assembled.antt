@@ -7,24 +7,24 @@ use Rattle.std.proofs.lemmas.List.Elements.{All-head, All-tail, All-contains, Al
 use Rattle.std.proofs.lemmas.Bool.{cases_lt}
 use Rattle.rate_table.specs.declared.entry.Entry.{Entry}
 use Rattle.rate_table.specs.declared.entry.Pair.{Pair}
-use Rattle.rate_table.specs.Table.{Table, IsChoice, IsEntry, IsSlice, IsTable, error_of, least, least_size}
+use Rattle.rate_table.specs.Table.{Table, IsChoice, IsEntry, IsSliceTable, IsTable, error_of, least, least_sizes}
 use Rattle.rate_table.specs.Pairs.{cost, rest}
 use Rattle.rate_layers.specs.declared.bound.Bound.{Bound}
 use Rattle.rate_layers.specs.Layers.{Joins, IsFront, IsKept, AreKept, pairs_in}
-use Rattle.rate_layers.specs.Bound.{IsBoundOf, HasRoom, IsWithin, IsNext}
+use Rattle.rate_layers.specs.inner.Bound.{IsBoundOf, HasRoom, IsWithin, IsNext}
 use Rattle.rate_layers.proofs.Asked.{Stays, At, kept_test, layer_step}
 use Rattle.rate_layers.proofs.Kept.{front_kept}
 use Rattle.rate_layers.proofs.Bounds.{bound_stays, front_as, sum_step}
 use Rattle.rate_layers.proofs.Wholes.{kept_same, pairs_below}
 
-error_small : (slices : List (List Entry)) → All IsSlice slices → (c : List Entry) → IsChoice slices c → error_of c ≤ length slices * 2 ^ 43
+error_small : (slices : List (List Entry)) → All IsSliceTable slices → (c : List Entry) → IsChoice slices c → error_of c ≤ length slices * 2 ^ 43
 error_small [] a [] h = omega arith
 error_small [] a (x ∷ c) h = absurd h
 error_small (s ∷ ss) a [] h = absurd h
 error_small (s ∷ ss) a (x ∷ c) h =
-    let i = All-head IsSlice s ss a in
+    let i = All-head IsSliceTable s ss a in
     let b : IsEntry x = All-contains IsEntry s x i.limits h.0 in
-    omega (arith, b.error, error_small ss (All-tail IsSlice s ss a) c h.1, sum_by-cons (λ (x : Entry). x.error) x c)
+    omega (arith, b.error, error_small ss (All-tail IsSliceTable s ss a) c h.1, sum_by-cons (λ (x : Entry). x.error) x c)
 
 module _ (t : Table) (m u : ℕ) where
   -- the layers so far
@@ -64,7 +64,7 @@ module _ (t : Table) (m u : ℕ) where
   -- what one slice more makes of the layers and the two sums
   pub record Further (layers : List (List Pair)) (k sizes costs : ℕ) : Type 0 where
     pub assembled : Assembled layers k
-    pub sizes_left : sizes ≡ t.fixed + least_size (drop k t.slices)
+    pub sizes_left : sizes ≡ t.fixed + least_sizes (drop k t.slices)
     pub costs_left : costs ≡ rest m (drop k t.slices)
 
   pub further : (layers : List (List Pair)) (k sizes costs : ℕ) (layer next : List Pair) (s entries : List Entry) (b : Bound) (size cheapest : ℕ) → Further layers k sizes costs → k < length t.slices → s ≡ get_or t.slices k s → entries ≡ s → layer ≡ get_or layers k []
@@ -77,7 +77,7 @@ module _ (t : Table) (m u : ℕ) where
       let a2 = sum_step (least (cost m)) t.slices k s n is in
       let c1 : size ≡ least (λ x. x.size) s = is_size ∙ ap (λ l. least (λ x. x.size) l) same_entries in
       let c2 : cheapest ≡ least (cost m) s = is_cheapest ∙ ap (λ l. least (cost m) l) same_entries in
-      let left1 : sizes - size ≡ t.fixed + least_size later = omega (arith, f.sizes_left, a1, c1) in
+      let left1 : sizes - size ≡ t.fixed + least_sizes later = omega (arith, f.sizes_left, a1, c1) in
       let left2 : costs - cheapest ≡ rest m later = omega (arith, f.costs_left, a2, c2) in
       let o : IsBoundOf t m u later b = record { multiplier = bm; end = omega (arith, be, left1); ceiling = omega (arith, bc, left2) } in
       let es : entries ≡ get_or t.slices k [] = same_entries ∙ is ∙ get_or_default t.slices k s [] n in
@@ -86,7 +86,7 @@ module _ (t : Table) (m u : ℕ) where
       let k1 : suc k ≡ k + 1 = omega arith in
       record {
         assembled = assembled_push layers k b next n f.assembled o g2;
-        sizes_left = subst (λ i. sizes - size ≡ t.fixed + least_size (drop i t.slices)) k1 left1;
+        sizes_left = subst (λ i. sizes - size ≡ t.fixed + least_sizes (drop i t.slices)) k1 left1;
         costs_left = subst (λ i. costs - cheapest ≡ rest m (drop i t.slices)) k1 left2;
       }
 
@@ -109,6 +109,6 @@ module _ (t : Table) (m u : ℕ) where
   errors_small ok k layer f i d n =
       let p = get_or layer i d in
       let r = (f.only p (Contains-get_or layer i d n)).0 in
-      let b = error_small (take k t.slices) (All-take IsSlice k t.slices ok.each) r.0 r.1 in
+      let b = error_small (take k t.slices) (All-take IsSliceTable k t.slices ok.each) r.0 r.1 in
       let e : error_of r.0 ≡ p.error = ap (λ (x : Pair). x.error) r.2 in
       omega (arith, ok.few, length-take k t.slices)

@@ -8,7 +8,7 @@ use Rattle.rate_table.specs.declared.entry.Pair.{Pair}
 use Rattle.rate_table.specs.Table.{Table}
 use Rattle.rate_layers.specs.declared.bound.Bound.{Bound}
 use Rattle.rate_layers.specs.Layers.{Reaches, IsFront}
-use Rattle.rate_layers.specs.Bound.{IsBoundOf, HasRoom, IsWithin}
+use Rattle.rate_layers.specs.inner.Bound.{IsBoundOf, HasRoom, IsWithin}
 use Rattle.rate_layers.proofs.Asked.{Stays, At}
 
 -- A pair is below both exactly where it can still fit and stays within the bound.

@@ -7,7 +7,7 @@ use Rattle.rate_table.specs.Records.{IsGoodFit, record_of}
 use Rattle.rate_layers.specs.First.{IsFirst}
 use Rattle.rate_layers.specs.Layers.{AreKept}
 use Rattle.rate_layers.specs.Multiplier.{IsMultiplier}
-use Rattle.rate_layers.specs.Live.{AreFound}
+use Rattle.rate_layers.specs.inner.Live.{AreFound}
 use Rattle.rate_layers.specs.Best.{TellsBest, PassesByBest}
 use Rattle.rate_layers.proofs.Picks.{multiplier_same}
 use Rattle.rate_layers.proofs.Wholes.{kept_are_fewer}

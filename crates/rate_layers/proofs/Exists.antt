@@ -5,7 +5,7 @@ use Rattle.std.proofs.lemmas.List.Sums.{sum_by-cons}
 use Rattle.std.proofs.lemmas.Bool.{cases_lt, leb-true, le-leb}
 use Rattle.rate_table.specs.declared.entry.Entry.{Entry}
 use Rattle.rate_table.specs.declared.entry.Pair.{Pair}
-use Rattle.rate_table.specs.Table.{Table, IsChoice, pair_of, least_size}
+use Rattle.rate_table.specs.Table.{Table, IsChoice, pair_of, least_sizes}
 use Rattle.rate_table.specs.Pairs.{Dominates, joined, CanFit, RisesAndFalls}
 use Rattle.rate_layers.specs.Layers.{Reaches, IsFront, IsFull}
 use Rattle.rate_table.proofs.Lists.{contains_cases, contains_head, contains_tail, contains_none, contains_map, map_contains, contains_flat, flat_contains}
@@ -155,7 +155,7 @@ module _ (slices : List (List Entry)) (Fine : Pair → Type 0) (test : Pair → 
 -- There is a full layer after each number of slices.
 pub front_full : (t : Table) (k : ℕ) → (layer : List Pair) × IsFront (λ p. Reaches (take k t.slices) p × CanFit t (drop k t.slices) p) layer
 front_full t k =
-    front_of_tested (take k t.slices) (CanFit t (drop k t.slices)) (λ p. leb (t.fixed + (p.size + least_size (drop k t.slices))) t.budget)
+    front_of_tested (take k t.slices) (CanFit t (drop k t.slices)) (λ p. leb (t.fixed + (p.size + least_sizes (drop k t.slices))) t.budget)
     (λ p h. leb-true _ _ h) (λ p h. le-leb _ _ h)
 
 -- a full layer in the form that a merge shows

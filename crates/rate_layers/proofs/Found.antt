@@ -10,7 +10,7 @@ use Rattle.rate_table.specs.Table.{Table, IsChoice, Fits, size_of, error_of, pai
 use Rattle.rate_table.specs.Pairs.{joined}
 use Rattle.rate_layers.specs.First.{IsFirst, extended, IsFirstFrom, Leads}
 use Rattle.rate_layers.specs.Layers.{Reaches, Rises, IsFront, AreKept, pairs_in}
-use Rattle.rate_layers.specs.Live.{LeadsOn, IsFirstOn, LeadOn, LeadTo, marked, MarkedOn, MarkedTo, AreFound, AreMarked}
+use Rattle.rate_layers.specs.inner.Live.{LeadsOn, IsFirstOn, LeadOn, LeadTo, marked, MarkedOn, MarkedTo, AreFound, AreMarked}
 use Rattle.rate_table.proofs.Lists.{contains_none}
 use Rattle.rate_layers.proofs.Fronts.{same_pair}
 use Rattle.rate_layers.proofs.Asked.{Stays, At, kept_test}

@@ -6,8 +6,8 @@ use Rattle.rate_table.specs.declared.entry.Entry.{Entry}
 use Rattle.rate_table.specs.declared.entry.Pair.{Pair}
 use Rattle.rate_table.specs.Table.{Table, IsChoice, Fits, size_of, error_of}
 use Rattle.rate_table.proofs.Lists.{map_contains}
-use Rattle.rate_layers.specs.Multiplied.{counted, counted_slices}
-use Rattle.rate_layers.specs.Live.{AreFound}
+use Rattle.rate_layers.specs.inner.Multiplied.{counted, counted_slices}
+use Rattle.rate_layers.specs.inner.Live.{AreFound}
 use Rattle.rate_layers.proofs.Found.{goal_all}
 
 module _ (times : ℕ) where

@@ -6,7 +6,7 @@ use Rattle.std.proofs.lemmas.List.{get_or-set_same, get_or-set_other, get_or-rep
 use Rattle.std.proofs.lemmas.List.FromFn.{length-map-range_with_len, get_or-map-range_with_len, fill_by_all}
 use Rattle.std.proofs.lemmas.Nat.Bits.{bit_at-zero, bit_at_set_same, bit_at_set_other}
 use Rattle.std.proofs.lemmas.Bool.{cases_eq}
-use Rattle.rate_layers.specs.Bits.{is_set, marks_in}
+use Rattle.rate_layers.specs.inner.Bits.{is_set, marks_in}
 
 module _ (words : List ℕ) (count : ℕ) where
   pub marks_length : length (marks_in words count) ≡ count

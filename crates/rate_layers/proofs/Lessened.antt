@@ -8,7 +8,7 @@ use Rattle.rate_table.specs.declared.entry.Pair.{Pair}
 use Rattle.rate_table.specs.Table.{Table, size_of, error_of}
 use Rattle.rate_table.specs.Pairs.{rest, StaysWithin}
 use Rattle.rate_layers.specs.Layers.{IsKept, AreKept}
-use Rattle.rate_layers.specs.Live.{AreFound}
+use Rattle.rate_layers.specs.inner.Live.{AreFound}
 use Rattle.rate_layers.proofs.Counts.{kept_less}
 use Rattle.rate_layers.proofs.Wholes.{kept_same, kept_are_fewer}
 use Rattle.rate_layers.proofs.Found.{items_of, element, goal_reached, goal_fits, goal_below}

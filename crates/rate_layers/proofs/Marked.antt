@@ -10,7 +10,7 @@ use Rattle.rate_table.specs.declared.entry.Pair.{Pair}
 use Rattle.rate_table.specs.Pairs.{joined}
 use Rattle.rate_table.proofs.Lists.{contains_cases, contains_head, contains_tail, contains_none}
 use Rattle.rate_layers.specs.Layers.{Rises}
-use Rattle.rate_layers.specs.Live.{StandsAt, LeadsAt, marked, MarkedMore, MarkedOn}
+use Rattle.rate_layers.specs.inner.Live.{StandsAt, LeadsAt, marked, MarkedMore, MarkedOn}
 use Rattle.rate_layers.proofs.Fronts.{first_smaller, rises_tail}
 use Rattle.rate_layers.proofs.Onward.{rises_at, build_rises}
 

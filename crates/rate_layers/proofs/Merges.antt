@@ -9,8 +9,8 @@ use Rattle.rate_table.specs.declared.entry.Pair.{Pair}
 use Rattle.rate_layers.specs.declared.bound.Bound.{Bound}
 use Rattle.rate_table.specs.Pairs.{Dominates, joined, RisesAndFalls}
 use Rattle.rate_layers.specs.Layers.{IsFront}
-use Rattle.rate_layers.specs.Bound.{IsNext}
-use Rattle.rate_layers.specs.Merge.{IsBehind, AreBehind, Offered, Passes, JoinsOne, Merged, Merging}
+use Rattle.rate_layers.specs.inner.Bound.{IsNext}
+use Rattle.rate_layers.specs.inner.Merge.{IsBehind, AreBehind, Offered, Passes, JoinsOne, Merged, Merging}
 use Rattle.rate_table.proofs.Lists.{contains_cases, contains_head, contains_tail, contains_none}
 use Rattle.rate_layers.proofs.Fronts.{dominates_self, dominates_trans, first_below, falls_tail}
 

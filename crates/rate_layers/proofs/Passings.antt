@@ -8,8 +8,8 @@ use Rattle.rate_table.specs.declared.entry.Pair.{Pair}
 use Rattle.rate_table.specs.Pairs.{cost, joined}
 use Rattle.rate_table.proofs.Lists.{contains_none}
 use Rattle.rate_layers.specs.declared.bound.Bound.{Bound}
-use Rattle.rate_layers.specs.Bound.{IsWithin, IsNext}
-use Rattle.rate_layers.specs.Merge.{IsFloor, Passing}
+use Rattle.rate_layers.specs.inner.Bound.{IsWithin, IsNext}
+use Rattle.rate_layers.specs.inner.Merge.{IsFloor, Passing}
 
 -- ---- the least cost of a layer's pairs
 

@@ -6,7 +6,7 @@ use Rattle.std.proofs.lemmas.List.Elements.{All-head, All-tail, All-contains, Al
 use Rattle.std.proofs.lemmas.Nat.{mul-le}
 use Rattle.std.proofs.lemmas.Bool.{cases_lt, cases_Bool, leb-true, le-leb, true≢false}
 use Rattle.rate_table.specs.declared.entry.Entry.{Entry}
-use Rattle.rate_table.specs.Table.{Table, IsChoice, Fits, HasNoFit, size_of, least_bytes, IsSlice, IsTable, IsEntry}
+use Rattle.rate_table.specs.Table.{Table, IsChoice, Fits, HasNoFit, size_of, least_bytes, IsSliceTable, IsTable, IsEntry}
 use Rattle.rate_table.specs.Pairs.{cost}
 use Rattle.rate_layers.specs.Multiplier.{Wins, IsPick, ArePicks, PicksFit, IsMultiplier}
 use Rattle.rate_table.proofs.Lists.{contains_cases, contains_head, contains_tail, contains_none}
@@ -65,12 +65,12 @@ pick_of m x [] = (x, pick_wins m (x ∷ []) x (contains_head x []) (λ y c. ⊎_
 pick_of m x (y ∷ xs) = let r = pick_of m y xs in pick_with m x (y ∷ xs) r.0 r.1
 
 -- the picks of slices that have entries
-pub picks_of : (m : ℕ) (slices : List (List Entry)) → All IsSlice slices → (c : List Entry) × ArePicks m slices c
+pub picks_of : (m : ℕ) (slices : List (List Entry)) → All IsSliceTable slices → (c : List Entry) × ArePicks m slices c
 picks_of m [] a = ([], tt)
-picks_of m ([] ∷ ss) a = let h = All-head IsSlice [] ss a in absurd (omega (arith, h.some))
+picks_of m ([] ∷ ss) a = let h = All-head IsSliceTable [] ss a in absurd (omega (arith, h.some))
 picks_of m ((x ∷ s) ∷ ss) a =
     let p = pick_of m x s in
-    let c = picks_of m ss (All-tail IsSlice (x ∷ s) ss a) in
+    let c = picks_of m ss (All-tail IsSliceTable (x ∷ s) ss a) in
     (p.0 ∷ c.0, (p.1, c.1))
 
 pub picks_choice : (m : ℕ) (slices : List (List Entry)) (c : List Entry) → ArePicks m slices c → IsChoice slices c
@@ -127,8 +127,8 @@ picks_least m (s ∷ ss) h (x ∷ c) (y ∷ d) a b =
     steep : (m s t e f : ℕ) → f < m → t < s → e + m * s ≤ f + m * t → ⊥
     steep m s t e f l k h = let p = mul-le m (suc t) m s (omega arith) (omega arith) in omega arith
 
-small_errors : (slices : List (List Entry)) → All IsSlice slices → All (λ s. All (λ x. x.error < 2 ^ 43) s) slices
-small_errors slices ok = All-weaker IsSlice (λ s. All (λ x. x.error < 2 ^ 43) s) (λ s i. All-weaker IsEntry (λ x. x.error < 2 ^ 43) (λ x h. h.error) s i.limits) slices ok
+small_errors : (slices : List (List Entry)) → All IsSliceTable slices → All (λ s. All (λ x. x.error < 2 ^ 43) s) slices
+small_errors slices ok = All-weaker IsSliceTable (λ s. All (λ x. x.error < 2 ^ 43) s) (λ s i. All-weaker IsEntry (λ x. x.error < 2 ^ 43) (λ x h. h.error) s i.limits) slices ok
 
 -- the least number that passes, up to one that does
 pub least_passing : (test : ℕ → Bool) (n : ℕ) → ((m : ℕ) × (m ≤ n) × (test m ≡ true) × ((k : ℕ) → k < m → test k ≡ false)) ⊎ ((k : ℕ) → k ≤ n → test k ≡ false)
@@ -172,13 +172,13 @@ picks_push m (r ∷ slices) s [] x h i = absurd h
 picks_push m (r ∷ slices) s (y ∷ c) x h i = (h.0, picks_push m slices s c x h.1 i)
 
 -- Where a choice has no more than this size, the picks by the greatest multiplier have.
-pub top_picks : (slices : List (List Entry)) (room : ℕ) → All IsSlice slices → (d : List Entry) → IsChoice slices d → size_of d ≤ room → (c : List Entry) × ArePicks (2 ^ 43) slices c × (size_of c ≤ room)
+pub top_picks : (slices : List (List Entry)) (room : ℕ) → All IsSliceTable slices → (d : List Entry) → IsChoice slices d → size_of d ≤ room → (c : List Entry) × ArePicks (2 ^ 43) slices c × (size_of c ≤ room)
 top_picks slices room ok d h f =
     let c = picks_of (2 ^ 43) slices ok in
     (c.0, c.1, omega (arith, picks_least (2 ^ 43) slices (small_errors slices ok) c.0 d c.1 h))
 
 -- Where the picks by one multiplier have more, those by each lower one have.
-pub none_lower : (slices : List (List Entry)) (room middle : ℕ) → All IsSlice slices → ((c : List Entry) × ArePicks middle slices c × (size_of c ≤ room) → ⊥) → (n : ℕ) (c : List Entry) → ArePicks n slices c → size_of c ≤ room → middle + 1 ≤ n
+pub none_lower : (slices : List (List Entry)) (room middle : ℕ) → All IsSliceTable slices → ((c : List Entry) × ArePicks middle slices c × (size_of c ≤ room) → ⊥) → (n : ℕ) (c : List Entry) → ArePicks n slices c → size_of c ≤ room → middle + 1 ≤ n
 none_lower slices room middle ok none n c h f =
     ⊎_elim (λ l. let p = picks_of middle slices ok in
     absurd (none (p.0, p.1, omega (arith, picks_down n middle slices c p.0 (omega arith) h p.1)))) (λ l. omega arith) (cases_lt n (middle + 1))

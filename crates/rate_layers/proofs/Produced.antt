@@ -7,7 +7,7 @@ use Rattle.std.proofs.lemmas.Bool.{cases_lt}
 use Rattle.std.proofs.Math.Seq.{take-suc, drop-cons}
 use Rattle.rate_table.specs.declared.entry.Entry.{Entry}
 use Rattle.rate_table.specs.declared.entry.Pair.{Pair}
-use Rattle.rate_table.specs.Table.{Table, IsChoice, Fits, HasNoFit, size_of, error_of, pair_of, indices, IsBest, least_size, IsTable}
+use Rattle.rate_table.specs.Table.{Table, IsChoice, Fits, HasNoFit, size_of, error_of, pair_of, indices, IsBest, least_sizes, IsTable}
 use Rattle.rate_layers.specs.First.{IsFirst}
 use Rattle.rate_table.specs.Pairs.{joined, rest, CanFit, StaysWithin, RisesAndFalls}
 use Rattle.rate_layers.specs.Layers.{Reaches, IsFront, IsFull, IsKept, AreFull, AreKept}
@@ -105,13 +105,13 @@ produced t ok b best m layers Fine test judged n f =
 
 pub judged_full : (t : Table) (r : Printed) → Judged t r (CanFit t)
 judged_full t r later p =
-    ⊎_elim (λ l. inr (inl (λ h. omega arith))) (λ l. inl l) (cases_lt t.budget (t.fixed + (p.size + least_size later)))
+    ⊎_elim (λ l. inr (inl (λ h. omega arith))) (λ l. inl l) (cases_lt t.budget (t.fixed + (p.size + least_sizes later)))
 
 pub judged_kept : (t : Table) (r : Printed) → Judged t r (Stays t r.multiplier r.error)
 judged_kept t r later p =
     ⊎_elim (λ l. inr (inl (λ h. omega arith)))
     (λ l. ⊎_elim (λ g. inr (inr (λ h. omega arith))) (λ g. inl (l, g)) (cases_lt (r.error + r.multiplier * t.budget) (p.error + rest r.multiplier later + r.multiplier * (t.fixed + p.size))))
-    (cases_lt t.budget (t.fixed + (p.size + least_size later)))
+    (cases_lt t.budget (t.fixed + (p.size + least_sizes later)))
 
 pub produced_full : (t : Table) → IsTable t → (b : List Entry) → IsBest t b → (m : ℕ) (layers : List (List Pair)) → AreFull t layers → IsGoodFit t (record_of b m layers)
 produced_full t ok b best m layers a =

@@ -9,8 +9,8 @@ use Rattle.rate_table.specs.declared.entry.Pair.{Pair}
 use Rattle.rate_table.specs.Pairs.{Dominates, joined}
 use Rattle.rate_table.proofs.Lists.{contains_cases, contains_head, contains_tail, contains_none}
 use Rattle.rate_layers.specs.declared.bound.Bound.{Bound}
-use Rattle.rate_layers.specs.Bound.{IsNext}
-use Rattle.rate_layers.specs.Merge.{Thinned}
+use Rattle.rate_layers.specs.inner.Bound.{IsNext}
+use Rattle.rate_layers.specs.inner.Merge.{Thinned}
 use Rattle.rate_layers.proofs.Fronts.{dominates_trans}
 
 pub thinned_none : Thinned [] []

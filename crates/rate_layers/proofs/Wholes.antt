@@ -4,7 +4,7 @@ use Rattle.std.proofs.lemmas.List.{get_or_append_left, get_or_push, length_push}
 use Rattle.std.proofs.lemmas.List.Sums.{sum_by-cons}
 use Rattle.std.proofs.lemmas.Bool.{cases_lt, leb-true, le-leb, and_parts, and_from}
 use Rattle.rate_table.specs.declared.entry.Pair.{Pair}
-use Rattle.rate_table.specs.Table.{Table, least_size}
+use Rattle.rate_table.specs.Table.{Table, least_sizes}
 use Rattle.rate_table.specs.Pairs.{rest}
 use Rattle.rate_layers.specs.Layers.{IsKept, AreKept, pairs_in}
 use Rattle.rate_layers.proofs.Fronts.{front_layer, one_layer}
@@ -54,7 +54,7 @@ a_kept : (t : Table) (m u k : ℕ) → (layer : List Pair) × IsKept t m u k lay
 a_kept t m u k =
     let later = drop k t.slices in
     let f = front_of_tested (take k t.slices) (Stays t m u later)
-    (λ p. leb (t.fixed + (p.size + least_size later)) t.budget && leb (p.error + rest m later + m * (t.fixed + p.size)) (u + m * t.budget))
+    (λ p. leb (t.fixed + (p.size + least_sizes later)) t.budget && leb (p.error + rest m later + m * (t.fixed + p.size)) (u + m * t.budget))
     (λ p h. let a = and_parts _ _ h in (leb-true _ _ a.0, leb-true _ _ a.1)) (λ p h. and_from _ _ (le-leb _ _ h.0) (le-leb _ _ h.1)) in
     (f.0, front_kept t m u k f.0 f.1)
 

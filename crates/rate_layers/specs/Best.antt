@@ -2,7 +2,7 @@
 use Rattle.std.specs.Prelude.{◌≡◌, ℕ, ◌<◌, ◌^◌, List, map, Result, Ok, Err}
 use Rattle.rate_table.specs.declared.entry.Entry.{Entry}
 use Rattle.rate_table.specs.declared.entry.Pair.{Pair}
-use Rattle.rate_table.specs.Table.{Table, IsBest, size_of, error_of, indices}
+use Rattle.rate_table.specs.Table.{Table, IsBest, IsBestWith, size_of, error_of, indices}
 use Rattle.rate_table.specs.Records.{Printed}
 use Rattle.rate_layers.specs.Layers.{AreKept, pairs_in}
 use Rattle.rate_layers.specs.Multiplier.{ArePicks, IsMultiplier}
@@ -24,12 +24,8 @@ OnNone (Ok (outcomes.None least)) P = P least
 OnNone (Err fault) P = Unit {0}
 
 -- the best choice's indices, its size without the fixed bytes, and its error
-pub record TellsBest (t : Table) (r : Printed) : Type 0 where
-  pub best : List Entry
-  pub is_best : IsBest t best
-  pub choice : r.choice ≡ indices best
-  pub size : r.size ≡ size_of best
-  pub error : r.error ≡ error_of best
+abbrev pub TellsBest : Table → Printed → Type 0
+TellsBest t r = IsBestWith t r.choice r.size r.error
 
 -- the least multiplier whose picks fit, and the layers that it and the printed error keep
 pub record TellsLayers (t : Table) (r : Printed) : Type 0 where

@@ -1,10 +1,6 @@
 pub mod Layers
 pub mod First
 pub mod Multiplier
-pub mod Multiplied
 pub mod Laws
-pub mod Bound
-pub mod Merge
-pub mod Bits
-pub mod Live
 pub mod Best
+pub mod inner

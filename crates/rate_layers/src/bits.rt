@@ -15,7 +15,7 @@ impl Model for Marks {
 
     ghost Value = { List Bool };
 
-    ghost use Rattle.rate_layers.specs.Bits.{marks_in};
+    ghost use Rattle.rate_layers.specs.inner.Bits.{marks_in};
 
     ghost view = { λ m. marks_in m.words.items m.count };
 

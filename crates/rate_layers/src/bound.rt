@@ -1,7 +1,7 @@
 //! What pairs are compared with.
 
 ghost use Rattle.std.specs.Prelude.{◌≡◌, ◌+◌, ◌-◌, ◌*◌, ◌<◌, ◌≤◌, ◌^◌, ◌↔◌, IsTrue};
-ghost use Rattle.rate_layers.specs.Bound.{IsSmall};
+ghost use Rattle.rate_layers.specs.inner.Bound.{IsSmall};
 
 use rate_table::FrameTable;
 

@@ -4,7 +4,7 @@ ghost use Rattle.std.specs.Prelude.{◌≡◌, ◌+◌, ◌*◌, ◌<◌, ◌≤
 ghost use Rattle.rate_table.specs.declared.entry.Pair.{Pair};
 ghost use Rattle.rate_layers.specs.declared.fault.BestFault.TheVariants.{LayersFull};
 ghost use Rattle.rate_layers.specs.Layers.{IsFront, AreKept, pairs_in};
-ghost use Rattle.rate_layers.specs.Bound.{HasRoom, IsWithin};
+ghost use Rattle.rate_layers.specs.inner.Bound.{HasRoom, IsWithin};
 
 use crate::bound::{Bound, bound_of, is_within};
 use crate::fault::BestFault;

@@ -8,7 +8,7 @@ ghost use Rattle.rate_table.specs.Table.{IndicesRise, indices};
 ghost use Rattle.rate_table.specs.Pairs.{joined};
 ghost use Rattle.rate_layers.specs.First.{IsFirst};
 ghost use Rattle.rate_layers.specs.Layers.{Rises};
-ghost use Rattle.rate_layers.specs.Live.{marked, LeadsOn, IsFirstOn, AreFound, AreMarked};
+ghost use Rattle.rate_layers.specs.inner.Live.{marked, LeadsOn, IsFirstOn, AreFound, AreMarked};
 
 use crate::bits::Marks;
 use crate::marks::marks_before;

@@ -5,7 +5,7 @@ ghost use Rattle.std.specs.List.{Contains};
 ghost use Rattle.rate_table.specs.declared.entry.Pair.{Pair};
 ghost use Rattle.rate_table.specs.Pairs.{joined};
 ghost use Rattle.rate_layers.specs.Layers.{Rises};
-ghost use Rattle.rate_layers.specs.Live.{MarkedMore, MarkedOn, LeadsAt};
+ghost use Rattle.rate_layers.specs.inner.Live.{MarkedMore, MarkedOn, LeadsAt};
 
 use crate::bits::Marks;
 use crate::places::place_of;

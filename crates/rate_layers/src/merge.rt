@@ -7,8 +7,8 @@ ghost use Rattle.rate_table.specs.declared.entry.Pair.{Pair};
 ghost use Rattle.rate_table.specs.Table.{IsEntry};
 ghost use Rattle.rate_table.specs.Pairs.{joined, RisesAndFalls, Dominates};
 ghost use Rattle.rate_layers.specs.Layers.{Joins, IsFront};
-ghost use Rattle.rate_layers.specs.Bound.{HasRoom, IsWithin, IsSmall, IsNext};
-ghost use Rattle.rate_layers.specs.Merge.{IsBehind, AreBehind, Offered, Passes, JoinsIf, Merged, Merging};
+ghost use Rattle.rate_layers.specs.inner.Bound.{HasRoom, IsWithin, IsSmall, IsNext};
+ghost use Rattle.rate_layers.specs.inner.Merge.{IsBehind, AreBehind, Offered, Passes, JoinsIf, Merged, Merging};
 
 use crate::bound::{Bound, is_within};
 use crate::passing::passing;

@@ -2,8 +2,8 @@
 
 ghost use Rattle.std.specs.Prelude.{◌≡◌, ◌<◌, ◌≤◌, ◌^◌, IfOk, IfSome, map};
 ghost use Rattle.std.specs.List.{All};
-ghost use Rattle.rate_table.specs.Table.{IsEntry, IsSlice};
-ghost use Rattle.rate_layers.specs.Multiplied.{counted, counted_slices};
+ghost use Rattle.rate_table.specs.Table.{IsEntry, IsSliceTable};
+ghost use Rattle.rate_layers.specs.inner.Multiplied.{counted, counted_slices};
 
 use rate_table::{Entry, FrameTable, SliceTable, Slices};
 use std::alloc::{AllocError, Global};
@@ -25,9 +25,9 @@ fn entry_of(x: &Entry, times: u64) -> Entry
 }
 
 fn slice_of(entries: &[Entry], times: u64) -> SliceTable
-    requires { IsSlice entries.now }
+    requires { IsSliceTable entries.now }
     ensures counted { result ≡ map (counted times) entries.now }
-    ensures slice { IsSlice result }
+    ensures slice { IsSliceTable result }
 {
     let mut slice = SliceTable::one(entry_of(&entries[0], times));
     for i in 1..entries.len() {
@@ -41,9 +41,9 @@ fn slices_of(
     slices: &[SliceTable],
     times: u64,
 ) -> Result<Vec<SliceTable>, AllocError>
-    requires { All IsSlice slices.now }
+    requires { All IsSliceTable slices.now }
     ensures counted { IfOk result (λ v. v.items ≡ counted_slices times slices.now) }
-    ensures each { IfOk result (λ v. All IsSlice v.items) }
+    ensures each { IfOk result (λ v. All IsSliceTable v.items) }
 {
     let mut all = Vec::with_capacity(alloc, slices.len())?;
     for slice in slices {

@@ -3,7 +3,7 @@
 ghost use Rattle.std.specs.Prelude.{◌≡◌, ◌+◌, ◌*◌, ◌<◌, ◌≤◌, ◌^◌, ◌↔◌, IsTrue, IfSome, IfNone, ℕ, List, length};
 ghost use Rattle.std.specs.List.{All, Contains};
 ghost use Rattle.rate_table.specs.declared.entry.Entry.{Entry};
-ghost use Rattle.rate_table.specs.Table.{IsSlice, IsChoice, Fits, HasNoFit, size_of, error_of};
+ghost use Rattle.rate_table.specs.Table.{IsSliceTable, IsChoice, Fits, HasNoFit, size_of, error_of};
 ghost use Rattle.rate_table.specs.Pairs.{cost};
 ghost use Rattle.rate_layers.specs.Multiplier.{IsPick, ArePicks, PicksFit, IsMultiplier, Wins};
 
@@ -36,7 +36,7 @@ fn pick(entries: &[Entry], multiplier: u64) -> Entry
 
 fn sums_of(slices: &[SliceTable], multiplier: u64) -> (u64, u64)
     requires few { length slices.now ≤ 131070 }
-    requires each { All IsSlice slices.now }
+    requires each { All IsSliceTable slices.now }
     ensures picks { (c : List Entry) × ArePicks multiplier slices.now c × (result.0 ≡ size_of c) × (result.1 ≡ error_of c) }
     ensures size { result.0 < 2 ^ 34 }
     ensures error { result.1 < 2 ^ 61 }
@@ -64,7 +64,7 @@ pub fn pick_sums(table: &FrameTable, multiplier: u64) -> (u64, u64)
 /// Whether the picks by this multiplier have at most this size.
 fn picks_fit(slices: &[SliceTable], multiplier: u64, room: u64) -> bool
     requires few { length slices.now ≤ 131070 }
-    requires each { All IsSlice slices.now }
+    requires each { All IsSliceTable slices.now }
     ensures { IsTrue result ↔ ((c : List Entry) × ArePicks multiplier slices.now c × (size_of c ≤ room)) }
 {
     sums_of(slices, multiplier).0 <= room

@@ -2,7 +2,7 @@
 
 ghost use Rattle.std.specs.Prelude.{◌≡◌, ℕ, ◌+◌, ◌*◌, map, nat_lt};
 ghost use Rattle.std.specs.List.{filter};
-ghost use Rattle.rate_layers.specs.Live.{AreFound};
+ghost use Rattle.rate_layers.specs.inner.Live.{AreFound};
 
 use crate::bound::{Bound, bound_of, is_within};
 use rate_table::{FrameTable, Pair, least_cost, least_costs};

@@ -4,7 +4,7 @@ ghost use Rattle.std.specs.Prelude.{◌≡◌, ◌+◌, ◌*◌, ◌≤◌, OnOk
 ghost use Rattle.std.specs.List.{All, Contains};
 ghost use Rattle.rate_table.specs.declared.entry.Pair.{Pair};
 ghost use Rattle.rate_table.specs.Table.{IsEntry};
-ghost use Rattle.rate_layers.specs.Merge.{IsFloor, Passing};
+ghost use Rattle.rate_layers.specs.inner.Merge.{IsFloor, Passing};
 
 use crate::bound::Bound;
 use rate_table::{Entry, Pair, cost_of};

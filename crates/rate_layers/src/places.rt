@@ -4,7 +4,7 @@ ghost use Rattle.std.specs.Prelude.{◌≡◌, ℕ, ◌<◌, ◌↔◌, IsTrue, 
 ghost use Rattle.std.specs.List.{Contains};
 ghost use Rattle.rate_table.specs.declared.entry.Pair.{Pair};
 ghost use Rattle.rate_layers.specs.Layers.{Rises};
-ghost use Rattle.rate_layers.specs.Live.{StandsAt};
+ghost use Rattle.rate_layers.specs.inner.Live.{StandsAt};
 
 use rate_table::Pair;
 

@@ -9,7 +9,7 @@ ghost use Rattle.rate_table.specs.Records.{IsGoodFit, SaysNone};
 ghost use Rattle.rate_layers.specs.declared.fault.BestFault.TheVariants.{LayersFull};
 ghost use Rattle.rate_layers.specs.Layers.{AreKept, pairs_in};
 ghost use Rattle.rate_layers.specs.Multiplier.{IsMultiplier};
-ghost use Rattle.rate_layers.specs.Live.{AreFound};
+ghost use Rattle.rate_layers.specs.inner.Live.{AreFound};
 ghost use Rattle.rate_layers.specs.Best.{OnFits, OnNone, TellsBest, TellsLayers, PassesByPicks, PassesByBest};
 
 #[cfg(test)]

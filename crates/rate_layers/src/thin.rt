@@ -4,7 +4,7 @@ ghost use Rattle.std.specs.Prelude.{◌≡◌, ◌≤◌, IsTrue, OnOk, length};
 ghost use Rattle.std.specs.List.{All, Contains};
 ghost use Rattle.rate_table.specs.declared.entry.Entry.{Entry};
 ghost use Rattle.rate_table.specs.Table.{IsEntry};
-ghost use Rattle.rate_layers.specs.Merge.{Thinned};
+ghost use Rattle.rate_layers.specs.inner.Merge.{Thinned};
 
 use rate_table::Entry;
 use std::alloc::AllocError;

@@ -14,7 +14,7 @@ use Rattle.rate_least.specs.declared.outcome.WidePair.{WidePair}
 use Rattle.rate_least.specs.Pairs.{Dominates, joined, least_error, MeetsCap, StaysWithin}
 use Rattle.rate_least.specs.Layers.{Reaches, IsFront, Joins}
 use Rattle.rate_least.specs.Held.{IsCapped, IsHeld, AreHeld}
-use Rattle.rate_least.specs.Live.{Capped}
+use Rattle.rate_least.specs.inner.Live.{Capped}
 use Rattle.rate_least.proofs.Fronts.{front_layer, one_layer}
 use Rattle.rate_least.proofs.Grown.{front_step}
 use Rattle.rate_least.proofs.Exists.{front_of_tested}

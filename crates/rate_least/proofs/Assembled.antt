@@ -5,16 +5,16 @@ use Rattle.std.proofs.lemmas.List.{get_or_append_left, get_or_push, get_or_defau
 use Rattle.std.proofs.lemmas.List.Elements.{All-take, Contains-get_or}
 use Rattle.std.proofs.lemmas.Bool.{cases_lt}
 use Rattle.rate_table.specs.declared.entry.Entry.{Entry}
-use Rattle.rate_table.specs.Table.{IsSlice, least}
+use Rattle.rate_table.specs.Table.{IsSliceTable, least}
 use Rattle.rate_table.specs.Pairs.{cost, rest}
 use Rattle.rate_least.specs.declared.outcome.WidePair.{WidePair}
 use Rattle.rate_least.specs.declared.bound.Bound.{Bound}
 use Rattle.rate_least.specs.Pairs.{least_error}
 use Rattle.rate_least.specs.Records.{IsNarrow}
 use Rattle.rate_least.specs.Layers.{Reaches, Joins, IsFront, pairs_in}
-use Rattle.rate_least.specs.Covering.{IsBoundOf}
-use Rattle.rate_least.specs.Merge.{Passes, IsNext}
-use Rattle.rate_least.specs.Live.{Capped}
+use Rattle.rate_least.specs.inner.Covering.{IsBoundOf}
+use Rattle.rate_least.specs.inner.Merge.{Passes, IsNext}
+use Rattle.rate_least.specs.inner.Live.{Capped}
 use Rattle.rate_least.proofs.Asked.{IsKept, AreKept, Stays, At, kept_test, layer_step}
 use Rattle.rate_least.proofs.Curved.{size_small, error_small, pairs_below}
 use Rattle.rate_least.proofs.Kept.{front_kept}
@@ -99,17 +99,17 @@ module _ (t : Capped) (m u : ℕ) where
       let e' : length (get_or layers i []) ≡ length (get_or all i []) = ap length e in
       omega arith)
 
-  reached_small : All IsSlice t.slices → length t.slices ≤ 131070 → (k : ℕ) (p : WidePair) → Reaches (take k t.slices) p → (p.size < 2 ^ 34) × (p.error < 2 ^ 61)
+  reached_small : All IsSliceTable t.slices → length t.slices ≤ 131070 → (k : ℕ) (p : WidePair) → Reaches (take k t.slices) p → (p.size < 2 ^ 34) × (p.error < 2 ^ 61)
   reached_small each few k p r =
       let s = ap (λ (x : WidePair). x.size) r.2 in
       let e = ap (λ (x : WidePair). x.error) r.2 in (
-        omega (arith, s, size_small (take k t.slices) (All-take IsSlice k t.slices each) r.0 r.1, few, length-take k t.slices),
-        omega (arith, e, error_small (take k t.slices) (All-take IsSlice k t.slices each) r.0 r.1, few, length-take k t.slices),
+        omega (arith, s, size_small (take k t.slices) (All-take IsSliceTable k t.slices each) r.0 r.1, few, length-take k t.slices),
+        omega (arith, e, error_small (take k t.slices) (All-take IsSliceTable k t.slices each) r.0 r.1, few, length-take k t.slices),
       )
 
   -- sizes and errors of a layer are small
-  pub layer_narrow : All IsSlice t.slices → length t.slices ≤ 131070 → (k : ℕ) (layer : List WidePair) → IsFront (At t (Stays t m u) k) layer → All IsNarrow layer
+  pub layer_narrow : All IsSliceTable t.slices → length t.slices ≤ 131070 → (k : ℕ) (layer : List WidePair) → IsFront (At t (Stays t m u) k) layer → All IsNarrow layer
   layer_narrow each few k layer f i d n = (reached_small each few k (get_or layer i d) (f.only (get_or layer i d) (Contains-get_or layer i d n)).0).0
 
-  pub layer_small : All IsSlice t.slices → length t.slices ≤ 131070 → (k : ℕ) (layer : List WidePair) → IsFront (At t (Stays t m u) k) layer → All (λ p. p.error < 2 ^ 63) layer
+  pub layer_small : All IsSliceTable t.slices → length t.slices ≤ 131070 → (k : ℕ) (layer : List WidePair) → IsFront (At t (Stays t m u) k) layer → All (λ p. p.error < 2 ^ 63) layer
   layer_small each few k layer f i d n = let r = (reached_small each few k (get_or layer i d) (f.only (get_or layer i d) (Contains-get_or layer i d n)).0).1 in omega arith

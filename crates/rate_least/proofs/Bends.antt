@@ -6,11 +6,11 @@ use Rattle.std.proofs.lemmas.List.Elements.{All-head, All-tail}
 use Rattle.std.proofs.lemmas.Nat.{mul-le}
 use Rattle.std.proofs.lemmas.Bool.{cases_lt}
 use Rattle.rate_table.specs.declared.entry.Entry.{Entry}
-use Rattle.rate_table.specs.Table.{IsChoice, error_of, IsSlice}
+use Rattle.rate_table.specs.Table.{IsChoice, error_of, IsSliceTable}
 use Rattle.rate_table.specs.Pairs.{cost}
 use Rattle.rate_table.proofs.Lists.{contains_cases, contains_head, contains_tail, contains_none}
-use Rattle.rate_least.specs.Held.{IsBent, IsBend, BendMeets, IsMultiplier}
-use Rattle.rate_least.specs.Bent.{Wins}
+use Rattle.rate_least.specs.Held.{IsBent, IsBend, BendMeets, IsGreatestMultiplier}
+use Rattle.rate_least.specs.inner.Bent.{Wins}
 
 -- the order of taking
 pub wins_self : (m : ℕ) (a b : Entry) → a ≡ b → Wins m a b
@@ -65,12 +65,12 @@ bent_of m x [] = (x, bent_wins m (x ∷ []) x (contains_head x []) (λ y c. ⊎_
 bent_of m x (y ∷ xs) = let r = bent_of m y xs in bent_with m x (y ∷ xs) r.0 r.1
 
 -- the bend of slices that have entries
-pub bend_of : (m : ℕ) (slices : List (List Entry)) → All IsSlice slices → (c : List Entry) × IsBend m slices c
+pub bend_of : (m : ℕ) (slices : List (List Entry)) → All IsSliceTable slices → (c : List Entry) × IsBend m slices c
 bend_of m [] a = ([], tt)
-bend_of m ([] ∷ ss) a = let h = All-head IsSlice [] ss a in absurd (omega (arith, h.some))
+bend_of m ([] ∷ ss) a = let h = All-head IsSliceTable [] ss a in absurd (omega (arith, h.some))
 bend_of m ((x ∷ s) ∷ ss) a =
     let p = bent_of m x s in
-    let c = bend_of m ss (All-tail IsSlice (x ∷ s) ss a) in
+    let c = bend_of m ss (All-tail IsSliceTable (x ∷ s) ss a) in
     (p.0 ∷ c.0, (p.1, c.1))
 
 pub bend_choice : (m : ℕ) (slices : List (List Entry)) (c : List Entry) → IsBend m slices c → IsChoice slices c
@@ -130,7 +130,7 @@ bend_push m (r ∷ slices) s [] x h i = absurd h
 bend_push m (r ∷ slices) s (y ∷ c) x h i = (h.0, bend_push m slices s c x h.1 i)
 
 -- Where a choice meets the cap, the bend by 0 does.
-pub first_bend : (slices : List (List Entry)) (cap : ℕ) → All IsSlice slices → (d : List Entry) → IsChoice slices d → error_of d ≤ cap → BendMeets slices cap 0
+pub first_bend : (slices : List (List Entry)) (cap : ℕ) → All IsSliceTable slices → (d : List Entry) → IsChoice slices d → error_of d ≤ cap → BendMeets slices cap 0
 first_bend slices cap ok d h f =
     let c = bend_of 0 slices ok in
     (c.0, c.1, omega (arith, bend_least slices c.0 d c.1 h))
@@ -140,10 +140,10 @@ pub bend_meets : (slices : List (List Entry)) (cap m : ℕ) (c : List Entry) →
 bend_meets slices cap m c a (d, b, f) = omega (arith, bends_up m m slices c d (omega arith) a b)
 
 -- Where the bend by one multiplier doesn't meet the cap, that by no greater one does.
-pub none_higher : (slices : List (List Entry)) (cap middle : ℕ) → All IsSlice slices → (BendMeets slices cap middle → ⊥) → (n : ℕ) → BendMeets slices cap n → n < middle
+pub none_higher : (slices : List (List Entry)) (cap middle : ℕ) → All IsSliceTable slices → (BendMeets slices cap middle → ⊥) → (n : ℕ) → BendMeets slices cap n → n < middle
 none_higher slices cap middle ok none n (c, h, f) =
     ⊎_elim (λ l. l) (λ l. let p = bend_of middle slices ok in
     absurd (none (p.0, p.1, omega (arith, bends_up middle n slices p.0 c l p.1 h)))) (cases_lt n middle)
 
-pub multiplier_same : (slices : List (List Entry)) (cap m n : ℕ) → IsMultiplier slices cap m → IsMultiplier slices cap n → m ≡ n
+pub multiplier_same : (slices : List (List Entry)) (cap m n : ℕ) → IsGreatestMultiplier slices cap m → IsGreatestMultiplier slices cap n → m ≡ n
 multiplier_same slices cap m n f g = omega (arith, f.greatest n g.limit g.meets, g.greatest m f.limit f.meets)

@@ -7,9 +7,9 @@ use Rattle.rate_table.specs.declared.entry.Entry.{Entry}
 use Rattle.rate_least.specs.declared.outcome.WidePair.{WidePair}
 use Rattle.rate_least.specs.declared.bound.Bound.{Bound}
 use Rattle.rate_least.specs.Layers.{Reaches, IsFront}
-use Rattle.rate_least.specs.Covering.{IsBoundOf}
-use Rattle.rate_least.specs.Merge.{Passes}
-use Rattle.rate_least.specs.Live.{Capped}
+use Rattle.rate_least.specs.inner.Covering.{IsBoundOf}
+use Rattle.rate_least.specs.inner.Merge.{Passes}
+use Rattle.rate_least.specs.inner.Live.{Capped}
 use Rattle.rate_least.proofs.Asked.{Stays, At}
 
 -- A pair passes a bound exactly where it can still meet the cap and stays within the bound.

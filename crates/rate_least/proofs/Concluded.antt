@@ -7,7 +7,7 @@ use Rattle.std.proofs.lemmas.Bool.{cases_lt}
 use Rattle.std.proofs.lemmas.List.Elements.{All-head, All-tail, All-contains, All-take, Contains-get_or}
 use Rattle.std.proofs.lemmas.List.Sums.{sum_by-cons}
 use Rattle.rate_table.specs.declared.entry.Entry.{Entry}
-use Rattle.rate_table.specs.Table.{Table, IsEntry, IsSlice, least, IsChoice, size_of, error_of, indices}
+use Rattle.rate_table.specs.Table.{Table, IsEntry, IsSliceTable, least, IsChoice, size_of, error_of, indices}
 use Rattle.rate_least.specs.declared.outcome.WidePair.{WidePair}
 use Rattle.rate_layers.specs.declared.fault.BestFault.{BestFault}
 use Rattle.rate_least.specs.Pairs.{least_error}
@@ -16,9 +16,9 @@ use Rattle.rate_least.specs.Records.{Printed, IsGoodFit}
 use Rattle.rate_table.proofs.Lists.{contains_head, contains_tail}
 use Rattle.rate_table.proofs.Entries.{least_below}
 use Rattle.rate_least.specs.Files.{IsPrintable, HasWidths, IsPair}
-use Rattle.rate_least.specs.First.{IsFirst}
-use Rattle.rate_least.specs.Held.{IsMultiplier}
-use Rattle.rate_least.specs.Live.{AreFound}
+use Rattle.rate_least.specs.inner.First.{IsFirst}
+use Rattle.rate_least.specs.Held.{IsGreatestMultiplier}
+use Rattle.rate_least.specs.inner.Live.{AreFound}
 use Rattle.rate_least.specs.Answers.{IsSmallest, IsSmallestWith, PassesBySmallest}
 use Rattle.rate_least.proofs.Asked.{AreKept}
 use Rattle.rate_least.proofs.Bends.{multiplier_same}
@@ -32,13 +32,13 @@ all_more n ns h a zero d l = h
 all_more n ns h a (suc k) d l = a k d (omega (arith, l))
 
 -- indices of a choice are bytes
-indices_small : (slices : List (List Entry)) → All IsSlice slices → (c : List Entry) → IsChoice slices c → All (λ index. index < 256) (indices c)
+indices_small : (slices : List (List Entry)) → All IsSliceTable slices → (c : List Entry) → IsChoice slices c → All (λ index. index < 256) (indices c)
 indices_small [] a [] h = λ k d n. absurd (omega arith)
 indices_small [] a (x ∷ c) h = absurd h
 indices_small (s ∷ ss) a [] h = absurd h
 indices_small (s ∷ ss) a (x ∷ c) h =
-    let b : IsEntry x = All-contains IsEntry s x (All-head IsSlice s ss a).limits h.0 in
-    all_more x.index (indices c) (omega (arith, b.index_to)) (indices_small ss (All-tail IsSlice s ss a) c h.1)
+    let b : IsEntry x = All-contains IsEntry s x (All-head IsSliceTable s ss a).limits h.0 in
+    all_more x.index (indices c) (omega (arith, b.index_to)) (indices_small ss (All-tail IsSliceTable s ss a) c h.1)
 
 -- the first pair of some
 pub begins : (ps : List WidePair) (d p : WidePair) → 0 < length ps → p ≡ get_or ps 0 d → (back : List WidePair) × (ps ≡ p ∷ back)
@@ -53,12 +53,12 @@ least_attained f x (z ∷ xs) =
     ⊎_elim (λ l. (r.0, contains_tail x (z ∷ xs) r.0 r.1, omega (arith, r.2))) (λ l. (x, contains_head x (z ∷ xs), omega (arith, r.2))) (cases_lt (f r.0) (f x))
 
 -- Some choice has the least errors.
-pub least_meets : (slices : List (List Entry)) → All IsSlice slices → (c : List Entry) × IsChoice slices c × (error_of c ≡ least_error slices)
+pub least_meets : (slices : List (List Entry)) → All IsSliceTable slices → (c : List Entry) × IsChoice slices c × (error_of c ≡ least_error slices)
 least_meets [] a = ([], tt, refl)
-least_meets ([] ∷ ss) a = let h = All-head IsSlice [] ss a in absurd (omega (arith, h.some))
+least_meets ([] ∷ ss) a = let h = All-head IsSliceTable [] ss a in absurd (omega (arith, h.some))
 least_meets ((x ∷ s) ∷ ss) a =
     let r = least_attained (λ x. x.error) x s in
-    let c = least_meets ss (All-tail IsSlice (x ∷ s) ss a) in
+    let c = least_meets ss (All-tail IsSliceTable (x ∷ s) ss a) in
     (r.0 ∷ c.0, (r.1, c.1), omega (arith, sum_by-cons (λ (x : Entry). x.error) r.0 c.0, sum_by-cons (least (λ x. x.error)) (x ∷ s) ss, r.2, c.2))
 
 -- Where they pass it, none does.
@@ -86,10 +86,10 @@ module _ (slices : List (List Entry)) (cap m : ℕ) (goal : WidePair) (layers : 
   abbrev pub shown : List ℕ → Printed
   shown chosen = record { choice = chosen; size = goal.size; error = goal.error; multiplier = m; layers = layers }
 
-  pub tells_smallest : IsMultiplier slices cap m → (chosen : List ℕ) → chosen ≡ indices c → IsSmallestWith slices cap (shown chosen)
+  pub tells_smallest : IsGreatestMultiplier slices cap m → (chosen : List ℕ) → chosen ≡ indices c → IsSmallestWith slices cap (shown chosen)
   tells_smallest i chosen e = record { best = c; is_smallest = is_smallest; choice = e; size = sym has_size; error = sym has_error; multiplier = i; held = found.kept }
 
-  pub tells_good : All IsSlice slices → (chosen : List ℕ) → chosen ≡ indices c → IsGoodFit slices cap (shown chosen)
+  pub tells_good : All IsSliceTable slices → (chosen : List ℕ) → chosen ≡ indices c → IsGoodFit slices cap (shown chosen)
   tells_good each chosen e =
       let k = subst (λ u. AreKept (capped slices cap) m u layers) (sym has_size) found.kept in
       let g = produced_kept (capped slices cap) each c is_smallest m layers k in
@@ -105,7 +105,7 @@ module _ (slices : List (List Entry)) (cap m : ℕ) (goal : WidePair) (layers : 
     few = found.few;
   }
 
-  pub tells_widths : All IsSlice slices → length slices ≤ 131070 → IsMultiplier slices cap m → (chosen : List ℕ) → chosen ≡ indices c → HasWidths (shown chosen)
+  pub tells_widths : All IsSliceTable slices → length slices ≤ 131070 → IsGreatestMultiplier slices cap m → (chosen : List ℕ) → chosen ≡ indices c → HasWidths (shown chosen)
   tells_widths each few i chosen e = record {
     indices = subst (λ l. All (λ index. index < 256) l) (sym e) (indices_small slices each c first.chosen);
     size = omega (arith, has_size, size_small slices each c first.chosen, few);
@@ -123,11 +123,11 @@ module _ (slices : List (List Entry)) (cap m : ℕ) (goal : WidePair) (layers : 
           let r = ((a.capped.has q).0 ((a.has q).0 i).0).0.0 in
           let s = ap (λ (x : WidePair). x.size) r.2 in
           let f = ap (λ (x : WidePair). x.error) r.2 in (
-            omega (arith, s, size_small (take k slices) (All-take IsSlice k slices each) r.0 r.1, few, length-take k slices),
-            omega (arith, f, error_small (take k slices) (All-take IsSlice k slices each) r.0 r.1, few, length-take k slices),
+            omega (arith, s, size_small (take k slices) (All-take IsSliceTable k slices each) r.0 r.1, few, length-take k slices),
+            omega (arith, f, error_small (take k slices) (All-take IsSliceTable k slices each) r.0 r.1, few, length-take k slices),
           )
 
-  pub not_passed : IsMultiplier slices cap m → PassesBySmallest slices cap → ⊥
+  pub not_passed : IsGreatestMultiplier slices cap m → PassesBySmallest slices cap → ⊥
   not_passed i p =
       let em = multiplier_same slices cap p.multiplier m p.is_multiplier i in
       let k = subst (λ n. AreKept (capped slices cap) n (size_of p.best) p.layers) em p.held in

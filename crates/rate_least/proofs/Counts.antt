@@ -3,7 +3,7 @@ use Rattle.std.proofs.Common.{ℕ, zero, suc, take, ◌+◌, ◌≤◌, List, []
 use Rattle.std.specs.List.{Contains}
 use Rattle.rate_least.specs.declared.outcome.WidePair.{WidePair}
 use Rattle.rate_least.specs.Layers.{Rises}
-use Rattle.rate_least.specs.Live.{Capped}
+use Rattle.rate_least.specs.inner.Live.{Capped}
 use Rattle.rate_least.specs.Answers.{greatest, greatest_size}
 use Rattle.rate_least.proofs.Asked.{IsKept, Within}
 use Rattle.rate_table.specs.declared.entry.Entry.{Entry}

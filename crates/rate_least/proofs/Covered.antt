@@ -7,7 +7,7 @@ use Rattle.rate_table.specs.declared.entry.Entry.{Entry}
 use Rattle.rate_least.specs.declared.outcome.WidePair.{WidePair}
 use Rattle.rate_least.specs.Pairs.{Dominates, joined, RisesAndFalls}
 use Rattle.rate_least.specs.declared.bound.Bound.{Bound}
-use Rattle.rate_least.specs.Covering.{Covers, CoversEntry, ReachesTo, weight}
+use Rattle.rate_least.specs.inner.Covering.{Covers, CoversEntry, ReachesTo, weight}
 use Rattle.rate_least.proofs.Orders.{no_pair, apart}
 
 -- the first i pairs of the layer joined with the entry are covered

@@ -7,13 +7,13 @@ use Rattle.std.proofs.lemmas.List.Elements.{All-head, All-tail, All-contains, Al
 use Rattle.std.proofs.lemmas.Bool.{cases_lt}
 use Rattle.std.proofs.Math.Seq.{take-suc}
 use Rattle.rate_table.specs.declared.entry.Entry.{Entry}
-use Rattle.rate_table.specs.Table.{IsChoice, IsEntry, IsSlice, size_of, error_of}
+use Rattle.rate_table.specs.Table.{IsChoice, IsEntry, IsSliceTable, size_of, error_of}
 use Rattle.rate_table.proofs.Lists.{contains_none, contains_head, contains_cases}
 use Rattle.rate_least.specs.declared.outcome.WidePair.{WidePair}
 use Rattle.rate_least.specs.declared.bound.Bound.{Bound}
 use Rattle.rate_least.specs.Records.{IsNarrow}
 use Rattle.rate_least.specs.Layers.{Reaches, Joins, IsFront, pairs_in}
-use Rattle.rate_least.specs.Merge.{Passes, IsNext}
+use Rattle.rate_least.specs.inner.Merge.{Passes, IsNext}
 use Rattle.rate_least.specs.Curve.{IsCurve, AreCurves, CurvesPass}
 use Rattle.rate_least.proofs.Fronts.{front_layer, one_layer}
 use Rattle.rate_least.proofs.Grown.{front_step}
@@ -21,23 +21,23 @@ use Rattle.rate_least.proofs.Exists.{front_of_all}
 
 -- ---- sums of choices are small
 
-pub size_small : (slices : List (List Entry)) → All IsSlice slices → (c : List Entry) → IsChoice slices c → size_of c ≤ length slices * 65535
+pub size_small : (slices : List (List Entry)) → All IsSliceTable slices → (c : List Entry) → IsChoice slices c → size_of c ≤ length slices * 65535
 size_small [] a [] h = omega arith
 size_small [] a (x ∷ c) h = absurd h
 size_small (s ∷ ss) a [] h = absurd h
 size_small (s ∷ ss) a (x ∷ c) h =
-    let i = All-head IsSlice s ss a in
+    let i = All-head IsSliceTable s ss a in
     let b : IsEntry x = All-contains IsEntry s x i.limits h.0 in
-    omega (arith, b.size, size_small ss (All-tail IsSlice s ss a) c h.1, sum_by-cons (λ (x : Entry). x.size) x c)
+    omega (arith, b.size, size_small ss (All-tail IsSliceTable s ss a) c h.1, sum_by-cons (λ (x : Entry). x.size) x c)
 
-pub error_small : (slices : List (List Entry)) → All IsSlice slices → (c : List Entry) → IsChoice slices c → error_of c ≤ length slices * 2 ^ 43
+pub error_small : (slices : List (List Entry)) → All IsSliceTable slices → (c : List Entry) → IsChoice slices c → error_of c ≤ length slices * 2 ^ 43
 error_small [] a [] h = omega arith
 error_small [] a (x ∷ c) h = absurd h
 error_small (s ∷ ss) a [] h = absurd h
 error_small (s ∷ ss) a (x ∷ c) h =
-    let i = All-head IsSlice s ss a in
+    let i = All-head IsSliceTable s ss a in
     let b : IsEntry x = All-contains IsEntry s x i.limits h.0 in
-    omega (arith, b.error, error_small ss (All-tail IsSlice s ss a) c h.1, sum_by-cons (λ (x : Entry). x.error) x c)
+    omega (arith, b.error, error_small ss (All-tail IsSliceTable s ss a) c h.1, sum_by-cons (λ (x : Entry). x.error) x c)
 
 -- ---- layers by their numbers of pairs
 
@@ -57,7 +57,7 @@ pub record Curved (slices : List (List Entry)) (k count : ℕ) (points : List Wi
   pub total : pairs_in layers ≡ count
   pub last : get_or layers k [] ≡ points
 
-module _ (slices : List (List Entry)) (each : All IsSlice slices) (few : length slices ≤ 131070) where
+module _ (slices : List (List Entry)) (each : All IsSliceTable slices) (few : length slices ≤ 131070) where
   pub curved_first : (points : List WidePair) → points ≡ record { size = 0; error = 0 } ∷ [] → Curved slices 0 1 points
   curved_first points e =
       let none : WidePair = record { size = 0; error = 0 } in
@@ -80,8 +80,8 @@ module _ (slices : List (List Entry)) (each : All IsSlice slices) (few : length 
   reached_small k p r =
       let s = ap (λ (x : WidePair). x.size) r.2 in
       let e = ap (λ (x : WidePair). x.error) r.2 in (
-        omega (arith, s, size_small (take k slices) (All-take IsSlice k slices each) r.0 r.1, few, length-take k slices),
-        omega (arith, e, error_small (take k slices) (All-take IsSlice k slices each) r.0 r.1, few, length-take k slices),
+        omega (arith, s, size_small (take k slices) (All-take IsSliceTable k slices each) r.0 r.1, few, length-take k slices),
+        omega (arith, e, error_small (take k slices) (All-take IsSliceTable k slices each) r.0 r.1, few, length-take k slices),
       )
 
   pub points_narrow : (k count : ℕ) (points : List WidePair) → Curved slices k count points → All IsNarrow points
@@ -106,7 +106,7 @@ module _ (slices : List (List Entry)) (each : All IsSlice slices) (few : length 
   pub joins_small : (k count : ℕ) (points : List WidePair) → Curved slices k count points → k < length slices → (p : WidePair) → Joins points (get_or slices k []) p → p.error < 2 ^ 62
   joins_small k count points c n p j =
       let q = (reached_small k j.0 ((curved_front k count points c).only j.0 j.2)).1 in
-      let s = All-contains IsSlice slices (get_or slices k []) each (Contains-get_or slices k [] n) in
+      let s = All-contains IsSliceTable slices (get_or slices k []) each (Contains-get_or slices k [] n) in
       let x = All-contains IsEntry (get_or slices k []) j.1 s.limits j.3 in
       omega (arith, q, x.error, ap (λ (y : WidePair). y.error) j.4)
 

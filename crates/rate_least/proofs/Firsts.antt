@@ -8,9 +8,9 @@ use Rattle.rate_table.specs.declared.entry.Entry.{Entry}
 use Rattle.rate_table.specs.declared.entry.Pair.{Pair}
 use Rattle.rate_least.specs.declared.outcome.WidePair.{WidePair}
 use Rattle.rate_table.specs.Table.{IsChoice, size_of, error_of, indices, ComesFirst, least, IndicesRise}
-use Rattle.rate_least.specs.Live.{Capped}
+use Rattle.rate_least.specs.inner.Live.{Capped}
 use Rattle.rate_least.specs.Answers.{IsSmallest}
-use Rattle.rate_least.specs.First.{IsFirst, extended, IsFirstFrom, Leads}
+use Rattle.rate_least.specs.inner.First.{IsFirst, extended, IsFirstFrom, Leads}
 use Rattle.rate_least.specs.Pairs.{Dominates, joined, RisesAndFalls}
 use Rattle.rate_least.specs.Layers.{wide_of, Reaches, IsFront}
 use Rattle.rate_least.proofs.Fronts.{same_pair, first_below}

@@ -8,10 +8,10 @@ use Rattle.rate_table.specs.declared.entry.Entry.{Entry}
 use Rattle.rate_least.specs.declared.outcome.WidePair.{WidePair}
 use Rattle.rate_table.specs.Table.{IsChoice, size_of, error_of, indices, IndicesRise}
 use Rattle.rate_least.specs.Pairs.{joined}
-use Rattle.rate_least.specs.Live.{Capped}
-use Rattle.rate_least.specs.First.{IsFirst, extended, IsFirstFrom, Leads}
+use Rattle.rate_least.specs.inner.Live.{Capped}
+use Rattle.rate_least.specs.inner.First.{IsFirst, extended, IsFirstFrom, Leads}
 use Rattle.rate_least.specs.Layers.{wide_of, Reaches, Rises, IsFront, pairs_in}
-use Rattle.rate_least.specs.Live.{LeadsOn, IsFirstOn, LeadOn, LeadTo, marked, MarkedOn, MarkedTo, AreFound, AreMarked}
+use Rattle.rate_least.specs.inner.Live.{LeadsOn, IsFirstOn, LeadOn, LeadTo, marked, MarkedOn, MarkedTo, AreFound, AreMarked}
 use Rattle.rate_table.proofs.Lists.{contains_none, contains_head}
 use Rattle.rate_least.proofs.Fronts.{same_pair}
 use Rattle.rate_least.proofs.Asked.{Fits, AreKept, Stays, At, kept_test}

@@ -4,7 +4,7 @@ use Rattle.std.specs.List.{Contains}
 use Rattle.std.proofs.lemmas.Bool.{cases_lt}
 use Rattle.rate_least.specs.declared.outcome.WidePair.{WidePair}
 use Rattle.rate_least.specs.Layers.{Rises, IsFront}
-use Rattle.rate_least.specs.Live.{Capped}
+use Rattle.rate_least.specs.inner.Live.{Capped}
 use Rattle.rate_least.specs.Pairs.{RisesAndFalls}
 use Rattle.rate_least.proofs.Fronts.{front_layer, one_only}
 use Rattle.rate_table.proofs.Lists.{contains_head, contains_tail}

@@ -5,8 +5,8 @@ use Rattle.std.proofs.Math.Seq.{take-suc, drop-cons}
 use Rattle.rate_table.specs.declared.entry.Entry.{Entry}
 use Rattle.rate_least.specs.declared.outcome.WidePair.{WidePair}
 use Rattle.rate_table.specs.Table.{IsChoice, IndicesRise}
-use Rattle.rate_least.specs.Live.{Capped}
-use Rattle.rate_least.specs.First.{IsFirst, extended, IsFirstFrom, Leads}
+use Rattle.rate_least.specs.inner.Live.{Capped}
+use Rattle.rate_least.specs.inner.First.{IsFirst, extended, IsFirstFrom, Leads}
 use Rattle.rate_least.specs.Pairs.{joined}
 use Rattle.rate_least.specs.Layers.{wide_of, IsFront}
 use Rattle.rate_least.proofs.Fronts.{same_pair}

@@ -6,7 +6,7 @@ use Rattle.std.proofs.lemmas.List.{length-set, get_or-set_same, get_or-set_other
 use Rattle.rate_least.specs.declared.outcome.WidePair.{WidePair}
 use Rattle.rate_table.specs.Table.{size_of, error_of}
 use Rattle.rate_table.specs.Pairs.{rest}
-use Rattle.rate_least.specs.Live.{Capped, AreFound}
+use Rattle.rate_least.specs.inner.Live.{Capped, AreFound}
 use Rattle.rate_least.proofs.Asked.{IsKept, AreKept}
 use Rattle.rate_least.proofs.Counts.{kept_less}
 use Rattle.rate_least.proofs.Wholes.{kept_same, kept_are_fewer}

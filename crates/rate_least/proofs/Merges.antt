@@ -9,7 +9,7 @@ use Rattle.rate_least.specs.declared.outcome.WidePair.{WidePair}
 use Rattle.rate_least.specs.declared.bound.Bound.{Bound}
 use Rattle.rate_least.specs.Pairs.{Dominates, joined, RisesAndFalls}
 use Rattle.rate_least.specs.Layers.{IsFront}
-use Rattle.rate_least.specs.Merge.{IsBehind, AreBehind, Offered, Passes, JoinsOne, Merged, Merging, IsNext}
+use Rattle.rate_least.specs.inner.Merge.{IsBehind, AreBehind, Offered, Passes, JoinsOne, Merged, Merging, IsNext}
 use Rattle.rate_table.proofs.Lists.{contains_cases, contains_head, contains_tail, contains_none}
 use Rattle.rate_least.proofs.Fronts.{dominates_self, dominates_trans, first_below, falls_tail}
 

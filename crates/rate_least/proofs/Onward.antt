@@ -10,7 +10,7 @@ use Rattle.rate_least.specs.declared.outcome.WidePair.{WidePair}
 use Rattle.rate_table.specs.Table.{IndicesRise}
 use Rattle.rate_least.specs.Pairs.{joined}
 use Rattle.rate_least.specs.Layers.{Rises}
-use Rattle.rate_least.specs.Live.{LeadsOn, IsFirstOn}
+use Rattle.rate_least.specs.inner.Live.{LeadsOn, IsFirstOn}
 use Rattle.rate_least.proofs.Fronts.{first_smaller, rises_tail}
 use Rattle.rate_table.proofs.Lists.{contains_cases, contains_head, contains_tail, contains_none}
 use Rattle.rate_table.proofs.Entries.{index_after, rest_rises}

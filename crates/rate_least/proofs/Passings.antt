@@ -9,8 +9,8 @@ use Rattle.rate_table.proofs.Lists.{contains_none}
 use Rattle.rate_least.specs.declared.outcome.WidePair.{WidePair}
 use Rattle.rate_least.specs.declared.bound.Bound.{Bound}
 use Rattle.rate_least.specs.Pairs.{joined}
-use Rattle.rate_least.specs.Covering.{weight, IsBelowWeights}
-use Rattle.rate_least.specs.Merge.{IsWithin, IsNext, Passing}
+use Rattle.rate_least.specs.inner.Covering.{weight, IsBelowWeights}
+use Rattle.rate_least.specs.inner.Merge.{IsWithin, IsNext, Passing}
 
 module _ (b : Bound) (layer : List WidePair) where
   pub passing_none : Passing b layer [] []

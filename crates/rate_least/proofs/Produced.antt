@@ -6,7 +6,7 @@ use Rattle.std.proofs.lemmas.List.Elements.{Contains-get_or}
 use Rattle.std.proofs.lemmas.Bool.{cases_lt}
 use Rattle.std.proofs.Math.Seq.{take-suc}
 use Rattle.rate_table.specs.declared.entry.Entry.{Entry}
-use Rattle.rate_table.specs.Table.{IsChoice, IsSlice, size_of, error_of, indices}
+use Rattle.rate_table.specs.Table.{IsChoice, IsSliceTable, size_of, error_of, indices}
 use Rattle.rate_table.specs.Pairs.{rest}
 use Rattle.rate_table.proofs.Entries.{choice_same}
 use Rattle.rate_least.specs.declared.outcome.WidePair.{WidePair}
@@ -14,8 +14,8 @@ use Rattle.rate_least.specs.Pairs.{joined, RisesAndFalls, least_error}
 use Rattle.rate_least.specs.Layers.{Reaches, IsFront}
 use Rattle.rate_least.specs.Records.{Printed, IsCovered, Steps, IsGoodFit}
 use Rattle.rate_least.specs.Answers.{IsSmallest}
-use Rattle.rate_least.specs.First.{IsFirst}
-use Rattle.rate_least.specs.Live.{Capped}
+use Rattle.rate_least.specs.inner.First.{IsFirst}
+use Rattle.rate_least.specs.inner.Live.{Capped}
 use Rattle.rate_least.proofs.Fronts.{front_layer, one_layer}
 use Rattle.rate_least.proofs.Grown.{choice_push, pair_push}
 use Rattle.rate_least.proofs.Asked.{Meets, Within, Fits, IsKept, AreKept, At, Stays, kept_test, layer_none}
@@ -70,7 +70,7 @@ whole t Fine layer f =
     (subst (λ l. IsFront (λ p. Reaches (take (length t.slices) t.slices) p × Fine l p) layer) (drop_all (length t.slices) t.slices (omega arith)) f)
 
 -- the smallest choice with the layers held under its size
-pub produced_kept : (t : Capped) → All IsSlice t.slices → (b : List Entry) → IsSmallest t.slices t.cap b → (m : ℕ) (layers : List (List WidePair)) → AreKept t m (size_of b) layers → IsGoodFit t.slices t.cap (printed_of b m layers)
+pub produced_kept : (t : Capped) → All IsSliceTable t.slices → (b : List Entry) → IsSmallest t.slices t.cap b → (m : ℕ) (layers : List (List WidePair)) → AreKept t m (size_of b) layers → IsGoodFit t.slices t.cap (printed_of b m layers)
 produced_kept t each b best m layers a =
     let none : WidePair = record { size = 0; error = 0 } in
     let u = size_of b in

@@ -2,7 +2,7 @@
 use Rattle.std.proofs.Common.{◌≡◌, ℕ, ◌≤◌, List, [], Result, Ok, refl, sym, subst}
 use Rattle.pw_outside.specs.Ports.{last}
 use Rattle.pw_outside.specs.Reading.{Fault}
-use Rattle.pw_outside.specs.Writing.{SinkState, Puts, PutsFront}
+use Rattle.pw_outside.specs.Writing.{SinkState, Puts, PutsFront, Extends}
 use Rattle.pw_outside.proofs.Puts.{puts_none, puts_front}
 use Rattle.rate_table.specs.declared.fault.ProofKind.{ProofKind}
 use Rattle.rate_table.specs.Table.{Table}
@@ -11,7 +11,7 @@ use Rattle.rate_least.specs.declared.end.LeastEnd.TheVariants as ends
 use Rattle.rate_least.specs.Records.{Said, Certificate}
 use Rattle.rate_least.specs.Files.{cert_bytes}
 use Rattle.rate_least.specs.Answers.{IsAnswer}
-use Rattle.rate_least.specs.Ends.{IsPrintersEnd, PrintsLines, Extends}
+use Rattle.rate_least.specs.Ends.{IsPrintersEnd, PrintsLines}
 use Rattle.rate_least.specs.Leasting.{least_text, IsCertificateOf, WritesLeast}
 
 pub certificate_of : (cap : ℕ) (r : Result Table (Fault ProofKind)) (t : Table) (said : Said) → r ≡ Ok t → IsAnswer t.slices cap said → IsCertificateOf cap r (record { table = t; cap = cap; said = said })

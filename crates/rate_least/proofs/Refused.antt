@@ -4,9 +4,9 @@ use Rattle.rate_table.specs.declared.entry.Entry.{Entry}
 use Rattle.rate_table.specs.Table.{IsChoice, size_of, error_of}
 use Rattle.rate_least.specs.declared.outcome.WidePair.{WidePair}
 use Rattle.rate_least.specs.Layers.{pairs_in}
-use Rattle.rate_least.specs.Held.{AreHeld, IsBend, IsMultiplier}
+use Rattle.rate_least.specs.Held.{AreHeld, IsBend, IsGreatestMultiplier}
 use Rattle.rate_least.specs.Answers.{PassesByBend, IsWide}
-use Rattle.rate_least.specs.Live.{Capped}
+use Rattle.rate_least.specs.inner.Live.{Capped}
 use Rattle.rate_least.proofs.Wholes.{kept_exist, kept_narrow, kept_are_fewer}
 use Rattle.rate_least.proofs.Bends.{bend_choice, bend_meets}
 
@@ -15,7 +15,7 @@ abbrev pub capped : List (List Entry) → ℕ → Capped
 capped slices cap = record { slices = slices; cap = cap }
 
 -- Where the layers of a size are too many that isn't above the bend's, so are those of the bend's size.
-pub passes_by_bend : (slices : List (List Entry)) (cap m v : ℕ) (bend : List Entry) → IsMultiplier slices cap m → IsBend m slices bend → v ≤ size_of bend → ((layers : List (List WidePair)) → AreHeld slices cap m v layers → 2 ^ 25 < pairs_in layers) → PassesByBend slices cap
+pub passes_by_bend : (slices : List (List Entry)) (cap m v : ℕ) (bend : List Entry) → IsGreatestMultiplier slices cap m → IsBend m slices bend → v ≤ size_of bend → ((layers : List (List WidePair)) → AreHeld slices cap m v layers → 2 ^ 25 < pairs_in layers) → PassesByBend slices cap
 passes_by_bend slices cap m v bend i a l full =
     let some = kept_exist (capped slices cap) m v in
     let all = kept_exist (capped slices cap) m (size_of bend) in
@@ -30,7 +30,7 @@ passes_by_bend slices cap m v bend i a l full =
     }
 
 -- the bend meets the cap, and its size is within itself
-pub bend_within : (slices : List (List Entry)) (cap m : ℕ) (bend : List Entry) → IsMultiplier slices cap m → IsBend m slices bend → IsChoice slices bend × (error_of bend ≤ cap)
+pub bend_within : (slices : List (List Entry)) (cap m : ℕ) (bend : List Entry) → IsGreatestMultiplier slices cap m → IsBend m slices bend → IsChoice slices bend × (error_of bend ≤ cap)
 bend_within slices cap m bend i a = (bend_choice m slices bend a, bend_meets slices cap m bend a i.meets)
 
 -- Only slices with many sizes have such layers.

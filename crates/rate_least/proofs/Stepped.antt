@@ -13,8 +13,8 @@ use Rattle.rate_least.specs.declared.outcome.WidePair.{WidePair}
 use Rattle.rate_least.specs.declared.bound.Bound.{Bound}
 use Rattle.rate_least.specs.Pairs.{joined, least_error}
 use Rattle.rate_least.specs.Records.{Printed, IsCovered, Steps, AllStep}
-use Rattle.rate_least.specs.Covering.{IsBoundOf, Covers, CoversEntry}
-use Rattle.rate_least.specs.Printed.{of_layers}
+use Rattle.rate_least.specs.inner.Covering.{IsBoundOf, Covers, CoversEntry}
+use Rattle.rate_least.specs.inner.Printed.{of_layers}
 
 -- what is printed of a multiplier and a size
 abbrev pub by : ℕ → ℕ → Printed

@@ -7,7 +7,7 @@ use Rattle.rate_least.specs.declared.outcome.WidePair.{WidePair}
 use Rattle.rate_table.specs.Pairs.{rest}
 use Rattle.rate_least.specs.Layers.{pairs_in}
 use Rattle.rate_least.specs.Pairs.{least_error}
-use Rattle.rate_least.specs.Live.{Capped}
+use Rattle.rate_least.specs.inner.Live.{Capped}
 use Rattle.rate_least.specs.Answers.{greatest_size}
 use Rattle.rate_least.proofs.Curved.{pairs_below}
 use Rattle.rate_least.proofs.Fronts.{front_layer, one_layer}

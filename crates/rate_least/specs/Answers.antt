@@ -7,7 +7,7 @@ use Rattle.rate_least.specs.declared.outcome.WidePair.{WidePair}
 use Rattle.rate_least.specs.Least.{HasNoneUnder}
 use Rattle.rate_least.specs.Records.{Printed, Said, fits, none, SaysNone}
 use Rattle.rate_least.specs.Layers.{pairs_in}
-use Rattle.rate_least.specs.Held.{IsBend, IsMultiplier, AreHeld}
+use Rattle.rate_least.specs.Held.{IsBend, IsGreatestMultiplier, AreHeld}
 
 -- of the choices of error at most the cap the one of least size, then of least error, then the first in the order of index lists
 pub record IsSmallest (slices : List (List Entry)) (cap : ℕ) (best : List Entry) : Type 0 where
@@ -25,7 +25,7 @@ pub record IsSmallestWith (slices : List (List Entry)) (cap : ℕ) (r : Printed)
   pub choice : r.choice ≡ indices best
   pub size : r.size ≡ size_of best
   pub error : r.error ≡ error_of best
-  pub multiplier : IsMultiplier slices cap r.multiplier
+  pub multiplier : IsGreatestMultiplier slices cap r.multiplier
   pub held : AreHeld slices cap r.multiplier r.size r.layers
 
 -- what is said of the slices and the cap is the smallest choice with its layers; or, where no choice meets the cap, the least error
@@ -36,7 +36,7 @@ IsAnswer slices cap (none least) = HasNoneUnder slices cap × SaysNone slices ca
 -- A choice meets the cap, and the layers held under the size of the multiplier's choice number more than 2^25 pairs.
 pub record PassesByBend (slices : List (List Entry)) (cap : ℕ) : Type 0 where
   pub multiplier : ℕ
-  pub is_multiplier : IsMultiplier slices cap multiplier
+  pub is_multiplier : IsGreatestMultiplier slices cap multiplier
   pub bend : List Entry
   pub is_bend : IsBend multiplier slices bend
   pub layers : List (List WidePair)
@@ -46,7 +46,7 @@ pub record PassesByBend (slices : List (List Entry)) (cap : ℕ) : Type 0 where
 -- A choice meets the cap, and the layers held under the size of the smallest one number more than 2^25 pairs.
 pub record PassesBySmallest (slices : List (List Entry)) (cap : ℕ) : Type 0 where
   pub multiplier : ℕ
-  pub is_multiplier : IsMultiplier slices cap multiplier
+  pub is_multiplier : IsGreatestMultiplier slices cap multiplier
   pub best : List Entry
   pub is_smallest : IsSmallest slices cap best
   pub layers : List (List WidePair)

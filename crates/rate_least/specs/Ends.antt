@@ -44,10 +44,6 @@ IsPrintersEnd ends.Done = Unit {0}
 IsPrintersEnd ends.WriteFault = Unit {0}
 IsPrintersEnd _ = ⊥
 
--- What is held extends what was held, and the count has risen by as much.
-abbrev pub Extends : SinkState → SinkState → Type 0
-Extends before after = (bytes : List ℕ) × Puts before after bytes
-
 -- After Done these bytes were appended, after a fault of writing a front of them, and after every other answer nothing.
 abbrev pub PrintsLines : LeastEnd → List ℕ → SinkState → SinkState → Type 0
 PrintsLines ends.Done lines before after = Puts before after lines

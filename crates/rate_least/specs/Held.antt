@@ -43,7 +43,7 @@ abbrev pub BendMeets : List (List Entry) → ℕ → ℕ → Type 0
 BendMeets slices cap m = (choice : List Entry) × IsBend m slices choice × (error_of choice ≤ cap)
 
 -- the greatest multiplier up to 2^43 whose choice meets the cap
-pub record IsMultiplier (slices : List (List Entry)) (cap m : ℕ) : Type 0 where
+pub record IsGreatestMultiplier (slices : List (List Entry)) (cap m : ℕ) : Type 0 where
   pub meets : BendMeets slices cap m
   pub limit : m ≤ 2 ^ 43
   pub greatest : (n : ℕ) → n ≤ 2 ^ 43 → BendMeets slices cap n → n ≤ m

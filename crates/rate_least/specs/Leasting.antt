@@ -65,10 +65,3 @@ abbrev pub WritesLeast : LeastEnd → (Certificate → Type 0) → SinkState →
 WritesLeast ends.Done Is cert cert' text text' = AppendsAll Is cert cert' text text'
 WritesLeast ends.WriteFault Is cert cert' text text' = AppendsFronts Is cert cert' text text'
 WritesLeast _ Is cert cert' text text' = Puts cert cert' [] × Puts text text' []
-
--- The counts of faults of two sinks never fall. One of them has risen where writing failed, and else both are as they were.
-pub record CountsFaults (before now before' now' : ℕ) (failed : Bool) : Type 0 where
-  pub later : before ≤ now
-  pub later' : before' ≤ now'
-  pub rose : OnTrue failed (Rose before now ⊎ Rose before' now')
-  pub kept : OnFalse failed ((now ≡ before) × (now' ≡ before'))

@@ -1,11 +1,8 @@
 pub mod Pairs
 pub mod Least
 pub mod Records
-pub mod Covering
-pub mod Printed
 pub mod Files
 pub mod Layers
-pub mod Merge
 pub mod Curve
 pub mod Ends
 pub mod Runs
@@ -13,6 +10,4 @@ pub mod Laws
 pub mod Held
 pub mod Answers
 pub mod Leasting
-pub mod First
-pub mod Live
-pub mod Bent
+pub mod inner

@@ -1,7 +1,7 @@
 //! What the pairs of a layer are compared with.
 
 ghost use Rattle.std.specs.Prelude.{◌≡◌, ◌<◌, ◌^◌};
-ghost use Rattle.rate_least.specs.Covering.{weight};
+ghost use Rattle.rate_least.specs.inner.Covering.{weight};
 ghost use Rattle.rate_least.specs.Records.{IsNarrow};
 
 use crate::outcome::WidePair;

@@ -4,7 +4,7 @@ ghost use Rattle.std.specs.Prelude.{◌≡◌, ◌<◌, ◌^◌, ◌↔◌, ℕ,
 ghost use Rattle.std.specs.List.{All};
 ghost use Rattle.rate_cert.specs.Records.{Asks, AsksNothing};
 ghost use Rattle.rate_least.specs.Records.{said_by, AreNarrow, IsNarrow, SaysNone, HasCounts, HasEntries, SumsAreRight, AreGood, IsGoodFit, IsGood, Fails, FailsFit, FailsLayers, IsTrueOf};
-ghost use Rattle.rate_least.specs.Printed.{of_sums, of_layers};
+ghost use Rattle.rate_least.specs.inner.Printed.{of_sums, of_layers};
 
 use crate::errors::least_errors;
 use crate::laws::good_is_true;

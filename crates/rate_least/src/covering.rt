@@ -4,7 +4,7 @@ ghost use Rattle.std.specs.Prelude.{◌≡◌, ◌+◌, ◌-◌, ◌*◌, ◌<�
 ghost use Rattle.std.specs.List.{All};
 ghost use Rattle.rate_least.specs.Pairs.{RisesAndFalls};
 ghost use Rattle.rate_least.specs.Records.{IsNarrow};
-ghost use Rattle.rate_least.specs.Covering.{IsSmall, ReachesTo, CoversEntry, IsBelowWeights};
+ghost use Rattle.rate_least.specs.inner.Covering.{IsSmall, ReachesTo, CoversEntry, IsBelowWeights};
 
 use crate::bound::{Bound, weight_of};
 use crate::outcome::WidePair;

@@ -2,7 +2,7 @@
 
 ghost use Rattle.std.specs.Prelude.{◌≡◌, ◌*◌, ◌<◌, ◌≤◌, ◌^◌, length};
 ghost use Rattle.std.specs.List.{All};
-ghost use Rattle.rate_table.specs.Table.{IsTable, IsSlice, IsEntry, least};
+ghost use Rattle.rate_table.specs.Table.{IsTable, IsSliceTable, IsEntry, least};
 ghost use Rattle.rate_least.specs.Pairs.{least_error};
 
 use rate_table::{Entry, FrameTable, SliceTable};
@@ -23,7 +23,7 @@ pub fn least_error_of(entries: &[Entry]) -> u64
 
 fn errors_of(slices: &[SliceTable]) -> u64
     requires few { length slices.now ≤ 131070 }
-    requires each { All IsSlice slices.now }
+    requires each { All IsSliceTable slices.now }
     ensures value { result ≡ least_error slices.now }
     ensures small { result ≤ 2 ^ 43 * length slices.now }
 {

@@ -5,8 +5,8 @@ ghost use Rattle.rate_layers.specs.declared.fault.BestFault.TheVariants.{LayersF
 ghost use Rattle.rate_least.specs.declared.outcome.WidePair.{WidePair};
 ghost use Rattle.rate_least.specs.Layers.{IsFront, pairs_in};
 ghost use Rattle.rate_least.specs.Held.{AreHeld};
-ghost use Rattle.rate_least.specs.Covering.{IsSmall};
-ghost use Rattle.rate_least.specs.Merge.{Passes, IsNext};
+ghost use Rattle.rate_least.specs.inner.Covering.{IsSmall};
+ghost use Rattle.rate_least.specs.inner.Merge.{Passes, IsNext};
 ghost use Rattle.rate_least.specs.Pairs.{RisesAndFalls};
 ghost use Rattle.rate_least.specs.Records.{IsNarrow};
 ghost use Rattle.rate_table.specs.Table.{IsEntry};

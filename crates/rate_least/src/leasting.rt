@@ -3,19 +3,19 @@
 ghost use Rattle.std.specs.Prelude.{◌≡◌, ◌++◌, OnOk, OnErr, IfOk, is_err};
 ghost use Rattle.std.specs.Bool.{OnTrue};
 ghost use Rattle.std.specs.Io.KnownBytes.{IsAtEnd};
-ghost use Rattle.pw_outside.specs.Ports.{CountsFault};
+ghost use Rattle.pw_outside.specs.Ports.{CountsFault, CountsFaults};
 ghost use Rattle.pw_outside.specs.Reading.{Told};
-ghost use Rattle.pw_outside.specs.Writing.{sink_state, Puts, PutsFront};
+ghost use Rattle.pw_outside.specs.Writing.{sink_state, Puts, PutsFront, Extends};
 ghost use Rattle.rate_table.specs.Reading.{tabled};
 ghost use Rattle.rate_least.specs.Records.{said_by};
 ghost use Rattle.rate_least.specs.Files.{cert_bytes, CanBeSaid};
-ghost use Rattle.rate_least.specs.Ends.{is_done, is_read_fault, is_write_fault, Extends};
-ghost use Rattle.rate_least.specs.Leasting.{spaced, least_text, AnswersLeast, IsCertificateOf, WritesLeast, CountsFaults};
+ghost use Rattle.rate_least.specs.Ends.{is_done, is_read_fault, is_write_fault};
+ghost use Rattle.rate_least.specs.Leasting.{spaced, least_text, AnswersLeast, IsCertificateOf, WritesLeast};
 
 use crate::end::LeastEnd;
 use crate::outcome::LeastOutcome;
 use crate::runs::print;
-use crate::search::least_size;
+use crate::search::smallest;
 use crate::writing::write_least;
 use pw_outside::{ByteSink, ByteSource, Failed, NoMemory};
 use pw_text::{put_decimal, put_words};
@@ -111,7 +111,7 @@ pub fn least_run<S: ByteSource, K: ByteSink>(
         Ok(table) => table,
         Err(fault) => return LeastEnd::from(fault),
     };
-    let outcome = match least_size(alloc, &table, cap) {
+    let outcome = match smallest(alloc, &table, cap) {
         Ok(outcome) => outcome,
         Err(fault) => return LeastEnd::from(fault),
     };

@@ -36,5 +36,5 @@ pub use outcome::{LeastOutcome, LeastProof, WidePair};
 pub use points::curve;
 pub use reading::read_least;
 pub use runs::{checkleast_run, curve_run};
-pub use search::least_size;
+pub use search::smallest;
 pub use writing::write_least;

@@ -6,9 +6,9 @@ ghost use Rattle.rate_table.specs.declared.entry.Entry.{Entry};
 ghost use Rattle.rate_least.specs.declared.outcome.WidePair.{WidePair};
 ghost use Rattle.rate_table.specs.Table.{IndicesRise, indices};
 ghost use Rattle.rate_least.specs.Pairs.{joined};
-ghost use Rattle.rate_least.specs.First.{IsFirst};
+ghost use Rattle.rate_least.specs.inner.First.{IsFirst};
 ghost use Rattle.rate_least.specs.Layers.{Rises};
-ghost use Rattle.rate_least.specs.Live.{marked, LeadsOn, IsFirstOn, AreFound, AreMarked};
+ghost use Rattle.rate_least.specs.inner.Live.{marked, LeadsOn, IsFirstOn, AreFound, AreMarked};
 
 use crate::marks::marks_before;
 use crate::outcome::WidePair;

@@ -5,7 +5,7 @@ ghost use Rattle.std.specs.List.{Contains};
 ghost use Rattle.rate_least.specs.declared.outcome.WidePair.{WidePair};
 ghost use Rattle.rate_least.specs.Pairs.{joined};
 ghost use Rattle.rate_least.specs.Layers.{Rises};
-ghost use Rattle.rate_least.specs.Live.{MarkedMore, MarkedOn, LeadsAt};
+ghost use Rattle.rate_least.specs.inner.Live.{MarkedMore, MarkedOn, LeadsAt};
 
 use crate::outcome::WidePair;
 use crate::places::place_of;

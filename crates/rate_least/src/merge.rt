@@ -6,8 +6,8 @@ ghost use Rattle.rate_least.specs.declared.outcome.WidePair.{WidePair};
 ghost use Rattle.rate_table.specs.Table.{IsEntry};
 ghost use Rattle.rate_least.specs.Pairs.{RisesAndFalls, Dominates};
 ghost use Rattle.rate_least.specs.Records.{IsNarrow};
-ghost use Rattle.rate_least.specs.Covering.{IsSmall};
-ghost use Rattle.rate_least.specs.Merge.{IsBehind, AreBehind, Offered, JoinsIf, Merged, IsNext};
+ghost use Rattle.rate_least.specs.inner.Covering.{IsSmall};
+ghost use Rattle.rate_least.specs.inner.Merge.{IsBehind, AreBehind, Offered, JoinsIf, Merged, IsNext};
 
 use crate::bound::Bound;
 use crate::covering::counts;

@@ -3,10 +3,10 @@
 ghost use Rattle.std.specs.Prelude.{◌≡◌, ◌+◌, ◌*◌, ◌<◌, ◌≤◌, ◌^◌, ◌↔◌, IsTrue, ℕ, List, length};
 ghost use Rattle.std.specs.List.{All};
 ghost use Rattle.rate_table.specs.declared.entry.Entry.{Entry};
-ghost use Rattle.rate_table.specs.Table.{IsSlice, IsChoice, size_of, error_of};
+ghost use Rattle.rate_table.specs.Table.{IsSliceTable, IsChoice, size_of, error_of};
 ghost use Rattle.rate_table.specs.Pairs.{cost};
-ghost use Rattle.rate_least.specs.Held.{IsBent, IsBend, BendMeets, IsMultiplier};
-ghost use Rattle.rate_least.specs.Bent.{Wins};
+ghost use Rattle.rate_least.specs.Held.{IsBent, IsBend, BendMeets, IsGreatestMultiplier};
+ghost use Rattle.rate_least.specs.inner.Bent.{Wins};
 
 use rate_table::{Entry, FrameTable, SliceTable, cost_of};
 
@@ -43,7 +43,7 @@ fn bent(entries: &[Entry], multiplier: u64) -> Entry
 /// index.
 fn sums_of(slices: &[SliceTable], multiplier: u64) -> (u64, u64)
     requires few { length slices.now ≤ 131070 }
-    requires each { All IsSlice slices.now }
+    requires each { All IsSliceTable slices.now }
     ensures bend { (c : List Entry) × IsBend multiplier slices.now c × (result.0 ≡ size_of c) × (result.1 ≡ error_of c) }
     ensures size { result.0 < 2 ^ 34 }
     ensures error { result.1 < 2 ^ 61 }
@@ -69,7 +69,7 @@ pub fn bend_size(table: &FrameTable, multiplier: u64) -> u64
 /// Whether the choice by this multiplier meets the cap.
 fn bend_meets(slices: &[SliceTable], multiplier: u64, cap: u64) -> bool
     requires few { length slices.now ≤ 131070 }
-    requires each { All IsSlice slices.now }
+    requires each { All IsSliceTable slices.now }
     ensures { IsTrue result ↔ BendMeets slices.now cap multiplier }
 {
     sums_of(slices, multiplier).1 <= cap
@@ -78,7 +78,7 @@ fn bend_meets(slices: &[SliceTable], multiplier: u64, cap: u64) -> bool
 /// The greatest multiplier up to 2^43 whose choice meets the cap, of a table where some choice does. No memory is taken.
 pub fn greatest_multiplier(table: &FrameTable, cap: u64) -> u64
     requires meets { (c : List Entry) × IsChoice table.now.slices c × (error_of c ≤ cap) }
-    ensures { IsMultiplier table.now.slices cap result }
+    ensures { IsGreatestMultiplier table.now.slices cap result }
 {
     let slices = table.slices.as_slice();
     let mut low: u64 = 0;

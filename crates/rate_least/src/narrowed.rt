@@ -2,7 +2,7 @@
 
 ghost use Rattle.std.specs.Prelude.{◌≡◌, ◌+◌, ◌*◌, ◌<◌, ◌↔◌, IsTrue, ℕ, map, nat_lt};
 ghost use Rattle.std.specs.List.{filter};
-ghost use Rattle.rate_least.specs.Live.{AreFound};
+ghost use Rattle.rate_least.specs.inner.Live.{AreFound};
 
 use crate::outcome::WidePair;
 use rate_table::{FrameTable, least_cost, least_costs};

@@ -4,8 +4,8 @@ ghost use Rattle.std.specs.Prelude.{OnOk};
 ghost use Rattle.std.specs.List.{All};
 ghost use Rattle.rate_table.specs.Table.{IsEntry};
 ghost use Rattle.rate_least.specs.Records.{IsNarrow};
-ghost use Rattle.rate_least.specs.Covering.{IsSmall};
-ghost use Rattle.rate_least.specs.Merge.{Passing};
+ghost use Rattle.rate_least.specs.inner.Covering.{IsSmall};
+ghost use Rattle.rate_least.specs.inner.Merge.{Passing};
 
 use crate::bound::Bound;
 use crate::covering::least_weight;

@@ -4,7 +4,7 @@ ghost use Rattle.std.specs.Prelude.{◌≡◌, ℕ, ◌<◌, ◌↔◌, IsTrue, 
 ghost use Rattle.std.specs.List.{Contains};
 ghost use Rattle.rate_least.specs.declared.outcome.WidePair.{WidePair};
 ghost use Rattle.rate_least.specs.Layers.{Rises};
-ghost use Rattle.rate_least.specs.Live.{StandsAt};
+ghost use Rattle.rate_least.specs.inner.Live.{StandsAt};
 
 use crate::outcome::WidePair;
 

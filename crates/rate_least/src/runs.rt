@@ -5,11 +5,11 @@ ghost use Rattle.std.specs.Bool.{OnTrue};
 ghost use Rattle.std.specs.Io.KnownBytes.{IsAtEnd};
 ghost use Rattle.pw_outside.specs.Ports.{CountsFault};
 ghost use Rattle.pw_outside.specs.Reading.{Told};
-ghost use Rattle.pw_outside.specs.Writing.{sink_state};
+ghost use Rattle.pw_outside.specs.Writing.{sink_state, Extends};
 ghost use Rattle.rate_table.specs.Reading.{tabled};
 ghost use Rattle.rate_least.specs.declared.end.LeastEnd.TheVariants as ends;
 ghost use Rattle.rate_least.specs.Files.{certified};
-ghost use Rattle.rate_least.specs.Ends.{is_done, is_read_fault, is_write_fault, AnswersUnlessOutside, IsPrintersEnd, Extends, PrintsLines};
+ghost use Rattle.rate_least.specs.Ends.{is_done, is_read_fault, is_write_fault, AnswersUnlessOutside, IsPrintersEnd, PrintsLines};
 ghost use Rattle.rate_least.specs.Runs.{AnswersCheck, SaysTrue, yes_text, AnswersCurve, IsCurveText, PrintsText};
 
 use crate::check::check_least;

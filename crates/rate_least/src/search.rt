@@ -6,8 +6,8 @@ ghost use Rattle.rate_table.specs.Table.{IsTable, IsChoice, size_of, error_of};
 ghost use Rattle.rate_layers.specs.declared.fault.BestFault.TheVariants.{LayersFull};
 ghost use Rattle.rate_least.specs.declared.outcome.WidePair.{WidePair};
 ghost use Rattle.rate_least.specs.Layers.{pairs_in};
-ghost use Rattle.rate_least.specs.Held.{AreHeld, IsMultiplier};
-ghost use Rattle.rate_least.specs.Live.{AreFound};
+ghost use Rattle.rate_least.specs.Held.{AreHeld, IsGreatestMultiplier};
+ghost use Rattle.rate_least.specs.inner.Live.{AreFound};
 ghost use Rattle.rate_least.specs.Records.{said_by, IsGood};
 ghost use Rattle.rate_least.specs.Files.{CanBeSaid, AreWide};
 ghost use Rattle.rate_least.specs.Answers.{IsAnswer, PassesByBend, PassesBySmallest, IsWide};
@@ -92,7 +92,7 @@ fn between(low: u64, most: u64, part: u64) -> u64
 /// sizes a 4,096th of the way to the size of the multiplier's choice, then four times as far, up to that size, which that choice
 /// has. None is tried twice.
 fn find(alloc: Global, table: &FrameTable, cap: u64, multiplier: u64) -> Result<Found, BestFault>
-    requires { IsMultiplier table.now.slices cap multiplier }
+    requires { IsGreatestMultiplier table.now.slices cap multiplier }
     ensures found { IfOk result (λ f. (u : ℕ) × AreFound (record { slices = table.now.slices; cap = cap }) multiplier u f.goal (map (λ l. l.items) f.layers.items)) }
     ensures full { IfErr result (λ e. e ≡ LayersFull → PassesByBend table.now.slices cap) }
 {
@@ -144,7 +144,7 @@ fn smallest_fit(alloc: Global, table: &FrameTable, cap: u64) -> Result<LeastOutc
 /// fixed bytes aren't asked.
 ///
 /// The errors are `LayersFull` where the layers number more than 2^25 pairs, and `NoMemory`.
-pub fn least_size(alloc: Global, table: &FrameTable, cap: u64) -> Result<LeastOutcome, BestFault>
+pub fn smallest(alloc: Global, table: &FrameTable, cap: u64) -> Result<LeastOutcome, BestFault>
     ensures answer { IfOk result (λ o. IsAnswer table.now.slices cap (said_by o)) }
     // What is answered passes all clauses of a certificate, and can be written as one.
     ensures good { IfOk result (λ o. IsGood table.now.slices cap (said_by o)) }

@@ -4,7 +4,7 @@ ghost use Rattle.std.specs.Prelude.{◌≡◌, ◌<◌, ◌^◌, ◌↔◌, IsTr
 ghost use Rattle.std.specs.List.{All};
 ghost use Rattle.rate_least.specs.Pairs.{RisesAndFalls};
 ghost use Rattle.rate_least.specs.Records.{IsNarrow, AllStep};
-ghost use Rattle.rate_least.specs.Printed.{of_layers};
+ghost use Rattle.rate_least.specs.inner.Printed.{of_layers};
 
 use crate::bound::Bound;
 use crate::covering::covers;

@@ -3,7 +3,7 @@ use Rattle.std.proofs.Common.{◌≡◌, ◌+◌, ◌<◌, ◌≤◌, List, [], 
 use Rattle.std.specs.List.{All}
 use Rattle.std.proofs.lemmas.List.Elements.{All-head, All-tail, All-push}
 use Rattle.rate_table.specs.declared.entry.Entry.{Entry}
-use Rattle.rate_table.specs.Table.{IsEntry, IndicesRise, IsSlice}
+use Rattle.rate_table.specs.Table.{IsEntry, IndicesRise, IsSliceTable}
 use Rattle.rate_table.specs.Body.{last_index}
 
 -- indices that rise from the first up to the last are no more than the numbers between them
@@ -16,7 +16,7 @@ last-within x [] h = (All-head IsEntry x [] h).index_to
 last-within x (y ∷ xs) h = last-within y xs (All-tail IsEntry x (y ∷ xs) h)
 
 -- a slice has at most 224 entries
-pub few-entries : (entries : List Entry) → IsSlice entries → length entries ≤ 224
+pub few-entries : (entries : List Entry) → IsSliceTable entries → length entries ≤ 224
 few-entries [] h = omega arith
 few-entries (x ∷ xs) h =
     let room = rise-room x xs h.rises in
@@ -25,7 +25,7 @@ few-entries (x ∷ xs) h =
     omega arith
 
 -- below an index up to 224 there are at most 223 entries
-pub few-below : (entries : List Entry) (e : Entry) → IsSlice entries → IsEntry e → last_index entries < e.index → length entries < 224
+pub few-below : (entries : List Entry) (e : Entry) → IsSliceTable entries → IsEntry e → last_index entries < e.index → length entries < 224
 few-below [] e h k below = omega arith
 few-below (x ∷ xs) e h k below =
     let room = rise-room x xs h.rises in
@@ -44,7 +44,7 @@ last_index-behind [] e = refl
 last_index-behind (x ∷ []) e = refl
 last_index-behind (x ∷ y ∷ xs) e = last_index-behind (y ∷ xs) e
 
-pub slice-behind : (entries : List Entry) (e : Entry) → IsSlice entries → IsEntry e → last_index entries < e.index → IsSlice (entries ++ e ∷ [])
+pub slice-behind : (entries : List Entry) (e : Entry) → IsSliceTable entries → IsEntry e → last_index entries < e.index → IsSliceTable (entries ++ e ∷ [])
 slice-behind entries e h k below = record {
   some = omega (arith, length-append entries (e ∷ []));
   rises = rise-behind entries e h.rises below;

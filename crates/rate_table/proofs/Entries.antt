@@ -5,7 +5,7 @@ use Rattle.std.proofs.lemmas.List.Sums.{sum_by-cons}
 use Rattle.std.proofs.lemmas.List.Elements.{All-head, All-tail}
 use Rattle.std.proofs.lemmas.Bool.{cases_lt}
 use Rattle.rate_table.specs.declared.entry.Entry.{Entry}
-use Rattle.rate_table.specs.Table.{IndicesRise, IsSlice, IsChoice, size_of, indices, least, least_size}
+use Rattle.rate_table.specs.Table.{IndicesRise, IsSliceTable, IsChoice, size_of, indices, least, least_sizes}
 use Rattle.rate_table.proofs.Lists.{contains_cases, contains_head, contains_tail, contains_none}
 
 -- ---- indices
@@ -29,18 +29,18 @@ index_same (z ∷ xs) x y r c d e =
     (contains_cases z xs x c)
 
 -- choices of one index list are one
-pub choice_same : (slices : List (List Entry)) → All IsSlice slices → (c d : List Entry) → IsChoice slices c → IsChoice slices d → indices c ≡ indices d → c ≡ d
+pub choice_same : (slices : List (List Entry)) → All IsSliceTable slices → (c d : List Entry) → IsChoice slices c → IsChoice slices d → indices c ≡ indices d → c ≡ d
 choice_same [] a [] [] h i e = refl
 choice_same [] a [] (y ∷ d) h i e = absurd i
 choice_same [] a (x ∷ c) d h i e = absurd h
 choice_same (s ∷ ss) a [] d h i e = absurd h
 choice_same (s ∷ ss) a (x ∷ c) [] h i e = absurd i
 choice_same (s ∷ ss) a (x ∷ c) (y ∷ d) h i e =
-    let slice = All-head IsSlice s ss a in
+    let slice = All-head IsSliceTable s ss a in
     let first : x.index ≡ y.index = cc in
     let more : indices c ≡ indices d = cc in
     let same = index_same s x y slice.rises h.0 i.0 first in
-    let rest = choice_same ss (All-tail IsSlice s ss a) c d h.1 i.1 more in
+    let rest = choice_same ss (All-tail IsSliceTable s ss a) c d h.1 i.1 more in
     λ j. same j ∷ rest j
 
 -- ---- least sizes
@@ -53,12 +53,12 @@ least_attained f x (z ∷ xs) =
     ⊎_elim (λ l. (r.0, contains_tail x (z ∷ xs) r.0 r.1, omega (arith, r.2))) (λ l. (x, contains_head x (z ∷ xs), omega (arith, r.2))) (cases_lt (f r.0) (f x))
 
 -- some choice has the least sizes
-pub least_choice : (slices : List (List Entry)) → All IsSlice slices → (c : List Entry) × IsChoice slices c × (size_of c ≡ least_size slices)
+pub least_choice : (slices : List (List Entry)) → All IsSliceTable slices → (c : List Entry) × IsChoice slices c × (size_of c ≡ least_sizes slices)
 least_choice [] a = ([], tt, refl)
-least_choice ([] ∷ ss) a = let h = All-head IsSlice [] ss a in absurd (omega (arith, h.some))
+least_choice ([] ∷ ss) a = let h = All-head IsSliceTable [] ss a in absurd (omega (arith, h.some))
 least_choice ((x ∷ s) ∷ ss) a =
     let r = least_attained (λ x. x.size) x s in
-    let c = least_choice ss (All-tail IsSlice (x ∷ s) ss a) in
+    let c = least_choice ss (All-tail IsSliceTable (x ∷ s) ss a) in
     (r.0 ∷ c.0, (r.1, c.1), omega (arith, sum_by-cons (λ (x : Entry). x.size) r.0 c.0, sum_by-cons (least (λ x. x.size)) (x ∷ s) ss, r.2, c.2))
 
 -- no entry is below the least

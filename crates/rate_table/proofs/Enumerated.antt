@@ -4,7 +4,7 @@ use Rattle.std.specs.List.{Contains, flat_map, All}
 use Rattle.std.proofs.lemmas.List.Elements.{All-head, All-tail, Contains-append_cases}
 use Rattle.std.proofs.lemmas.Bool.{ltb-true, ltb-false, leb-true, le-leb, eqb-true, eqb-false, and_parts, and_cases, or_cases, or_parts, cases_Bool, both_ways, cond-true, cond-false}
 use Rattle.rate_table.specs.declared.entry.Entry.{Entry}
-use Rattle.rate_table.specs.Table.{Table, IndicesRise, IsSlice, IsTable, IsChoice, Fits, HasNoFit, size_of, error_of, pair_of, indices, ComesFirst, IsBest}
+use Rattle.rate_table.specs.Table.{Table, IndicesRise, IsSliceTable, IsTable, IsChoice, Fits, HasNoFit, size_of, error_of, pair_of, indices, ComesFirst, IsBest}
 use Rattle.rate_table.specs.Choices.{all_choices, width, fits, beats, better, best_of}
 use Rattle.rate_table.proofs.Lists.{contains_cases, contains_head, contains_tail, contains_none, contains_map, map_contains, contains_flat, flat_contains, length-flat}
 use Rattle.rate_table.proofs.Entries.{index_after, rest_rises}
@@ -80,9 +80,9 @@ order-entries (x ∷ xs) cs rises h =
     let n = contains_map (λ c. f.0 ∷ c) cs b f.2 in
     subst (λ w. ComesFirst (indices a) (indices w)) n.2 (subst (λ w. ComesFirst (indices w) (indices (f.0 ∷ n.0))) m.2 (inl (index_after x xs f.0 rises f.1))))
 
-pub all_in_order : (slices : List (List Entry)) → All IsSlice slices → InOrder (all_choices slices)
+pub all_in_order : (slices : List (List Entry)) → All IsSliceTable slices → InOrder (all_choices slices)
 all_in_order [] a = (λ d c. absurd (contains_none d c), tt)
-all_in_order (s ∷ ss) a = order-entries s (all_choices ss) (All-head IsSlice s ss a).rises (all_in_order ss (All-tail IsSlice s ss a))
+all_in_order (s ∷ ss) a = order-entries s (all_choices ss) (All-head IsSliceTable s ss a).rises (all_in_order ss (All-tail IsSliceTable s ss a))
 
 -- ---- the best of it
 

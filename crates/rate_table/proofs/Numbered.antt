@@ -8,7 +8,7 @@ use Rattle.std.proofs.lemmas.List.Sums.{sum_by-cons}
 use Rattle.std.proofs.Math.Nat.{mul_assoc, mul-pos, add-div_right, add-mod_right, div-eq_of_lt, mod-eq_of_lt, le-mul_of_pos_right, mul-div_cancel_left}
 use Rattle.std.proofs.lemmas.Nat.{div_below}
 use Rattle.rate_table.specs.declared.entry.Entry.{Entry}
-use Rattle.rate_table.specs.Table.{IsEntry, IsSlice, size_of, error_of, indices}
+use Rattle.rate_table.specs.Table.{IsEntry, IsSliceTable, size_of, error_of, indices}
 use Rattle.rate_table.specs.Choices.{all_choices, width}
 use Rattle.rate_table.proofs.Enumerated.{count_is_width}
 use Rattle.rate_table.specs.declared.small.Sums.{Sums}
@@ -17,12 +17,12 @@ use Rattle.rate_table.specs.Small.{sums_of, all_sums, plus, choice_at}
 -- ---- how many choices there are
 
 -- the rest of a list of slices behind one of them
-pub rest_of_slices : (slices : List (List Entry)) (i : ℕ) → i < length slices → All IsSlice (drop i slices) → All IsSlice (drop (i + 1) slices)
-rest_of_slices slices i lt each = All-tail IsSlice (get_or slices i []) (drop (i + 1) slices) (subst (λ l. All IsSlice l) (drop_more slices i [] lt) each)
+pub rest_of_slices : (slices : List (List Entry)) (i : ℕ) → i < length slices → All IsSliceTable (drop i slices) → All IsSliceTable (drop (i + 1) slices)
+rest_of_slices slices i lt each = All-tail IsSliceTable (get_or slices i []) (drop (i + 1) slices) (subst (λ l. All IsSliceTable l) (drop_more slices i [] lt) each)
 
-pub width-pos : (slices : List (List Entry)) → All IsSlice slices → 0 < width slices
+pub width-pos : (slices : List (List Entry)) → All IsSliceTable slices → 0 < width slices
 width-pos [] h = omega arith
-width-pos (s ∷ slices) h = mul-pos (All-head IsSlice s slices h).some (width-pos slices (All-tail IsSlice s slices h))
+width-pos (s ∷ slices) h = mul-pos (All-head IsSliceTable s slices h).some (width-pos slices (All-tail IsSliceTable s slices h))
 
 -- what is left of the product after one slice more
 pub width-more : (slices : List (List Entry)) (i product total : ℕ) (s : List Entry) → i < length slices → s ≡ get_or slices i []
@@ -33,7 +33,7 @@ width-more slices i product total s lt e so_far =
     sym one ∙ so_far
 
 -- the product so far is no more than the whole product
-pub width-ge : (slices : List (List Entry)) (i product total : ℕ) (s : List Entry) → i < length slices → s ≡ get_or slices i [] → All IsSlice (drop i slices)
+pub width-ge : (slices : List (List Entry)) (i product total : ℕ) (s : List Entry) → i < length slices → s ≡ get_or slices i [] → All IsSliceTable (drop i slices)
     → product * width (drop i slices) ≡ total → product * length s ≤ total
 width-ge slices i product total s lt e each so_far =
     let more = width-more slices i product total s lt e so_far in
@@ -80,11 +80,11 @@ below-block n [] all limits h = All-nil (AreBelow (suc n))
 below-block n (x ∷ slice) all limits h =
     All-append (AreBelow (suc n)) (map (plus x) all) (flat_map (λ x. map (plus x) all) slice) (below-map n x all (All-head IsEntry x slice limits) h) (below-block n slice all (All-tail IsEntry x slice limits) h)
 
-sums-below : (slices : List (List Entry)) → All IsSlice slices → All (AreBelow (length slices)) (all_sums slices)
+sums-below : (slices : List (List Entry)) → All IsSliceTable slices → All (AreBelow (length slices)) (all_sums slices)
 sums-below [] h = All-cons (AreBelow 0) (record { size = 0; error = 0 }) [] (omega arith, omega arith) (All-nil (AreBelow 0))
-sums-below (s ∷ slices) h = rw (all_sums-cons s slices) (below-block (length slices) s (all_sums slices) (All-head IsSlice s slices h).limits (sums-below slices (All-tail IsSlice s slices h)))
+sums-below (s ∷ slices) h = rw (all_sums-cons s slices) (below-block (length slices) s (all_sums slices) (All-head IsSliceTable s slices h).limits (sums-below slices (All-tail IsSliceTable s slices h)))
 
-pub sums-small : (slices : List (List Entry)) → All IsSlice slices → length slices ≤ 131070 → All (λ s. (s.size ≤ 2 ^ 40) × (s.error ≤ 2 ^ 62)) (all_sums slices)
+pub sums-small : (slices : List (List Entry)) → All IsSliceTable slices → length slices ≤ 131070 → All (λ s. (s.size ≤ 2 ^ 40) × (s.error ≤ 2 ^ 62)) (all_sums slices)
 sums-small slices h few = λ k d lt. let below = sums-below slices h k d lt in (omega (arith, below.0, few), omega (arith, below.1, few))
 
 -- ---- the choice of a number
@@ -116,7 +116,7 @@ block-at (x ∷ slice) choices n d c pos lt =
           get_or-append_right front rest (length choices) n c len le ∙ block-at slice choices m d c pos fits ∙ rw (quotient, remainder) refl
     ]
 
-choice_at-cons : (s : List Entry) (slices : List (List Entry)) (n : ℕ) (d : Entry) → All IsSlice slices → n < length s * width slices
+choice_at-cons : (s : List Entry) (slices : List (List Entry)) (n : ℕ) (d : Entry) → All IsSliceTable slices → n < length s * width slices
     → choice_at (s ∷ slices) n ≡ get_or s (n / width slices) d ∷ choice_at slices (n % width slices)
 choice_at-cons s slices n d h lt =
     let len = count_is_width slices in
@@ -124,13 +124,13 @@ choice_at-cons s slices n d h lt =
     let fits : n < length s * length (all_choices slices) = rw len lt in
     rw (← len) (block-at s (all_choices slices) n d [] pos fits)
 
-pub number-below : (slices : List (List Entry)) (i rest : ℕ) (s : List Entry) → i < length slices → s ≡ get_or slices i [] → All IsSlice (drop i slices)
+pub number-below : (slices : List (List Entry)) (i rest : ℕ) (s : List Entry) → i < length slices → s ≡ get_or slices i [] → All IsSliceTable (drop i slices)
     → rest < width (drop i slices) → rest / width (drop (i + 1) slices) < length s
 number-below slices i rest s lt e each below =
     let here : rest < length s * width (drop (i + 1) slices) = subst (λ (l : List (List Entry)). rest < width l) (drop_more slices i [] lt ∙ ap (λ (x : List Entry). x ∷ drop (i + 1) slices) (sym e)) below in
     div_below rest (width (drop (i + 1) slices)) (length s) (width-pos (drop (i + 1) slices) (rest_of_slices slices i lt each)) here
 
-pub choice_at-more : (slices : List (List Entry)) (i rest : ℕ) (s : List Entry) (d : Entry) → i < length slices → s ≡ get_or slices i [] → All IsSlice (drop i slices)
+pub choice_at-more : (slices : List (List Entry)) (i rest : ℕ) (s : List Entry) (d : Entry) → i < length slices → s ≡ get_or slices i [] → All IsSliceTable (drop i slices)
     → rest < width (drop i slices) → indices (choice_at (drop i slices) rest) ≡ (get_or s (rest / width (drop (i + 1) slices)) d).index ∷ indices (choice_at (drop (i + 1) slices) (rest % width (drop (i + 1) slices)))
 choice_at-more slices i rest s d lt e each below =
     let front : drop i slices ≡ s ∷ drop (i + 1) slices = drop_more slices i [] lt ∙ ap (λ (x : List Entry). x ∷ drop (i + 1) slices) (sym e) in

@@ -10,7 +10,7 @@ use Rattle.pw_outside.specs.Reading.{Rest, number_at}
 use Rattle.pw_outside.proofs.Steps.{bind-step, refuse-step, number-here, same_rest}
 use Rattle.rate_table.specs.declared.entry.Entry.{Entry}
 use Rattle.rate_table.specs.declared.fault.ProofKind.TheVariants.{TableShort}
-use Rattle.rate_table.specs.Table.{IsEntry, IndicesRise, IsSlice}
+use Rattle.rate_table.specs.Table.{IsEntry, IndicesRise, IsSliceTable}
 use Rattle.rate_table.specs.Reading.{entry_at, entries_at, slice_at, slices_at, body_at}
 use Rattle.rate_table.specs.Body.{entry_bytes, slice_bytes, body_bytes, BodyIsReadAgain}
 use Rattle.rate_table.proofs.Behind.{few-entries}
@@ -78,7 +78,7 @@ entries-again (x ∷ xs) low place behind are rises above =
 
 -- ---- slices
 
-slice-again : (slice : List Entry) (place : ℕ) (behind : List ℕ) → IsSlice slice
+slice-again : (slice : List Entry) (place : ℕ) (behind : List ℕ) → IsSliceTable slice
     → slice_at (record { place = place; bytes = slice_bytes slice ++ behind }) ≡ Ok (slice, record { place = place + length (slice_bytes slice); bytes = behind })
 unfolding slice_at
 slice-again slice place behind is =
@@ -88,7 +88,7 @@ slice-again slice place behind is =
     ∙ entries-again slice 0 (place + 1) behind is.limits is.rises (from-one slice is.limits)
     ∙ same_rest slice _ _ behind (omega arith)
 
-slices-again : (slices : List (List Entry)) (place : ℕ) (behind : List ℕ) → All IsSlice slices
+slices-again : (slices : List (List Entry)) (place : ℕ) (behind : List ℕ) → All IsSliceTable slices
     → slices_at (length slices) (record { place = place; bytes = flat_map slice_bytes slices ++ behind })
     ≡ Ok (slices, record { place = place + length (flat_map slice_bytes slices); bytes = behind })
 unfolding slices_at
@@ -99,8 +99,8 @@ slices-again (x ∷ xs) place behind are =
     let long : place + length (slice_bytes x) + length (flat_map slice_bytes xs) ≡ place + length (flat_map slice_bytes (x ∷ xs)) =
     omega (arith, ap length (flat_map-cons slice_bytes x xs), length-append (slice_bytes x) (flat_map slice_bytes xs)) in
     ap (λ l. slices_at (length (x ∷ xs)) (record { place = place; bytes = l })) split
-    ∙ bind-step _ _ (slice-again x place (flat_map slice_bytes xs ++ behind) (All-head IsSlice x xs are))
-    ∙ bind-step _ _ (slices-again xs (place + length (slice_bytes x)) behind (All-tail IsSlice x xs are))
+    ∙ bind-step _ _ (slice-again x place (flat_map slice_bytes xs ++ behind) (All-head IsSliceTable x xs are))
+    ∙ bind-step _ _ (slices-again xs (place + length (slice_bytes x)) behind (All-tail IsSliceTable x xs are))
     ∙ same_rest (x ∷ xs) _ _ behind long
 
 -- ---- the body

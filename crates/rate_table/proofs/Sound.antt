@@ -9,7 +9,7 @@ use Rattle.rate_table.specs.declared.entry.Entry.{Entry}
 use Rattle.rate_table.specs.declared.entry.Pair.{Pair}
 use Rattle.rate_table.specs.Table.{Table, IsChoice, Fits, HasNoFit, size_of, error_of}
 use Rattle.rate_table.specs.Pairs.{Dominates, joined}
-use Rattle.rate_table.specs.Records.{Printed, IsCovered, AllStep, IsGoodFit, IsLeast, SaysNone}
+use Rattle.rate_table.specs.Records.{Printed, IsCovered, AllStep, IsGoodFit, TellsLeast, SaysNone}
 use Rattle.rate_table.proofs.Entries.{least_below}
 use Rattle.rate_table.proofs.Costs.{rest_below}
 
@@ -50,7 +50,7 @@ module _ (t : Table) (r : Printed) where
       let has : Contains layer none = subst (λ l. Contains l none) (sym first) (0, omega arith, refl) in
       no_less t r t.slices layers layer none none d steps (omega arith) last has (omega arith, omega arith) c (omega arith) (omega arith)
 
-pub sound_law : (t : Table) (r : Printed) → IsGoodFit t r → IsLeast t r
+pub sound_law : (t : Table) (r : Printed) → IsGoodFit t r → TellsLeast t r
 sound_law t r g =
     let s = g.sums g.entries.0 g.entries.1 g.entries.2 in
     record {

@@ -9,7 +9,7 @@ use Rattle.pw_outside.specs.Reading.{Rest, number_at, AreBytes, Took}
 use Rattle.pw_outside.proofs.Steps.{bind-ok, refuse-passed, then_took, took_none}
 use Rattle.rate_table.specs.declared.entry.Entry.{Entry}
 use Rattle.rate_table.specs.declared.fault.ProofKind.TheVariants.{TableShort}
-use Rattle.rate_table.specs.Table.{Table, IsEntry, IndicesRise, IsSlice, IsTable}
+use Rattle.rate_table.specs.Table.{Table, IsEntry, IndicesRise, IsSliceTable, IsTable}
 use Rattle.rate_table.specs.Reading.{entry_at, entries_at, slice_at, slices_at, body_at}
 use Rattle.rate_table.specs.Body.{entry_bytes, slice_bytes, body_bytes}
 use Rattle.rate_table.specs.Spelled.{BodyIsSpelled}
@@ -84,7 +84,7 @@ entries_spelled (suc n) low s x fits e =
 
 -- ---- slices
 
-slice_spelled : (s : Rest) (x : List Entry × Rest) → AreBytes s.bytes → slice_at s ≡ Ok x → IsSlice x.0 × Took s (slice_bytes x.0) x.1
+slice_spelled : (s : Rest) (x : List Entry × Rest) → AreBytes s.bytes → slice_at s ≡ Ok x → IsSliceTable x.0 × Took s (slice_bytes x.0) x.1
 unfolding slice_at
 slice_spelled s x fits e =
     let b1 = bind-ok (number_at TableShort w8 s) _ e in
@@ -98,11 +98,11 @@ slice_spelled s x fits e =
       subst (λ n. Took s (n ∷ flat_map entry_bytes x.0) x.1) (sym t2.count) (then_took t1.0 t2.took),
     )
 
-slices_spelled : (n : ℕ) (s : Rest) (x : List (List Entry) × Rest) → AreBytes s.bytes → slices_at n s ≡ Ok x → (length x.0 ≡ n) × All IsSlice x.0 × Took s (flat_map slice_bytes x.0) x.1
+slices_spelled : (n : ℕ) (s : Rest) (x : List (List Entry) × Rest) → AreBytes s.bytes → slices_at n s ≡ Ok x → (length x.0 ≡ n) × All IsSliceTable x.0 × Took s (flat_map slice_bytes x.0) x.1
 unfolding slices_at
 slices_spelled zero s x fits e =
-    subst (λ (y : List (List Entry) × Rest). (length y.0 ≡ 0) × All IsSlice y.0 × Took s (flat_map slice_bytes y.0) y.1) (ok_is ([], s) x e)
-    (refl, All-nil IsSlice, took_none s fits)
+    subst (λ (y : List (List Entry) × Rest). (length y.0 ≡ 0) × All IsSliceTable y.0 × Took s (flat_map slice_bytes y.0) y.1) (ok_is ([], s) x e)
+    (refl, All-nil IsSliceTable, took_none s fits)
 slices_spelled (suc n) s x fits e =
     let b1 = bind-ok (slice_at s) _ e in
     let f = b1.0 in
@@ -110,9 +110,9 @@ slices_spelled (suc n) s x fits e =
     let b2 = bind-ok (slices_at n f.1) _ b1.2 in
     let o = b2.0 in
     let t2 = slices_spelled n f.1 o t1.1.behind b2.1 in
-    subst (λ (y : List (List Entry) × Rest). (length y.0 ≡ suc n) × All IsSlice y.0 × Took s (flat_map slice_bytes y.0) y.1) (ok_is (f.0 ∷ o.0, o.1) x b2.2) (
+    subst (λ (y : List (List Entry) × Rest). (length y.0 ≡ suc n) × All IsSliceTable y.0 × Took s (flat_map slice_bytes y.0) y.1) (ok_is (f.0 ∷ o.0, o.1) x b2.2) (
       omega (arith, t2.0),
-      All-cons IsSlice f.0 o.0 t1.0 t2.1,
+      All-cons IsSliceTable f.0 o.0 t1.0 t2.1,
       subst (λ b. Took s b o.1) (sym (flat_map-cons slice_bytes f.0 o.0)) (then_took t1.1 t2.2),
     )
 

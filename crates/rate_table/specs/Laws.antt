@@ -4,7 +4,7 @@ use Rattle.std.specs.List.{Contains}
 use Rattle.rate_table.specs.declared.entry.Entry.{Entry}
 use Rattle.rate_table.specs.Table.{Table, IsTable, IsChoice, Fits, HasNoFit, IsBest, indices, least_bytes}
 use Rattle.rate_table.specs.Choices.{all_choices, width}
-use Rattle.rate_table.specs.Records.{Printed, IsGoodFit, IsLeast, SaysNone}
+use Rattle.rate_table.specs.Records.{Printed, IsGoodFit, TellsLeast, SaysNone}
 
 -- Where a choice fits there is a best one.
 abbrev pub BestExists : Type 0
@@ -33,7 +33,7 @@ IndicesTellChoice = (t : Table) (first second : List Entry) → IsTable t → Is
 -- The choice of a good record fits, has the printed sums, and no fitting choice has less error. This is said of every
 -- record, whoever made it, and whatever multiplier it has.
 abbrev pub GoodIsLeast : Type 0
-GoodIsLeast = (t : Table) (r : Printed) → IsGoodFit t r → IsLeast t r
+GoodIsLeast = (t : Table) (r : Printed) → IsGoodFit t r → TellsLeast t r
 
 -- Where a good record says that none fits, none does.
 abbrev pub GoodNoneFits : Type 0

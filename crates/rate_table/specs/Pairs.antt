@@ -3,7 +3,7 @@ use Rattle.std.specs.Prelude.{ℕ, ◌+◌, ◌*◌, ◌<◌, ◌≤◌, List, [
 use Rattle.std.specs.List.{sum_by}
 use Rattle.rate_table.specs.declared.entry.Entry.{Entry}
 use Rattle.rate_table.specs.declared.entry.Pair.{Pair}
-use Rattle.rate_table.specs.Table.{Table, least, least_size}
+use Rattle.rate_table.specs.Table.{Table, least, least_sizes}
 
 -- neither of a's numbers is greater than b's
 abbrev pub Dominates : Pair → Pair → Type 0
@@ -29,7 +29,7 @@ rest m slices = sum_by (least (λ x. x.error + m * x.size)) slices
 
 -- With these slices to come, a pair can still fit.
 abbrev pub CanFit : Table → List (List Entry) → Pair → Type 0
-CanFit t later p = t.fixed + (p.size + least_size later) ≤ t.budget
+CanFit t later p = t.fixed + (p.size + least_sizes later) ≤ t.budget
 
 -- With these slices to come, the bound of a pair by the multiplier m doesn't pass the error u. Each byte counts for m,
 -- those of the budget too, so nothing is subtracted.

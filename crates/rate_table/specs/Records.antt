@@ -75,7 +75,7 @@ pub record IsGoodFit (t : Table) (r : Printed) : Type 0 where
 -- ---- what follows
 
 -- The printed choice is a fitting choice with the printed sums, and no fitting choice has less error.
-pub record IsLeast (t : Table) (r : Printed) : Type 0 where
+pub record TellsLeast (t : Table) (r : Printed) : Type 0 where
   pub choice : List Entry
   pub printed : indices choice ≡ r.choice
   pub is_choice : IsChoice t.slices choice

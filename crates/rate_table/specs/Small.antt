@@ -1,19 +1,11 @@
 -- What `best_small` answers, and the words of its parts. Our own definitions.
 use Rattle.std.specs.Prelude.{◌≡◌, ℕ, ◌+◌, List, [], map, get_or}
 use Rattle.rate_table.specs.declared.entry.Entry.{Entry}
-use Rattle.rate_table.specs.Table.{Table, IsBest, HasNoFit, indices, size_of, error_of, least_bytes}
+use Rattle.rate_table.specs.Table.{Table, IsBestWith, HasNoFit, size_of, error_of, least_bytes}
 use Rattle.rate_table.specs.Choices.{all_choices}
 use Rattle.rate_table.specs.declared.small.SmallOutcome.{SmallOutcome}
 use Rattle.rate_table.specs.declared.small.SmallOutcome.TheVariants as outcomes
 use Rattle.rate_table.specs.declared.small.Sums.{Sums}
-
--- the indices, the size and the error of the table's best choice
-pub record IsBestWith (t : Table) (choice : List ℕ) (size error : ℕ) : Type 0 where
-  pub best : List Entry
-  pub is_best : IsBest t best
-  pub has_indices : indices best ≡ choice
-  pub has_size : size_of best ≡ size
-  pub has_error : error_of best ≡ error
 
 -- the best choice of the table with its sums; or its least bytes, where no choice fits
 abbrev pub IsOutcome : Table → SmallOutcome → Type 0

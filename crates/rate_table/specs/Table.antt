@@ -20,7 +20,7 @@ IndicesRise (x ∷ []) = Unit {0}
 IndicesRise (x ∷ y ∷ xs) = (x.index < y.index) × IndicesRise (y ∷ xs)
 
 -- the entries of one slice: at least one, their indices rising, each within the limits
-pub record IsSlice (slice : List Entry) : Type 0 where
+pub record IsSliceTable (slice : List Entry) : Type 0 where
   pub some : 0 < length slice
   pub rises : IndicesRise slice
   pub limits : All IsEntry slice
@@ -38,7 +38,7 @@ pub record IsTable (t : Table) : Type 0 where
   pub fixed_limit : t.fixed < 2 ^ 31
   pub some : 1 ≤ length t.slices
   pub few : length t.slices ≤ 131070
-  pub each : All IsSlice t.slices
+  pub each : All IsSliceTable t.slices
 
 -- the table of several frames together: budgets and fixed bytes add up, and slices follow each other
 abbrev pub group_table : List Table → Table
@@ -91,6 +91,14 @@ pub record IsBest (t : Table) (best : List Entry) : Type 0 where
   pub size : (other : List Entry) → IsChoice t.slices other → Fits t other → error_of other ≡ error_of best → size_of best ≤ size_of other
   pub first : (other : List Entry) → IsChoice t.slices other → pair_of other ≡ pair_of best → ComesFirst (indices best) (indices other)
 
+-- the indices, the size and the error of the table's best choice
+pub record IsBestWith (t : Table) (chosen : List ℕ) (bytes loss : ℕ) : Type 0 where
+  pub best : List Entry
+  pub is_best : IsBest t best
+  pub choice : chosen ≡ indices best
+  pub size : bytes ≡ size_of best
+  pub error : loss ≡ error_of best
+
 -- ---- least sizes
 
 -- the least value that f has at these entries
@@ -100,9 +108,9 @@ least f (x ∷ []) = f x
 least f (x ∷ y ∷ xs) = min (f x) (least f (y ∷ xs))
 
 -- the least sizes of these slices together
-abbrev pub least_size : List (List Entry) → ℕ
-least_size slices = sum_by (least (λ x. x.size)) slices
+abbrev pub least_sizes : List (List Entry) → ℕ
+least_sizes slices = sum_by (least (λ x. x.size)) slices
 
 -- the fixed bytes and each slice's least size
 abbrev pub least_bytes : Table → ℕ
-least_bytes t = t.fixed + least_size t.slices
+least_bytes t = t.fixed + least_sizes t.slices

@@ -2,7 +2,7 @@
 
 ghost use Rattle.std.specs.Prelude.{◌≡◌, ◌+◌, ◌*◌, ◌<◌, ◌≤◌, ◌^◌, length};
 ghost use Rattle.std.specs.List.{All};
-ghost use Rattle.rate_table.specs.Table.{IsSlice, IsEntry, least};
+ghost use Rattle.rate_table.specs.Table.{IsSliceTable, IsEntry, least};
 ghost use Rattle.rate_table.specs.Pairs.{cost, rest};
 
 use crate::entry::Entry;
@@ -43,7 +43,7 @@ pub fn least_cost(entries: &[Entry], multiplier: u64) -> u128
 
 fn costs_of(slices: &[SliceTable], multiplier: u64) -> u128
     requires few { length slices.now ≤ 131070 }
-    requires each { All IsSlice slices.now }
+    requires each { All IsSliceTable slices.now }
     ensures value { result ≡ rest multiplier slices.now }
     ensures small { result ≤ 2 ^ 81 * length slices.now }
 {

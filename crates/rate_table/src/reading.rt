@@ -6,7 +6,7 @@ ghost use Rattle.std.specs.Io.KnownBytes.{IsAtEnd};
 ghost use Rattle.pw_outside.specs.Ports.{CountsFault, GoesOn};
 ghost use Rattle.pw_outside.specs.Reading.{Gives, GivesValue, Answers, Told};
 ghost use Rattle.rate_table.specs.Reading.{told_fault, entry_at, entries_at, slice_at, slices_at, body_at, table_at, tabled, is_failed};
-ghost use Rattle.rate_table.specs.Table.{IsEntry, IndicesRise, IsSlice, IsTable};
+ghost use Rattle.rate_table.specs.Table.{IsEntry, IndicesRise, IsSliceTable, IsTable};
 
 use crate::entry::Entry;
 use crate::fault::{ProofKind, TableFault, bad};
@@ -80,7 +80,7 @@ fn entries_of<S: ByteSource>(
 fn slice_of<S: ByteSource>(source: &mut S, place: &mut u64) -> Result<SliceTable, TableFault>
     requires { place.old + 2465 < 2 ^ 64 }
     ensures bytes { Gives told_fault (λ t. t) (S.left source.old) (S.left source.new) place.old place.new result slice_at }
-    ensures slice { IfOk result IsSlice }
+    ensures slice { IfOk result IsSliceTable }
     ensures place { place.new ≤ place.old + 2465 }
     ensures becomes { GoesOn S.becomes source.old source.new }
     ensures cause { CountsFault (S.faults source.old) (S.faults source.new) (is_failed result) }
@@ -108,7 +108,7 @@ fn slices_of<S: ByteSource>(
     requires room { place.old < 2 ^ 63 + 100 }
     ensures bytes { Gives told_fault (λ v. v.items) (S.left source.old) (S.left source.new) place.old place.new result (slices_at count) }
     ensures count { IfOk result (λ v. length v.items ≡ count) }
-    ensures each { IfOk result (λ v. All IsSlice v.items) }
+    ensures each { IfOk result (λ v. All IsSliceTable v.items) }
     ensures place { place.new ≤ place.old + 323087550 }
     ensures becomes { GoesOn S.becomes source.old source.new }
     ensures cause { CountsFault (S.faults source.old) (S.faults source.new) (is_failed result) }

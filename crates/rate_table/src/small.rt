@@ -3,7 +3,7 @@
 
 ghost use Rattle.std.specs.Prelude.{◌≡◌, ◌+◌, ◌*◌, ◌^◌, ◌<◌, ◌≤◌, ◌↔◌, ◌++◌, All, OnOk, IfOk, IfSome, Some, None, if◌then◌else◌, nat_le, nat_lt, ◌==◌, ◌&&◌, ◌||◌, Err, length, map, option_map};
 ghost use Rattle.std.specs.List.{flat_map};
-ghost use Rattle.rate_table.specs.Table.{IsSlice, indices};
+ghost use Rattle.rate_table.specs.Table.{IsSliceTable, indices};
 ghost use Rattle.rate_table.specs.Choices.{all_choices, width, better, best_of};
 ghost use Rattle.rate_table.specs.Small.{IsOutcome, all_sums, plus, choice_at};
 
@@ -56,7 +56,7 @@ struct Sums {
 
 /// The number of choices, if it is at most 65,536.
 fn width_of(slices: &[SliceTable]) -> Option<usize>
-    requires { All IsSlice slices.now }
+    requires { All IsSliceTable slices.now }
     ensures { result ≡ (if nat_le (width slices.now) 65536 then Some (width slices.now) else None) }
 {
     let mut product: usize = 1;
@@ -87,7 +87,7 @@ fn append_with(out: &mut Vec<Sums>, entry: Entry, all: &[Sums]) -> Result<(), Al
 /// The sums of all choices, in the order of the choices.
 fn sums_of(alloc: Global, slices: &[SliceTable]) -> Result<Vec<Sums>, AllocError>
     requires few { length slices.now ≤ 131070 }
-    requires each { All IsSlice slices.now }
+    requires each { All IsSliceTable slices.now }
     ensures sums { IfOk result (λ all. all.items ≡ all_sums slices.now) }
     ensures small { IfOk result (λ all. All (λ s. s.size ≤ 2 ^ 40) all.items) }
     ensures count { IfOk result (λ all. length all.items ≡ width slices.now) }
@@ -170,7 +170,7 @@ fn choice_of(
 ) -> Result<Vec<u8>, AllocError>
     requires all { all ≡ width slices.now }
     requires number { number < all }
-    requires each { All IsSlice slices.now }
+    requires each { All IsSliceTable slices.now }
     ensures { IfOk result (λ choice. choice.items ≡ indices (choice_at slices.now number)) }
 {
     let mut choice = Vec::new(alloc);

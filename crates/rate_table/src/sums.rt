@@ -3,7 +3,7 @@
 ghost use Rattle.std.specs.Prelude.{◌≡◌, ◌<◌, ◌≤◌, ◌*◌, ◌^◌, length, sum_by, IfSome, IfNone};
 ghost use Rattle.std.specs.List.{All, Contains};
 ghost use Rattle.rate_table.specs.declared.entry.Entry.{Entry};
-ghost use Rattle.rate_table.specs.Table.{IsSlice, HasSums, HasNoChoice, least, least_bytes};
+ghost use Rattle.rate_table.specs.Table.{IsSliceTable, HasSums, HasNoChoice, least, least_bytes};
 
 use crate::entry::Entry;
 use crate::priced::least_size;
@@ -37,7 +37,7 @@ pub fn total(table: &FrameTable, choice: &[u8]) -> Option<(u64, u64)>
 /// `None` where no choice of these slices has them. The size is below 2^33 and the error below 2^60. No memory is taken.
 pub fn part_total(slices: &[SliceTable], choice: &[u8]) -> Option<(u64, u64)>
     requires few { length slices.now ≤ 131070 }
-    requires each { All IsSlice slices.now }
+    requires each { All IsSliceTable slices.now }
     ensures some { IfSome result (λ sums. HasSums slices.now choice.now sums.0 sums.1) }
     ensures none { IfNone result (HasNoChoice slices.now choice.now) }
     ensures size { IfSome result (λ sums. sums.0 < 2 ^ 33) }

@@ -16,16 +16,16 @@ impl Model for SliceTable {
 
     ghost Value = { List Entry };
 
-    ghost use Rattle.rate_table.specs.Table.{IsSlice};
+    ghost use Rattle.rate_table.specs.Table.{IsSliceTable};
 
     ghost view = { λ t. t.entries.items };
 
-    ghost invariant = { λ t. IsSlice t.entries.items };
+    ghost invariant = { λ t. IsSliceTable t.entries.items };
 }
 
 impl SliceTable {
     ghost use Rattle.std.specs.Prelude.{◌≡◌, ◌<◌, ◌≤◌, [], ◌∷◌, ◌++◌, length};
-    ghost use Rattle.rate_table.specs.Table.{IsEntry, IsSlice};
+    ghost use Rattle.rate_table.specs.Table.{IsEntry, IsSliceTable};
     ghost use Rattle.rate_table.specs.Body.{last_index};
 
     /// The table of this one entry, which is within the limits: its index is from 1 to 224, and its error is
@@ -49,7 +49,7 @@ impl SliceTable {
     }
 
     pub(crate) fn of(entries: ArrayVec<Entry, 224>) -> SliceTable
-        requires { IsSlice entries.items }
+        requires { IsSliceTable entries.items }
         ensures { result ≡ entries.items }
     {
         SliceTable { entries }
@@ -58,7 +58,7 @@ impl SliceTable {
     /// The entries, by rising index.
     pub fn entries(&self) -> &[Entry]
         ensures entries { result.now ≡ self.now }
-        ensures slice { IsSlice self.now }
+        ensures slice { IsSliceTable self.now }
         ensures few { length self.now ≤ 224 }
     {
         self.entries.as_slice()
@@ -78,21 +78,21 @@ impl Model for Slices {
 
     ghost Value = { List (List Entry) };
 
-    ghost use Rattle.rate_table.specs.Table.{IsSlice};
+    ghost use Rattle.rate_table.specs.Table.{IsSliceTable};
 
     ghost view = { λ s. s.slices.items };
 
-    ghost invariant = { λ s. All IsSlice s.slices.items };
+    ghost invariant = { λ s. All IsSliceTable s.slices.items };
 }
 
 impl Slices {
     ghost use Rattle.std.specs.Prelude.{◌≡◌};
     ghost use Rattle.std.specs.List.{All};
-    ghost use Rattle.rate_table.specs.Table.{IsSlice};
+    ghost use Rattle.rate_table.specs.Table.{IsSliceTable};
 
     /// These slices.
     pub fn from_vec(slices: Vec<SliceTable>) -> Slices
-        requires { All IsSlice slices.items }
+        requires { All IsSliceTable slices.items }
         ensures { result ≡ slices.items }
     {
         Slices { slices }
@@ -101,7 +101,7 @@ impl Slices {
     /// Gives the slices back.
     pub fn into_vec(self) -> Vec<SliceTable>
         ensures slices { result.items ≡ self }
-        ensures each { All IsSlice self }
+        ensures each { All IsSliceTable self }
     {
         self.slices
     }
@@ -109,7 +109,7 @@ impl Slices {
     /// The slices, in order.
     pub fn as_slice(&self) -> &[SliceTable]
         ensures slices { result.now ≡ self.now }
-        ensures each { All IsSlice self.now }
+        ensures each { All IsSliceTable self.now }
     {
         self.slices.as_slice()
     }

@@ -5,7 +5,7 @@ ghost use Rattle.std.specs.Int.{w32, to_be_bytes};
 ghost use Rattle.std.specs.List.{flat_map, All};
 ghost use Rattle.pw_outside.specs.Ports.{CountsFault};
 ghost use Rattle.pw_outside.specs.Writing.{sink_state, Puts, PutsFront};
-ghost use Rattle.rate_table.specs.Table.{IsSlice};
+ghost use Rattle.rate_table.specs.Table.{IsSliceTable};
 ghost use Rattle.rate_table.specs.Body.{entry_bytes, slice_bytes, body_bytes};
 
 use crate::entry::Entry;

@@ -22,7 +22,7 @@ use Rattle.rescue_run.specs.declared.end.RescueEnd.TheVariants as ends
 use Rattle.rescue_run.specs.Chain.{Taken, Takes, size_at, form_of, form_behind, behind}
 use Rattle.rescue_run.specs.Rescuing.{IsRate, Rescues, World, Ran, is_done, head_of, bytes_of_frame, frames_of, rescued_bytes}
 use Rattle.rescue_run.specs.Laws.{IsMovieOf, RescuedMovieIsRead}
-use Rattle.rescue_run.specs.Steps.{IsForm}
+use Rattle.rescue_run.specs.inner.Steps.{IsForm}
 use Rattle.rescue_run.proofs.Copying.{bytes_there, length_map}
 
 -- ---- the head

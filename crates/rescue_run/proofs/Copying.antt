@@ -4,11 +4,10 @@ use Rattle.std.proofs.lemmas.List.{take-take, drop-drop}
 use lib.Seq.{take-add}
 use Rattle.std.specs.Prelude.{Result, Ok, Err, OnErr}
 use Rattle.pw_outside.specs.Ports.{last}
-use Rattle.pw_outside.specs.Writing.{SinkState, Puts, PutsFront, PutsPart}
+use Rattle.pw_outside.specs.Writing.{SinkState, Puts, PutsFront, PutsPart, Extends}
 use Rattle.pw_outside.proofs.Puts.{puts_none, puts_then, then_front, part_front, front_more}
 use Rattle.qt_atoms.specs.Atoms.{bytes_in}
 use Rattle.qt_movie.specs.MovieBytes.{frame_head_bytes, frame_bytes}
-use Rattle.rescue_run.specs.Rescuing.{Extends}
 use Rattle.rescue_run.proofs.Marks.{in_piece}
 
 -- bytes up to a place, and from there on

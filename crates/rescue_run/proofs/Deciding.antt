@@ -16,7 +16,7 @@ use Rattle.pr_frame.specs.Reading.{frame_fault}
 use Rattle.pr_frame.specs.Laws.{OneFrame, FrameOrFault, FrameHasNoFault}
 use Rattle.rescue_run.specs.declared.form.FrameForm.{FrameForm}
 use Rattle.rescue_run.specs.Chain.{HoldsFrame, HasMark, IsLike, form_of, size_at}
-use Rattle.rescue_run.specs.Steps.{HoldsNone}
+use Rattle.rescue_run.specs.inner.Steps.{HoldsNone}
 use Rattle.rescue_run.proofs.Following.{below_or}
 
 -- it is so, or not

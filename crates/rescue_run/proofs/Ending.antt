@@ -3,7 +3,7 @@ use Rattle.std.proofs.Common.{◌≡◌, refl, ℕ, ◌≤◌, List, [], ◌∷�
 use Rattle.std.specs.Prelude.{Option, Some, None}
 use Rattle.std.specs.List.{flat_map}
 use Rattle.pw_outside.specs.Ports.{last}
-use Rattle.pw_outside.specs.Writing.{SinkState, Puts, PutsFront}
+use Rattle.pw_outside.specs.Writing.{SinkState, Puts, PutsFront, Extends}
 use Rattle.pw_outside.proofs.Puts.{puts_none, puts_then, then_front}
 use Rattle.qt_movie.specs.MovieBytes.{ftyp_bytes, frame_bytes, moov_bytes, extents}
 use Rattle.qt_tables.specs.declared.fault.MovieKind.TheVariants.{NoFrames}
@@ -13,9 +13,9 @@ use Rattle.rescue_run.specs.declared.end.RescueEnd.{RescueEnd}
 use Rattle.rescue_run.specs.declared.end.RescueEnd.TheVariants as ends
 use Rattle.rescue_run.specs.declared.gathering.Gathering.{Gathering}
 use Rattle.rescue_run.specs.Chain.{Taken, size_at, form_of, form_behind, behind, Takes}
-use Rattle.rescue_run.specs.Rescuing.{World, EndsWithin, Ran, Cut, head_of, rescued_bytes, rescue_text, extents_of, extent_of, frames_of, opening_bytes, Rescues, Extends}
+use Rattle.rescue_run.specs.Rescuing.{World, EndsWithin, Ran, Cut, head_of, rescued_bytes, rescue_text, extents_of, extent_of, frames_of, opening_bytes, Rescues}
 use Rattle.rescue_run.proofs.Copying.{bytes_there, length_map, front_extends}
-use Rattle.rescue_run.specs.Steps.{FinishIs, form_after, sizes_of, GatheredUpTo, with_text, IsKept, Halts}
+use Rattle.rescue_run.specs.inner.Steps.{FinishIs, form_after, sizes_of, GatheredUpTo, with_text, IsKept, Halts}
 
 -- sinks that were flushed
 flushed_within : (a b c : World) (movie text : List ℕ) → EndsWithin movie text b c → Puts a.text b.text [] → Puts a.out b.out [] → EndsWithin movie text a c

@@ -4,8 +4,8 @@ use Rattle.std.specs.Prelude.{◌⊎◌, Option}
 use Rattle.pr_frame.specs.declared.coded.CodedFrame.{CodedFrame}
 use Rattle.rescue_run.specs.declared.form.FrameForm.{FrameForm}
 use Rattle.rescue_run.specs.Chain.{HoldsFrame, IsLike, form_behind, NoneHeld, Taken, behind, Takes, TakesFirst}
-use Rattle.rescue_run.specs.Windows.{NoMark}
-use Rattle.rescue_run.specs.Steps.{HoldsNone, form_after}
+use Rattle.rescue_run.specs.inner.Windows.{NoMark}
+use Rattle.rescue_run.specs.inner.Steps.{HoldsNone, form_after}
 
 -- nothing yet
 pub none_taken : (file : List ℕ) → TakesFirst file [] 0

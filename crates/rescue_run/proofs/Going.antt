@@ -9,7 +9,7 @@ use Rattle.std.specs.Prelude.{None}
 use Rattle.rescue_run.specs.Chain.{Taken, behind, TakesFirst, IsChain}
 use Rattle.rescue_run.specs.Rescuing.{Rescues}
 use Rattle.rescue_run.specs.Laws.{Goes}
-use Rattle.rescue_run.specs.Steps.{HoldsNone, form_after}
+use Rattle.rescue_run.specs.inner.Steps.{HoldsNone, form_after}
 use Rattle.rescue_run.proofs.Following.{below_or, one_none, none_more, take_more}
 use Rattle.rescue_run.proofs.Deciding.{HoldsOne, one_or_none}
 

@@ -10,7 +10,7 @@ use Rattle.pw_outside.proofs.Puts.{puts_then, puts_front, front_more, then_front
 use Rattle.qt_tables.specs.declared.writer.Extent.{Extent}
 use Rattle.pic_y4m.specs.declared.writer.WriteEnd.{WriteEnd}
 use Rattle.rescue_run.specs.Rescuing.{frame_line, frame_lines}
-use Rattle.rescue_run.specs.Steps.{TextIs}
+use Rattle.rescue_run.specs.inner.Steps.{TextIs}
 
 -- the lines of two lists of frames
 pub lines_of_both : (number : ℕ) (xs ys : List Extent) → frame_lines number (xs ++ ys) ≡ frame_lines number xs ++ frame_lines (number + length xs) ys

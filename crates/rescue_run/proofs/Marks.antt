@@ -7,7 +7,7 @@ use Rattle.memchr.specs.Find.{OccursAt, FindsNeedle}
 use Rattle.memchr.proofs.lemmas.MatchLemmas.{OccursAt-part, OccursAt-from_part}
 use Rattle.rescue_run.specs.declared.window.Window.{Window}
 use Rattle.rescue_run.specs.Chain.{HasMark}
-use Rattle.rescue_run.specs.Windows.{NoMark, IsFirstMark, Shows, MarkIn}
+use Rattle.rescue_run.specs.inner.Windows.{NoMark, IsFirstMark, Shows, MarkIn}
 
 -- four bytes that are there
 four_there : (l : List ℕ) (n : ℕ) → length (take 4 (drop n l)) ≡ 4 → n + 4 ≤ length l

@@ -12,7 +12,7 @@ use Rattle.rescue_run.specs.declared.gathering.Gathering.{Gathering}
 use Rattle.rescue_run.specs.declared.end.RescueEnd.{RescueEnd}
 use Rattle.rescue_run.specs.declared.end.RescueEnd.TheVariants as ends
 use Rattle.rescue_run.specs.Rescuing.{is_done}
-use Rattle.rescue_run.specs.Steps.{IsPortsEnd, IsCopyEnd, IsKept, AreKept, extents_in, TakingIs, step_bytes}
+use Rattle.rescue_run.specs.inner.Steps.{IsPortsEnd, IsCopyEnd, IsKept, AreKept, extents_in, TakingIs, step_bytes}
 use Rattle.rescue_run.proofs.Copying.{length_map}
 
 pub taking_err : (frame : List ℕ) (place : ℕ) (es : List Extent) (end : RescueEnd) (a b : SinkState) → length es < 1000000 → IsPortsEnd end → PutsFront a b (step_bytes es frame) → TakingIs frame place es (Err end) a b

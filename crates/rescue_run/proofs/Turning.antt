@@ -15,9 +15,9 @@ use Rattle.rescue_run.specs.declared.end.RescueEnd.{RescueEnd}
 use Rattle.rescue_run.specs.declared.end.RescueEnd.TheVariants as ends
 use Rattle.rescue_run.specs.declared.gathering.Gathering.{Gathering}
 use Rattle.rescue_run.specs.Chain.{IsLike, form_of, form_behind, Taken, TakesFirst, size_at, behind}
-use Rattle.rescue_run.specs.Windows.{NoMark}
+use Rattle.rescue_run.specs.inner.Windows.{NoMark}
 use Rattle.rescue_run.specs.Rescuing.{frames_of, opening_bytes, extents_of, extent_of, bytes_of_frame, Refused, Stopped}
-use Rattle.rescue_run.specs.Steps.{HoldsLike, HoldsNone, form_in, extents_in, first_or, step_bytes, TakingIs, form_after, GatheredUpTo, with_text, Halts, IsReadersEnd, IsJudged, GoesFrom}
+use Rattle.rescue_run.specs.inner.Steps.{HoldsLike, HoldsNone, form_in, extents_in, first_or, step_bytes, TakingIs, form_after, GatheredUpTo, with_text, Halts, IsReadersEnd, IsJudged, GoesFrom}
 use Rattle.rescue_run.proofs.Following.{none_taken, no_mark_held, one_none, none_more, take_more, form_more}
 
 map_more : {A B : Type 0} (f : A → B) (xs : List A) (x : A) → map f (xs ++ x ∷ []) ≡ map f xs ++ f x ∷ []

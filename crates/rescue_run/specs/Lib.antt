@@ -1,5 +1,4 @@
 pub mod Chain
-pub mod Windows
 pub mod Rescuing
-pub mod Steps
 pub mod Laws
+pub mod inner

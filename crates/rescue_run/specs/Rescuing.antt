@@ -153,10 +153,6 @@ Ran rate file ends.ReadFault before after = Stopped file before after
 Ran rate file ends.WriteFault before after = Stopped file before after ⊎ Cut rate file before after
 Ran rate file ends.NoMemory before after = Stopped file before after ⊎ Cut rate file before after
 
--- something was appended, or nothing
-abbrev pub Extends : SinkState → SinkState → Type 0
-Extends before after = (bytes : List ℕ) × Puts before after bytes
-
 -- ---- by the answer
 
 abbrev pub is_done : RescueEnd → Bool
@@ -170,9 +166,3 @@ is_read_fault _ = false
 abbrev pub is_write_fault : RescueEnd → Bool
 is_write_fault ends.WriteFault = true
 is_write_fault _ = false
-
--- Of two sinks one count rose where the call failed, and else both are as they were.
-pub record CountsFaults {X : Type 0} (faults : X → ℕ) (a b a' b' : X) (failed : Bool) : Type 0 where
-  pub later : (faults a ≤ faults a') × (faults b ≤ faults b')
-  pub rose : OnTrue failed (Rose (faults a) (faults a') ⊎ Rose (faults b) (faults b'))
-  pub kept : OnFalse failed ((faults a' ≡ faults a) × (faults b' ≡ faults b))

@@ -3,12 +3,12 @@
 ghost use Rattle.std.specs.Prelude.{◌≡◌, ◌+◌, ◌-◌, ◌<◌, ◌≤◌, ◌++◌, [], OnOk, OnErr, IfOk, is_err, length, take, drop, Some, slice_get};
 ghost use Rattle.std.specs.Bool.{OnTrue};
 ghost use Rattle.std.specs.Fmt.{decimal};
-ghost use Rattle.pw_outside.specs.Ports.{CountsFault};
-ghost use Rattle.pw_outside.specs.Writing.{sink_state, Puts, PutsFront};
+ghost use Rattle.pw_outside.specs.Ports.{CountsFault, CountsFaults};
+ghost use Rattle.pw_outside.specs.Writing.{sink_state, Puts, PutsFront, Extends};
 ghost use Rattle.pic_y4m.specs.Writing.{Writes, write_failed};
 ghost use Rattle.qt_movie.specs.MovieBytes.{moov_bytes, extents};
-ghost use Rattle.rescue_run.specs.Rescuing.{frame_line, frame_lines, count_line, rescue_text, Extends, CountsFaults, world, is_done, is_write_fault};
-ghost use Rattle.rescue_run.specs.Steps.{FinishIs, TextIs};
+ghost use Rattle.rescue_run.specs.Rescuing.{frame_line, frame_lines, count_line, rescue_text, world, is_done, is_write_fault};
+ghost use Rattle.rescue_run.specs.inner.Steps.{FinishIs, TextIs};
 
 use crate::end::RescueEnd;
 use crate::gathering::Gathering;
@@ -135,7 +135,7 @@ fn settle<K: ByteSink>(out: &mut K, text: &mut K) -> Result<(), Failed>
     ensures out { Puts (sink_state (K.held out.old) (K.taken out.old)) (sink_state (K.held out.new) (K.taken out.new)) [] }
     ensures text { Puts (sink_state (K.held text.old) (K.taken text.old)) (sink_state (K.held text.new) (K.taken text.new)) [] }
     ensures settled { OnOk result ((K.settled out.new ≡ K.taken out.new) × (K.settled text.new ≡ K.taken text.new)) }
-    ensures cause { CountsFaults K.faults out.old text.old out.new text.new (is_err result) }
+    ensures cause { CountsFaults (K.faults out.old) (K.faults out.new) (K.faults text.old) (K.faults text.new) (is_err result) }
 {
     out.flush()?;
     text.flush()
@@ -145,7 +145,7 @@ fn settle<K: ByteSink>(out: &mut K, text: &mut K) -> Result<(), Failed>
 fn print<K: ByteSink>(alloc: Global, extents: &[Extent], out: &mut K, text: &mut K) -> RescueEnd
     ensures finish { FinishIs result [] (rescue_text extents.now) (world K.held K.taken out.old text.old) (world K.held K.taken out.new text.new) }
     ensures settled { OnTrue (is_done result) ((K.settled out.new ≡ K.taken out.new) × (K.settled text.new ≡ K.taken text.new)) }
-    ensures cause { CountsFaults K.faults out.old text.old out.new text.new (is_write_fault result) }
+    ensures cause { CountsFaults (K.faults out.old) (K.faults out.new) (K.faults text.old) (K.faults text.new) (is_write_fault result) }
 {
     match put_text(alloc, extents, text) {
         Ok(()) => match settle(out, text) {
@@ -166,7 +166,7 @@ pub(crate) fn finish<K: ByteSink>(
 ) -> RescueEnd
     ensures finish { FinishIs result (moov_bytes gathered.writer.head (extents gathered.writer.sizes)) (rescue_text gathered.extents.items) (world K.held K.taken out.old text.old) (world K.held K.taken out.new text.new) }
     ensures settled { OnTrue (is_done result) ((K.settled out.new ≡ K.taken out.new) × (K.settled text.new ≡ K.taken text.new)) }
-    ensures cause { CountsFaults K.faults out.old text.old out.new text.new (is_write_fault result) }
+    ensures cause { CountsFaults (K.faults out.old) (K.faults out.new) (K.faults text.old) (K.faults text.new) (is_write_fault result) }
 {
     match gathered.writer.finish(alloc, out) {
         Ok(()) => print(alloc, &gathered.extents, out, text),

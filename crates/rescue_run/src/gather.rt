@@ -3,11 +3,11 @@
 ghost use Rattle.std.specs.Prelude.{◌≡◌, ◌+◌, ◌<◌, ◌≤◌, false, length, IfErr, IfOk, OnOk};
 ghost use Rattle.pw_outside.specs.Ports.{CountsFault};
 ghost use Rattle.pw_outside.specs.Reading.{Told};
-ghost use Rattle.pw_outside.specs.Writing.{SinkState, sink_state};
+ghost use Rattle.pw_outside.specs.Writing.{SinkState, sink_state, Extends};
 ghost use Rattle.rescue_run.specs.Chain.{HasMark};
-ghost use Rattle.rescue_run.specs.Rescuing.{IsRate, Extends, is_done};
-ghost use Rattle.rescue_run.specs.Windows.{Shows};
-ghost use Rattle.rescue_run.specs.Steps.{AreKept, GatheredUpTo, GoesFrom, GathersAll, form_in, is_read_end, is_write_end};
+ghost use Rattle.rescue_run.specs.Rescuing.{IsRate, is_done};
+ghost use Rattle.rescue_run.specs.inner.Windows.{Shows};
+ghost use Rattle.rescue_run.specs.inner.Steps.{AreKept, GatheredUpTo, GoesFrom, GathersAll, form_in, is_read_end, is_write_end};
 
 use crate::end::RescueEnd;
 use crate::form::{FrameForm, Rate};

@@ -3,12 +3,12 @@
 ghost use Rattle.std.specs.Prelude.{◌≡◌, ◌+◌, ◌-◌, ◌++◌, ◌<◌, ◌≤◌, ◌^◌, ℕ, List, [], ◌∷◌, false, length, is_err, IfErr, IfOk, OnOk, OnErr};
 ghost use Rattle.pw_outside.specs.Ports.{CountsFault};
 ghost use Rattle.pw_outside.specs.Reading.{Told};
-ghost use Rattle.pw_outside.specs.Writing.{sink_state, Puts, PutsFront};
+ghost use Rattle.pw_outside.specs.Writing.{sink_state, Puts, PutsFront, Extends};
 ghost use Rattle.qt_atoms.specs.Atoms.{bytes_in};
 ghost use Rattle.qt_movie.specs.MovieBytes.{ftyp_bytes, frame_bytes};
-ghost use Rattle.rescue_run.specs.Rescuing.{IsRate, Extends, is_done};
-ghost use Rattle.rescue_run.specs.Windows.{IsPart, Shows};
-ghost use Rattle.rescue_run.specs.Steps.{IsForm, IsKept, AreKept, IsPortsEnd, IsCopyEnd, IsWritersEnd, TakingIs, extents_in, form_in, first_or, is_read_end, is_write_end};
+ghost use Rattle.rescue_run.specs.Rescuing.{IsRate, is_done};
+ghost use Rattle.rescue_run.specs.inner.Windows.{IsPart, Shows};
+ghost use Rattle.rescue_run.specs.inner.Steps.{IsForm, IsKept, AreKept, IsPortsEnd, IsCopyEnd, IsWritersEnd, TakingIs, extents_in, form_in, first_or, is_read_end, is_write_end};
 
 use crate::end::RescueEnd;
 use crate::form::{FrameForm, Rate, head_of};

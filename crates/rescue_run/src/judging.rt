@@ -8,7 +8,7 @@ ghost use Rattle.qt_atoms.specs.Atoms.{bytes_in};
 ghost use Rattle.pr_head.specs.Faults.{told_fault, is_failed};
 ghost use Rattle.pr_frame.specs.Reading.{frame_fault};
 ghost use Rattle.rescue_run.specs.Chain.{HasMark, size_at, form_of};
-ghost use Rattle.rescue_run.specs.Steps.{IsForm, StandsAs, IsFirstForm, IsJudged, IsReadersEnd, is_read_end};
+ghost use Rattle.rescue_run.specs.inner.Steps.{IsForm, StandsAs, IsFirstForm, IsJudged, IsReadersEnd, is_read_end};
 
 use crate::end::RescueEnd;
 use crate::form::FrameForm;

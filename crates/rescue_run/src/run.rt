@@ -2,10 +2,10 @@
 
 ghost use Rattle.std.specs.Prelude.{◌≡◌, ℕ, List};
 ghost use Rattle.std.specs.Bool.{OnTrue};
-ghost use Rattle.pw_outside.specs.Ports.{CountsFault, Rose};
+ghost use Rattle.pw_outside.specs.Ports.{CountsFault, Rose, CountsFaults};
 ghost use Rattle.pw_outside.specs.Reading.{Told};
-ghost use Rattle.pw_outside.specs.Writing.{sink_state, Puts};
-ghost use Rattle.rescue_run.specs.Rescuing.{IsRate, world, Ran, Extends, CountsFaults, is_done, is_read_fault, is_write_fault};
+ghost use Rattle.pw_outside.specs.Writing.{sink_state, Puts, Extends};
+ghost use Rattle.rescue_run.specs.Rescuing.{IsRate, world, Ran, is_done, is_read_fault, is_write_fault};
 ghost use Rattle.rescue_run.specs.Laws.{WritesFronts, AnswersRescue, IsMovieOf};
 
 use crate::end::RescueEnd;
@@ -32,7 +32,7 @@ fn rescue<M: ByteStore, K: ByteSink>(
     ensures settled { OnTrue (is_done result) ((K.settled out.new ≡ K.taken out.new) × (K.settled text.new ≡ K.taken text.new)) }
     ensures bytes { M.bytes movie.new ≡ M.bytes movie.old }
     ensures read { CountsFault (M.faults movie.old) (M.faults movie.new) (is_read_fault result) }
-    ensures write { CountsFaults K.faults out.old text.old out.new text.new (is_write_fault result) }
+    ensures write { CountsFaults (K.faults out.old) (K.faults out.new) (K.faults text.old) (K.faults text.new) (is_write_fault result) }
 {
     match gather(alloc, movie, rate, out) {
         Ok(Some(gathered)) => finish(alloc, gathered, out, text),
@@ -82,7 +82,7 @@ pub fn rescue_run<M: ByteStore, K: ByteSink>(
     ensures bytes { M.bytes movie.new ≡ M.bytes movie.old }
     // A fault of a port is answered only where that port's count rose, and every other answer leaves the counts as they were.
     ensures read { CountsFault (M.faults movie.old) (M.faults movie.new) (is_read_fault result) }
-    ensures write { CountsFaults K.faults out.old text.old out.new text.new (is_write_fault result) }
+    ensures write { CountsFaults (K.faults out.old) (K.faults out.new) (K.faults text.old) (K.faults text.new) (is_write_fault result) }
 {
     rescuing_is_one();
     runs_write_fronts();

@@ -3,7 +3,7 @@
 ghost use Rattle.std.specs.Prelude.{◌≡◌, ◌+◌, ◌<◌, ◌≤◌, ℕ, List, length, is_err, IfOk, IfSome, OnOk};
 ghost use Rattle.pw_outside.specs.Ports.{CountsFault};
 ghost use Rattle.pw_outside.specs.Reading.{Told};
-ghost use Rattle.rescue_run.specs.Windows.{IsPart, Shows, IsFirstMark, MarkIn, FindsMark};
+ghost use Rattle.rescue_run.specs.inner.Windows.{IsPart, Shows, IsFirstMark, MarkIn, FindsMark};
 
 use crate::window::{Window, reach};
 use memchr::memmem;

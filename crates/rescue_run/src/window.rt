@@ -5,7 +5,7 @@ ghost use Rattle.std.specs.Int.{w32, from_be_bytes};
 ghost use Rattle.pw_outside.specs.Ports.{CountsFault};
 ghost use Rattle.pw_outside.specs.Reading.{Told};
 ghost use Rattle.rescue_run.specs.Chain.{size_at};
-ghost use Rattle.rescue_run.specs.Windows.{IsPart, Shows};
+ghost use Rattle.rescue_run.specs.inner.Windows.{IsPart, Shows};
 
 use pw_outside::{ByteStore, Failed, NoMemory, fill_at};
 use std::alloc::Global;

@@ -2,14 +2,14 @@
 
 ghost use Rattle.std.specs.Prelude.{◌≡◌, ◌≤◌, ℕ, [], false, IfOk, IfErr, length, map, List};
 ghost use Rattle.std.specs.Bool.{OnTrue};
-ghost use Rattle.pw_outside.specs.Ports.{CountsFault, Rose, last};
+ghost use Rattle.pw_outside.specs.Ports.{CountsFault, Rose, last, CountsFaults};
 ghost use Rattle.pw_outside.specs.Reading.{Told};
-ghost use Rattle.pw_outside.specs.Writing.{SinkState, sink_state};
+ghost use Rattle.pw_outside.specs.Writing.{SinkState, sink_state, Extends};
 ghost use Rattle.qt_tables.specs.Samples.{samples};
 ghost use Rattle.qt_tables.specs.Tables.{AreTables};
 ghost use Rattle.qt_movie.specs.Movie.{movie_in};
-ghost use Rattle.run_decode.specs.Running.{is_done, world, Ran, RanOn, CountsFaults, is_read_fault, is_write_fault, Extends};
-ghost use Rattle.run_decode.specs.Steps.{scene, is_read_end, is_write_end, with_text, ShownAll};
+ghost use Rattle.run_decode.specs.Running.{is_done, world, Ran, RanOn, is_read_fault, is_write_fault};
+ghost use Rattle.run_decode.specs.inner.Steps.{scene, is_read_end, is_write_end, with_text, ShownAll};
 ghost use Rattle.run_decode.specs.Laws.{WritesFrontsOf, CompletesDecode};
 
 use crate::end::DecodeEnd;
@@ -79,7 +79,7 @@ fn run_job<M: ByteStore, K: ByteSink, B: Monitor>(
     ensures settled { OnTrue (is_done result) ((K.settled out.new ≡ K.taken out.new) × (K.settled text.new ≡ K.taken text.new)) }
     ensures bytes { M.bytes movie.new ≡ M.bytes movie.old }
     ensures read { CountsFault (M.faults movie.old) (M.faults movie.new) (is_read_fault result) }
-    ensures write { CountsFaults K.faults out.old text.old out.new text.new (is_write_fault result) }
+    ensures write { CountsFaults (K.faults out.old) (K.faults out.new) (K.faults text.old) (K.faults text.new) (is_write_fault result) }
 {
     match show_all(alloc, job, reader, movie, out, monitors) {
         Ok(()) => finish(alloc, reader.track().samples, out, text, monitors),
@@ -106,7 +106,7 @@ fn run_movie<M: ByteStore, K: ByteSink, B: Monitor>(
     ensures settled { OnTrue (is_done result) ((K.settled out.new ≡ K.taken out.new) × (K.settled text.new ≡ K.taken text.new)) }
     ensures bytes { M.bytes movie.new ≡ M.bytes movie.old }
     ensures read { CountsFault (M.faults movie.old) (M.faults movie.new) (is_read_fault result) }
-    ensures write { CountsFaults K.faults out.old text.old out.new text.new (is_write_fault result) }
+    ensures write { CountsFaults (K.faults out.old) (K.faults out.new) (K.faults text.old) (K.faults text.new) (is_write_fault result) }
 {
     let reader = match MovieReader::start(alloc, movie) {
         Ok(reader) => reader,
@@ -153,7 +153,7 @@ pub fn decode_run<M: ByteStore, K: ByteSink, B: Monitor>(
     ensures bytes { M.bytes movie.new ≡ M.bytes movie.old }
     // A fault of a port is answered only where that port's count rose, and every other answer leaves the counts as they were.
     ensures read { CountsFault (M.faults movie.old) (M.faults movie.new) (is_read_fault result) }
-    ensures write { CountsFaults K.faults out.old text.old out.new text.new (is_write_fault result) }
+    ensures write { CountsFaults (K.faults out.old) (K.faults out.new) (K.faults text.old) (K.faults text.new) (is_write_fault result) }
 {
     runs_write_fronts();
     runs_complete();

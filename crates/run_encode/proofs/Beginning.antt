@@ -20,7 +20,7 @@ use Rattle.run_encode.specs.Groups.{IsJobOf, has_layout}
 use Rattle.run_encode.specs.Outputs.{Outputs, nothing, PutsAll}
 use Rattle.run_encode.specs.Encoding.{end_of_fault, StopsFirst, Ran, RanOn}
 use Rattle.run_encode.specs.Headline.{HasHeadline}
-use Rattle.run_encode.specs.Steps.{left_by}
+use Rattle.run_encode.specs.inner.Steps.{left_by}
 use Rattle.run_encode.proofs.Headlines.{headline-refused}
 
 pub nothing-put : (a : Outputs) → a.movie.taken ≤ last → a.proof.taken ≤ last → a.text.taken ≤ last → PutsAll a a nothing

@@ -11,7 +11,7 @@ use Rattle.run_encode.specs.Groups.{table_in}
 use Rattle.rate_cert.specs.Files.{record_bytes}
 use Rattle.run_encode.specs.Outputs.{Outputs, nothing, joined, PutsAll, PutsFronts}
 use Rattle.run_encode.specs.Encoding.{IsNarrow, body_lists, none_record, AreFirst, group_behind}
-use Rattle.run_encode.specs.Steps.{Counts, in_front, no_pictures, group_lists, none_lists, small_body, WroteLast, WholeGroups, AllGroups, EndsIn, EndedBehind}
+use Rattle.run_encode.specs.inner.Steps.{Counts, in_front, no_pictures, group_lists, none_lists, small_body, WroteLast, WholeGroups, AllGroups, EndsIn, EndedBehind}
 use Rattle.run_encode.proofs.Sinks.{all_then, all_then_none, then_fronts}
 use Rattle.run_encode.proofs.Cutting.{whole-length}
 use Rattle.run_encode.proofs.Looping.{pictures_in, same-lists, body-more, by-recursion, first-are, behind-is, has-more, cut-count, end-count, more-first, last-count, last-there, last-next, wrote-more, sizes-more, records-more}

@@ -7,7 +7,7 @@ use Rattle.std.proofs.lemmas.List.{take-map, drop-map, drop_at, map-append, leng
 use Rattle.std.proofs.lemmas.List.Concat.{flat_map-append}
 use Rattle.pw_outside.specs.Writing.{SinkState, Puts, PutsFront}
 use Rattle.pw_outside.proofs.Puts.{puts_none, puts_then, front_more, then_front}
-use Rattle.pr_frame.specs.Written.{written}
+use Rattle.pr_frame.specs.Written.{coded_bytes}
 use Rattle.qt_movie.specs.MovieBytes.{frame_head_bytes, frame_bytes}
 use Rattle.rate_table.specs.declared.entry.Entry.{Entry}
 use Rattle.rate_table.specs.Table.{Table, IsChoice, size_of, indices}
@@ -16,7 +16,7 @@ use Rattle.rate_build.specs.Coding.{coded_frame}
 use Rattle.rate_build.specs.Tables.{fixed_bytes}
 use Rattle.run_encode.specs.declared.job.Job.{Job}
 use Rattle.run_encode.specs.Groups.{IsFrameOf, header_in, frame_slices, slice_tables, table_of_group, coded_group}
-use Rattle.run_encode.specs.Over.{HasFitting, IsFrameChoice}
+use Rattle.run_encode.specs.inner.Over.{HasFitting, IsFrameChoice}
 use Rattle.run_encode.proofs.Shares.{slices-are, part-of, sizes-split}
 use Rattle.run_encode.proofs.Grouped.{table-slices, table-fixed}
 
@@ -27,7 +27,7 @@ pub record Left (j : Job) (left : List FrameCoefficients) (all : List (List ℕ)
   pub has_indices : indices entries ≡ part
   pub small : length left * fixed_bytes j.layout + size_of entries < 2 ^ 31
   pub slices_are : slices ≡ flat_map (slice_tables j) left
-  pub all_are : all ≡ done ++ map written (coded_group j left part)
+  pub all_are : all ≡ done ++ map coded_bytes (coded_group j left part)
 
 pub record SoFar (j : Job) (left : List FrameCoefficients) (all : List (List ℕ)) (slices : List (List Entry)) (part : List ℕ) (k : ℕ) (first sizes : List ℕ) (before after : SinkState) : Type 0 where
   pub done : List (List ℕ)
@@ -48,7 +48,7 @@ then-whole a b c frame size e p q = puts_then (subst (λ n. Puts a b (frame_head
 
 module _ (j : Job) (c : FrameCoefficients) (cs : List FrameCoefficients) (is : IsFrameOf j c) (all : List (List ℕ)) (slices : List (List Entry)) (part : List ℕ) (n : ℕ) (count : n ≡ frame_slices j) where
   abbrev frame : List ℕ
-  frame = written (coded_frame c (header_in j) (take n part))
+  frame = coded_bytes (coded_frame c (header_in j) (take n part))
 
   module _ (done : List (List ℕ)) (l : Left j (c ∷ cs) all slices part done) where
     times : length (c ∷ cs) * fixed_bytes j.layout ≡ fixed_bytes j.layout + length cs * fixed_bytes j.layout
@@ -75,8 +75,8 @@ module _ (j : Job) (c : FrameCoefficients) (cs : List FrameCoefficients) (is : I
       },
     )
 
-    all-here : all ≡ done ++ (frame ∷ map written (coded_group j cs (drop n part)))
-    all-here = l.all_are ∙ ap (λ k. done ++ (written (coded_frame c (header_in j) (take k part)) ∷ map written (coded_group j cs (drop k part)))) (sym count)
+    all-here : all ≡ done ++ (frame ∷ map coded_bytes (coded_group j cs (drop n part)))
+    all-here = l.all_are ∙ ap (λ k. done ++ (coded_bytes (coded_frame c (header_in j) (take k part)) ∷ map coded_bytes (coded_group j cs (drop k part)))) (sym count)
 
     pub rest-left : Left j cs all (drop n slices) (drop n part) (done ++ frame ∷ [])
     rest-left = record {
@@ -85,12 +85,12 @@ module _ (j : Job) (c : FrameCoefficients) (cs : List FrameCoefficients) (is : I
       has_indices = sym (drop-map (λ (x : Entry). x.index) n l.entries) ∙ ap (drop n) l.has_indices;
       small = let one = times in omega (arith, sizes-split j n l.entries, l.small, one);
       slices_are = behind-is;
-      all_are = all-here ∙ sym (append_assoc done (frame ∷ []) (map written (coded_group j cs (drop n part))));
+      all_are = all-here ∙ sym (append_assoc done (frame ∷ []) (map coded_bytes (coded_group j cs (drop n part))));
     }
 
     pub front-all : (a b d : SinkState) → Puts a b (flat_map frame_bytes done) → PutsFront b d (frame_bytes frame) → PutsFront a d (flat_map frame_bytes all)
     front-all a b d p q =
-        let rest = map written (coded_group j cs (drop n part)) in
+        let rest = map coded_bytes (coded_group j cs (drop n part)) in
         let same : (flat_map frame_bytes done ++ frame_bytes frame) ++ flat_map frame_bytes rest ≡ flat_map frame_bytes all =
         append_assoc (flat_map frame_bytes done) (frame_bytes frame) (flat_map frame_bytes rest) ∙ sym (flat_map-append frame_bytes done (frame ∷ rest)) ∙ ap (flat_map frame_bytes) (sym all-here) in
         subst (PutsFront a d) same (front_more (flat_map frame_bytes rest) (then_front p q))
@@ -140,7 +140,7 @@ frame-is j frames k c lt e all = subst (IsFrameOf j) (sym e) (All-get_or (IsFram
 -- before the first frame
 pub none-written : (j : Job) (frames : List FrameCoefficients) (slices : List (List Entry)) (choice first : List ℕ) (a : SinkState) (t : Table)
     → slices ≡ t.slices → t ≡ table_of_group j frames → All (IsFrameOf j) frames → t.budget < 2 ^ 31 → HasFitting t choice → a.taken ≤ last
-    → SoFar j frames (map written (coded_group j frames choice)) slices choice 0 first first a a
+    → SoFar j frames (map coded_bytes (coded_group j frames choice)) slices choice 0 first first a a
 none-written j frames slices choice first a t s e is small h le = record {
   done = [];
   left_is = record {

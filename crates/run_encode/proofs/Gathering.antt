@@ -20,8 +20,8 @@ use Rattle.rate_build.specs.Coefficients.{FrameCoefficients}
 use Rattle.run_encode.specs.declared.job.Job.{Job}
 use Rattle.run_encode.specs.Groups.{IsFrameOf, coefficients_in}
 use Rattle.run_encode.specs.Encoding.{end_of_fault}
-use Rattle.run_encode.specs.Steps.{left_by, in_front, no_pictures}
-use Rattle.run_encode.specs.Over.{ReadsGroup, StopsGroup}
+use Rattle.run_encode.specs.inner.Steps.{left_by, in_front, no_pictures}
+use Rattle.run_encode.specs.inner.Over.{ReadsGroup, StopsGroup}
 
 -- one frame more
 one-frame : (r : AnyReader) (place : ℕ) → frames_of (advanced r place) ≡ frames_of r + 1

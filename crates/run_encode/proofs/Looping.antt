@@ -19,7 +19,7 @@ use Rattle.rate_cert.specs.Files.{record_bytes}
 use Rattle.run_encode.specs.Groups.{group_count}
 use Rattle.run_encode.specs.Outputs.{Outputs, Lists, joined, PutsAll}
 use Rattle.run_encode.specs.Encoding.{Group, IsCoded, IsNarrow, body_lists, all_frames, frames_of, record_in, group_lines, lines_of, AreFirst, group_behind}
-use Rattle.run_encode.specs.Steps.{Counts, in_front, no_pictures, group_lists, Wrote, WroteWhole, WholeGroups, HasGroup}
+use Rattle.run_encode.specs.inner.Steps.{Counts, in_front, no_pictures, group_lists, Wrote, WroteWhole, WholeGroups, HasGroup}
 use Rattle.run_encode.proofs.Sinks.{all_then}
 use Rattle.run_encode.proofs.Cutting.{whole-groups, whole-length, next-group, count-whole, count-up-none, count-up-some, count-least}
 

@@ -15,7 +15,7 @@ use Rattle.rate_layers.specs.Layers.{AreKept}
 use Rattle.rate_layers.specs.Best.{TellsBest, TellsLayers, PassesByBest}
 use Rattle.run_encode.specs.declared.job.Job.{Job}
 use Rattle.run_encode.specs.Groups.{IsJob, IsFrameOf, frame_slices, settings_of, table_of_group}
-use Rattle.run_encode.specs.Steps.{IsOpen}
+use Rattle.run_encode.specs.inner.Steps.{IsOpen}
 use Rattle.run_encode.proofs.Grouped.{table-number}
 use Rattle.run_encode.proofs.Layouts.{slices-same}
 

@@ -2,7 +2,7 @@
 use Rattle.std.proofs.Common.{◌≡◌, ℕ, ◌+◌, ◌++◌, List, length, map, ap, subst, ◌∙◌}
 use Rattle.std.specs.List.{flat_map}
 use Rattle.pw_outside.specs.Writing.{SinkState, Puts, PutsFront}
-use Rattle.pr_frame.specs.Written.{written}
+use Rattle.pr_frame.specs.Written.{coded_bytes}
 use Rattle.qt_movie.specs.MovieBytes.{frame_bytes}
 use Rattle.rate_table.specs.declared.entry.Entry.{Entry}
 use Rattle.rate_table.specs.declared.entry.Pair.{Pair}
@@ -17,15 +17,15 @@ use Rattle.rate_cert.specs.Files.{record_bytes}
 use Rattle.run_encode.specs.Groups.{frame_slices, table_of_group, coded_group}
 use Rattle.run_encode.specs.Outputs.{Outputs, PutsAll, PutsFronts}
 use Rattle.run_encode.specs.Encoding.{part_lines}
-use Rattle.run_encode.specs.Steps.{Counts}
-use Rattle.run_encode.specs.Over.{IsChosen, WroteFrames, frames_lists, fit_lists, none_of_frames}
+use Rattle.run_encode.specs.inner.Steps.{Counts}
+use Rattle.run_encode.specs.inner.Over.{IsChosen, WroteFrames, frames_lists, fit_lists, none_of_frames}
 
 module _ (a b : SinkState) (j : Job) (cs : List FrameCoefficients) (choice choice' : List ℕ) (e : choice ≡ choice') where
-  pub movie-all : Puts a b (flat_map frame_bytes (map written (coded_group j cs choice))) → Puts a b (flat_map frame_bytes (map written (coded_group j cs choice')))
-  movie-all p = subst (λ c. Puts a b (flat_map frame_bytes (map written (coded_group j cs c)))) e p
+  pub movie-all : Puts a b (flat_map frame_bytes (map coded_bytes (coded_group j cs choice))) → Puts a b (flat_map frame_bytes (map coded_bytes (coded_group j cs choice')))
+  movie-all p = subst (λ c. Puts a b (flat_map frame_bytes (map coded_bytes (coded_group j cs c)))) e p
 
-  pub movie-front : PutsFront a b (flat_map frame_bytes (map written (coded_group j cs choice))) → PutsFront a b (flat_map frame_bytes (map written (coded_group j cs choice')))
-  movie-front p = subst (λ c. PutsFront a b (flat_map frame_bytes (map written (coded_group j cs c)))) e p
+  pub movie-front : PutsFront a b (flat_map frame_bytes (map coded_bytes (coded_group j cs choice))) → PutsFront a b (flat_map frame_bytes (map coded_bytes (coded_group j cs choice')))
+  movie-front p = subst (λ c. PutsFront a b (flat_map frame_bytes (map coded_bytes (coded_group j cs c)))) e p
 
 module _ (a b : SinkState) (format format' : ℕ) (same : format ≡ format') (t t' : Table) (r : Printed) (e : t ≡ t') (printed : Record) (is : printed ≡ record { table = t; said = fits r }) where
   bytes-same : record_bytes format printed ≡ record_bytes format' (record { table = t'; said = fits r })
@@ -63,7 +63,7 @@ module _ (j : Job) (number : ℕ) (cs : List FrameCoefficients) (t : Table) (r :
   failed-fit p = (best.best, r.multiplier, r.layers, chosen, subst (PutsFronts before after) lists-are p)
 
   -- all was written
-  pub wrote-fit : (old new : Counts) → (PassesByBest t → ⊥) → PutsAll before after (fit_lists j cs r lines) → new.sizes ≡ old.sizes ++ map length (map written (coded_group j cs r.choice))
+  pub wrote-fit : (old new : Counts) → (PassesByBest t → ⊥) → PutsAll before after (fit_lists j cs r lines) → new.sizes ≡ old.sizes ++ map length (map coded_bytes (coded_group j cs r.choice))
       → new.records ≡ old.records + 1 → WroteFrames j number cs old new before after
   wrote-fit old new narrow p sizes records = record {
     choice = best.best;
@@ -72,6 +72,6 @@ module _ (j : Job) (number : ℕ) (cs : List FrameCoefficients) (t : Table) (r :
     chosen = chosen;
     narrow = subst (λ x. PassesByBest x → ⊥) table narrow;
     puts = subst (PutsAll before after) lists-are p;
-    sizes = sizes ∙ ap (λ c. old.sizes ++ map length (map written (coded_group j cs c))) best.choice;
+    sizes = sizes ∙ ap (λ c. old.sizes ++ map length (map coded_bytes (coded_group j cs c))) best.choice;
     records = records;
   }

@@ -9,7 +9,7 @@ use Rattle.std.proofs.lemmas.List.Sums.{sum_by-cons}
 use Rattle.std.proofs.lemmas.List.Elements.{All-take, All-contains, All-from_get_or, All-from_recursion, Contains-get_or, recursion_from_All}
 use Rattle.rate_table.specs.declared.entry.Entry.{Entry}
 use Rattle.rate_table.specs.declared.entry.Pair.{Pair}
-use Rattle.rate_table.specs.Table.{Table, IsTable, IsSlice, IsEntry, IsChoice, IsBest, size_of, error_of, indices, least_bytes}
+use Rattle.rate_table.specs.Table.{Table, IsTable, IsSliceTable, IsEntry, IsChoice, IsBest, size_of, error_of, indices, least_bytes}
 use Rattle.rate_table.specs.Records.{IsGoodFit, record_of}
 use Rattle.rate_table.proofs.Entries.{least_choice}
 use Rattle.rate_layers.specs.Layers.{IsKept, AreKept, pairs_in}
@@ -31,13 +31,13 @@ use Rattle.run_encode.proofs.Numbered.{Fulls}
 -- ---- the widths of what is printed
 
 -- the indices of a choice are bytes
-choice-indices : (slices : List (List Entry)) (c : List Entry) → AllByRecursion IsSlice slices → IsChoice slices c → AllByRecursion (λ index. index < 256) (indices c)
+choice-indices : (slices : List (List Entry)) (c : List Entry) → AllByRecursion IsSliceTable slices → IsChoice slices c → AllByRecursion (λ index. index < 256) (indices c)
 choice-indices [] [] ok h = tt
 choice-indices [] (e ∷ c) ok h = absurd h
 choice-indices (s ∷ ss) [] ok h = absurd h
 choice-indices (s ∷ ss) (e ∷ c) ok h = let b : IsEntry e = All-contains IsEntry s e ok.0.limits h.0 in (omega (arith, b.index_to), choice-indices ss c ok.1 h.1)
 
-choice-size : (slices : List (List Entry)) (c : List Entry) → AllByRecursion IsSlice slices → IsChoice slices c → size_of c ≤ length slices * 2 ^ 16
+choice-size : (slices : List (List Entry)) (c : List Entry) → AllByRecursion IsSliceTable slices → IsChoice slices c → size_of c ≤ length slices * 2 ^ 16
 choice-size [] [] ok h = omega arith
 choice-size [] (e ∷ c) ok h = absurd h
 choice-size (s ∷ ss) [] ok h = absurd h
@@ -52,7 +52,7 @@ module _ (t : Table) (ok : IsTable t) where
       let p = get_or layer i (record { size = 0; error = 0 }) in
       let held = ((kept.3 p).0 (Contains-get_or layer i (record { size = 0; error = 0 }) lt)).0 in
       let is = ((kept.1.has p).0 held).0 in
-      let error = choice_error_small (take k t.slices) is.0.0 (All-take IsSlice k t.slices ok.each) (omega (arith, ok.few, length-take k t.slices)) is.0.1 in
+      let error = choice_error_small (take k t.slices) is.0.0 (All-take IsSliceTable k t.slices ok.each) (omega (arith, ok.few, length-take k t.slices)) is.0.1 in
       let e : error_of is.0.0 ≡ p.error = ap (λ (x : Pair). x.error) is.0.2 in
       let fit = is.1 in
       (omega (arith, fit, ok.budget_limit), omega (arith, error, e)))
@@ -65,7 +65,7 @@ module _ (t : Table) (ok : IsTable t) where
   pub none-written : (format : ℕ) → IsWritten format (record { table = t; said = none (least_bytes t) })
   none-written format =
       let c = least_choice t.slices ok.each in
-      let size = choice-size t.slices c.0 (recursion_from_All IsSlice t.slices ok.each) c.1 in
+      let size = choice-size t.slices c.0 (recursion_from_All IsSliceTable t.slices ok.each) c.1 in
       record { table = ok; said = tt; widths = omega (arith, size, c.2, ok.few, ok.fixed_limit) }
 
   module _ (exists : MultiplierExists) (one : MultiplierIsOne) (c : List Entry) (m : ℕ) (layers : List (List Pair)) (best : IsBest t c) (told : TellsLayers t (record_of c m layers)) where
@@ -77,7 +77,7 @@ module _ (t : Table) (ok : IsTable t) where
 
     wide : HasWidths (record_of c m layers)
     wide = record {
-      indices = All-from_recursion (λ index. index < 256) (indices c) (choice-indices t.slices c (recursion_from_All IsSlice t.slices ok.each) best.choice);
+      indices = All-from_recursion (λ index. index < 256) (indices c) (choice-indices t.slices c (recursion_from_All IsSliceTable t.slices ok.each) best.choice);
       size = let h = best.fits in omega (arith, h, ok.budget_limit);
       error = let h = choice_error_small t.slices c ok.each ok.few best.choice in omega (arith, h);
       multiplier = multiplier-small;

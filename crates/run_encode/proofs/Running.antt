@@ -17,7 +17,7 @@ use Rattle.rate_cert.specs.Head.{head_bytes}
 use Rattle.run_encode.specs.Groups.{settings_of, table_in}
 use Rattle.run_encode.specs.Outputs.{Outputs, Lists, joined, PutsAll, PutsFronts}
 use Rattle.run_encode.specs.Encoding.{Group, IsCoded, frames_line, all_frames, record_in, none_record, group_behind, AreFirst, cut_lists, whole_lists, small_lists, records_bytes, is_done, is_settled}
-use Rattle.run_encode.specs.Steps.{Counts, small_body, end_lists, close_lists, AllGroups, EndedBehind, Behind, Finishes, Closes, RanSo}
+use Rattle.run_encode.specs.inner.Steps.{Counts, small_body, end_lists, close_lists, AllGroups, EndedBehind, Behind, Finishes, Closes, RanSo}
 use Rattle.run_encode.proofs.Sinks.{all_then, all_then_none, then_fronts, fronts_more}
 use Rattle.run_encode.proofs.Looping.{same-lists}
 

@@ -11,7 +11,7 @@ use Rattle.run_encode.specs.Groups.{IsJob, ArePictures}
 use Rattle.run_encode.specs.Laws.{EncodingGoesOn}
 use Rattle.run_encode.specs.Outputs.{Outputs, PutsFronts}
 use Rattle.run_encode.specs.Encoding.{Ran}
-use Rattle.run_encode.specs.Steps.{RanSo, left_by}
+use Rattle.run_encode.specs.inner.Steps.{RanSo, left_by}
 use Rattle.run_encode.proofs.Headlines.{goes-front}
 
 -- the pictures that a reader has left are of its form, and not too many

@@ -9,7 +9,7 @@ use Rattle.pic_y4m.specs.Frames.{Pictures}
 use Rattle.pic_raw.specs.declared.any.AnyReader.{AnyReader}
 use Rattle.rate_table.specs.declared.entry.Entry.{Entry}
 use Rattle.rate_table.specs.declared.entry.Pair.{Pair}
-use Rattle.pr_frame.specs.Written.{written}
+use Rattle.pr_frame.specs.Written.{coded_bytes}
 use Rattle.rate_table.specs.Table.{HasNoFit, least_bytes, indices}
 use Rattle.rate_build.specs.Coding.{coded_frame}
 use Rattle.rate_layers.specs.Best.{PassesByPicks}
@@ -19,10 +19,10 @@ use Rattle.run_encode.specs.declared.end.EncodeEnd.{EncodeEnd}
 use Rattle.run_encode.specs.declared.end.EncodeEnd.TheVariants as ends
 use Rattle.rate_build.specs.Groups.{shares}
 use Rattle.run_encode.specs.Groups.{coefficients_in, header_in, frame_slices, coded_group, table_in}
-use Rattle.run_encode.specs.Outputs.{Outputs, nothing, PutsAll, PutsFronts, CountsFaults}
+use Rattle.run_encode.specs.Outputs.{Outputs, nothing, PutsAll, PutsFronts, CountsAllFaults}
 use Rattle.run_encode.specs.Encoding.{Group, part_lines}
-use Rattle.run_encode.specs.Steps.{Counts, left_by, in_front, group_lists, Wrote, HasGroup, EndsIn, none_lists}
-use Rattle.run_encode.specs.Over.{ReadsGroup, StopsGroup, WroteFrames, StopsFrames, frames_lists}
+use Rattle.run_encode.specs.inner.Steps.{Counts, left_by, in_front, group_lists, Wrote, HasGroup, EndsIn, none_lists}
+use Rattle.run_encode.specs.inner.Over.{ReadsGroup, StopsGroup, WroteFrames, StopsFrames, frames_lists}
 
 -- the parts of a choice are the same whatever they are of
 parts-same : {A X Y : Type 0} (f : X → Y) (n : ℕ) (xs : List X) (choice : List A) → map (λ p. p.1) (shares n (map f xs) choice) ≡ map (λ p. p.1) (shares n xs choice)
@@ -119,7 +119,7 @@ pub never : (P : Type 0) (b : Bool) → b ≡ false → OnTrue b P
 never P true e = cc
 never P false e = tt
 
-pub counts-kept : {X : Type 0} (faults : X → ℕ) (out cert text : X) (b : Bool) → b ≡ false → CountsFaults faults out cert text out cert text b
+pub counts-kept : {X : Type 0} (faults : X → ℕ) (out cert text : X) (b : Bool) → b ≡ false → CountsAllFaults faults out cert text out cert text b
 counts-kept faults out cert text true e = cc
 counts-kept faults out cert text false e = record {
   out_later = omega arith;
@@ -140,15 +140,15 @@ parts-number n [] choice = refl
 parts-number n (x ∷ xs) choice = ap suc (parts-number n xs (drop n choice))
 
 pub frames-number : (j : Job) (cs : List FrameCoefficients) (choice : List Entry) (old new : List ℕ)
-    → new ≡ old ++ map length (map written (coded_group j cs (indices choice))) → length new ≡ length old + length cs
+    → new ≡ old ++ map length (map coded_bytes (coded_group j cs (indices choice))) → length new ≡ length old + length cs
 frames-number j cs choice old new e =
     let frames = coded_group j cs (indices choice) in
     omega (
       arith,
       ap length e,
-      length-append old (map length (map written frames)),
-      length-map (map written frames) length,
-      length-map frames written,
+      length-append old (map length (map coded_bytes frames)),
+      length-map (map coded_bytes frames) length,
+      length-map frames coded_bytes,
       length-map (shares (frame_slices j) cs (indices choice)) (λ p. coded_frame p.0 (header_in j) p.1),
       parts-number (frame_slices j) cs (indices choice),
     )

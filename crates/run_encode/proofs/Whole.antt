@@ -8,7 +8,7 @@ use Rattle.std.proofs.lemmas.List.Folds.{flat_map-map}
 use Rattle.std.proofs.lemmas.List.Elements.{All-from_recursion, recursion_from_All}
 use Rattle.pw_planes.specs.declared.picture.Picture.{Picture}
 use Rattle.pic_y4m.specs.Frames.{Pictures}
-use Rattle.pr_frame.specs.Written.{written}
+use Rattle.pr_frame.specs.Written.{coded_bytes}
 use Rattle.qt_movie.specs.Laws.{written_movie}
 use Rattle.qt_movie.specs.MovieBytes.{movie_bytes}
 use Rattle.rate_table.specs.Table.{IsTable, HasNoFit, least_bytes}
@@ -40,7 +40,7 @@ shares-number n (x ∷ xs) choice = ap suc (shares-number n xs (drop n choice))
 -- a group has a frame for each picture
 pub frames-number : (j : Job) (g : Group) → length (frames_of j g) ≡ length g.pictures
 frames-number j g =
-    length-map (coded_group j (map (coefficients_in j) g.pictures) (map (λ e. e.index) g.choice)) written
+    length-map (coded_group j (map (coefficients_in j) g.pictures) (map (λ e. e.index) g.choice)) coded_bytes
     ∙ length-map (shares (frame_slices j) (map (coefficients_in j) g.pictures) (map (λ e. e.index) g.choice)) _
     ∙ shares-number (frame_slices j) (map (coefficients_in j) g.pictures) (map (λ e. e.index) g.choice)
     ∙ length-map g.pictures (coefficients_in j)

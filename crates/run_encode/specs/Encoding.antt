@@ -11,7 +11,7 @@ use Rattle.pic_y4m.specs.declared.fault.PictureFault.TheVariants as faults
 use Rattle.pic_y4m.specs.declared.fault.PictureKind.{PictureKind}
 use Rattle.pic_y4m.specs.declared.fault.PictureKind.TheVariants as kinds
 use Rattle.pic_y4m.specs.Frames.{Pictures}
-use Rattle.pr_frame.specs.Written.{written}
+use Rattle.pr_frame.specs.Written.{coded_bytes}
 use Rattle.qt_movie.specs.MovieBytes.{ftyp_bytes, frame_bytes, movie_bytes}
 use Rattle.rate_table.specs.declared.entry.Entry.{Entry}
 use Rattle.rate_table.specs.declared.entry.Pair.{Pair}
@@ -54,7 +54,7 @@ IsNarrow j g = PassesByBest (table_in j g.pictures) → ⊥
 
 -- the frames of a group as they are written
 abbrev pub frames_of : Job → Group → List (List ℕ)
-frames_of j g = map written (coded_group j (map (coefficients_in j) g.pictures) (indices g.choice))
+frames_of j g = map coded_bytes (coded_group j (map (coefficients_in j) g.pictures) (indices g.choice))
 
 abbrev pub record_in : Job → Group → Record
 record_in j g = record { table = table_in j g.pictures; said = fits (printed_of g) }

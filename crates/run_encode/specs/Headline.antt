@@ -14,7 +14,7 @@ use Rattle.qt_tables.specs.Samples.{samples}
 use Rattle.qt_movie.specs.Movie.{Movie, movie_in}
 use Rattle.qt_movie.specs.MovieBytes.{ftyp_bytes, frame_bytes}
 use Rattle.rate_table.specs.Table.{HasNoFit, least_bytes}
-use Rattle.rate_table.specs.Records.{Printed, IsLeast}
+use Rattle.rate_table.specs.Records.{Printed, TellsLeast}
 use Rattle.rate_build.specs.Groups.{group_at}
 use Rattle.rate_cert.specs.Records.{Record, fits, none, IsGood}
 use Rattle.rate_cert.specs.Files.{record_bytes, proved}
@@ -38,7 +38,7 @@ pub record GroupHolds (j : Job) (pictures : List Picture) (written : List (List 
   -- decoding gives exactly the pictures' coefficients quantised by the chosen slice indices
   pub stands : AllZip FrameStands written (coded_group j (map (coefficients_in j) pictures) printed.choice)
   -- the choice fits, and of all choices of one permitted index per slice that fit, none has less squared error
-  pub least : IsLeast (table_in j pictures) printed
+  pub least : TellsLeast (table_in j pictures) printed
   -- the record passes the check
   pub good : IsGood (settings_of j) (record_of_printed j pictures printed)
 

@@ -3,7 +3,5 @@ pub mod Outputs
 pub mod Encoding
 pub mod Headline
 pub mod Laws
-pub mod Steps
-pub mod Turns
-pub mod Over
 pub mod Completing
+pub mod inner

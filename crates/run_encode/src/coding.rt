@@ -4,17 +4,17 @@ ghost use Rattle.std.specs.Prelude.{◌≡◌, ◌+◌, ◌≤◌, ◌<◌, ◌+
 ghost use Rattle.std.specs.List.{All};
 ghost use Rattle.pw_outside.specs.Ports.{CountsFault};
 ghost use Rattle.pw_outside.specs.Writing.{Puts, PutsFront};
-ghost use Rattle.pr_frame.specs.Written.{written};
+ghost use Rattle.pr_frame.specs.Written.{coded_bytes};
 ghost use Rattle.rate_table.specs.Records.{IsGoodFit};
 ghost use Rattle.rate_table.specs.Table.{least_bytes};
 ghost use Rattle.rate_cert.specs.Files.{record_bytes, IsPrintable, most_records};
 ghost use Rattle.rate_cert.specs.Records.{none};
 ghost use Rattle.rate_layers.specs.Best.{TellsBest, TellsLayers, PassesByBest};
 ghost use Rattle.run_encode.specs.Groups.{IsJob, IsFrameOf, table_of_group, coded_group};
-ghost use Rattle.run_encode.specs.Outputs.{state_of, outputs, PutsAll, PutsFronts, CountsFaults};
-ghost use Rattle.run_encode.specs.Steps.{IsOpen, counts_of};
-ghost use Rattle.run_encode.specs.Turns.{is_done_end, is_write_end};
-ghost use Rattle.run_encode.specs.Over.{FramesEnd, HasFitting, fit_lists};
+ghost use Rattle.run_encode.specs.Outputs.{state_of, outputs, PutsAll, PutsFronts, CountsAllFaults};
+ghost use Rattle.run_encode.specs.inner.Steps.{IsOpen, counts_of};
+ghost use Rattle.run_encode.specs.inner.Turns.{is_done_end, is_write_end};
+ghost use Rattle.run_encode.specs.inner.Over.{FramesEnd, HasFitting, fit_lists};
 
 use crate::end::EncodeEnd;
 use crate::fit::Fit;
@@ -54,11 +54,11 @@ fn write_group<K: ByteSink>(
     requires room { proof.old.progress.count < most_records }
     ensures ok { OnOk result (PutsAll (outputs K.held K.taken out.old cert.old text.old) (outputs K.held K.taken out.new cert.new text.new) (fit_lists job.now frames.now fit lines.now)) }
     ensures err { OnErr result (PutsFronts (outputs K.held K.taken out.old cert.old text.old) (outputs K.held K.taken out.new cert.new text.new) (fit_lists job.now frames.now fit lines.now)) }
-    ensures sizes { OnOk result (movie.new.sizes ≡ movie.old.sizes ++ map length (map written (coded_group job.now frames.now fit.choice))) }
+    ensures sizes { OnOk result (movie.new.sizes ≡ movie.old.sizes ++ map length (map coded_bytes (coded_group job.now frames.now fit.choice))) }
     ensures records { OnOk result (proof.new.progress.count ≡ proof.old.progress.count + 1) }
     ensures open { OnOk result (length frames.now ≡ job.now.group → IsOpen job.now proof.new) }
     ensures head { movie.new.head ≡ movie.old.head }
-    ensures cause { CountsFaults K.faults out.old cert.old text.old out.new cert.new text.new (is_err result) }
+    ensures cause { CountsAllFaults K.faults out.old cert.old text.old out.new cert.new text.new (is_err result) }
 {
     write_frames(job, frames, &table, &fit.choice, movie, out)?;
     let record = fit.into_proof(table);
@@ -97,7 +97,7 @@ fn write_fit<K: ByteSink>(
     ensures open { OnOk result (length frames.now ≡ job.now.group → IsOpen job.now proof.new) }
     ensures head { movie.new.head ≡ movie.old.head }
     ensures kinds { is_done_end result ≡ false }
-    ensures write { CountsFaults K.faults out.old cert.old text.old out.new cert.new text.new (is_write_end result) }
+    ensures write { CountsAllFaults K.faults out.old cert.old text.old out.new cert.new text.new (is_write_end result) }
 {
     let lines = match lines_for(alloc, job, number, frames, &table, &fit.choice) {
         Ok(lines) => lines,
@@ -162,7 +162,7 @@ pub(crate) fn encode_frames<K: ByteSink>(
     ensures open { OnOk result (length frames.now ≡ job.now.group → IsOpen job.now proof.new) }
     ensures head { movie.new.head ≡ movie.old.head }
     ensures kinds { is_done_end result ≡ false }
-    ensures write { CountsFaults K.faults out.old cert.old text.old out.new cert.new text.new (is_write_end result) }
+    ensures write { CountsAllFaults K.faults out.old cert.old text.old out.new cert.new text.new (is_write_end result) }
 {
     let table = match table_for(alloc, job, frames) {
         Ok(table) => table,

@@ -3,9 +3,9 @@
 ghost use Rattle.std.specs.Prelude.{◌≡◌, [], length, OnOk, OnErr, is_err};
 ghost use Rattle.std.specs.Bool.{OnTrue};
 ghost use Rattle.rate_cert.specs.Files.{end_bytes};
-ghost use Rattle.run_encode.specs.Outputs.{outputs, nothing, PutsAll, PutsFronts, CountsFaults};
+ghost use Rattle.run_encode.specs.Outputs.{outputs, nothing, PutsAll, PutsFronts, CountsAllFaults};
 ghost use Rattle.run_encode.specs.Encoding.{is_settled, is_write_fault};
-ghost use Rattle.run_encode.specs.Steps.{counts_of, Finishes, Closes};
+ghost use Rattle.run_encode.specs.inner.Steps.{counts_of, Finishes, Closes};
 
 use crate::end::EncodeEnd;
 use crate::job::Job;
@@ -20,7 +20,7 @@ use std::alloc::Global;
 fn settle<K: ByteSink>(out: &mut K, cert: &mut K, text: &mut K) -> Result<(), Failed>
     ensures same { PutsAll (outputs K.held K.taken out.old cert.old text.old) (outputs K.held K.taken out.new cert.new text.new) nothing }
     ensures settled { OnOk result ((K.settled out.new ≡ K.taken out.new) × (K.settled cert.new ≡ K.taken cert.new) × (K.settled text.new ≡ K.taken text.new)) }
-    ensures cause { CountsFaults K.faults out.old cert.old text.old out.new cert.new text.new (is_err result) }
+    ensures cause { CountsAllFaults K.faults out.old cert.old text.old out.new cert.new text.new (is_err result) }
 {
     out.flush()?;
     cert.flush()?;
@@ -38,7 +38,7 @@ fn end_all<K: ByteSink>(
     ensures ok { OnOk result (PutsAll (outputs K.held K.taken out.old cert.old text.old) (outputs K.held K.taken out.new cert.new text.new) (record { movie = []; proof = end_bytes proof.progress.count; text = line.now })) }
     ensures err { OnErr result (PutsFronts (outputs K.held K.taken out.old cert.old text.old) (outputs K.held K.taken out.new cert.new text.new) (record { movie = []; proof = end_bytes proof.progress.count; text = line.now })) }
     ensures settled { OnOk result ((K.settled out.new ≡ K.taken out.new) × (K.settled cert.new ≡ K.taken cert.new) × (K.settled text.new ≡ K.taken text.new)) }
-    ensures cause { CountsFaults K.faults out.old cert.old text.old out.new cert.new text.new (is_err result) }
+    ensures cause { CountsAllFaults K.faults out.old cert.old text.old out.new cert.new text.new (is_err result) }
 {
     proof.end(cert)?;
     put_all(text, line)?;
@@ -59,7 +59,7 @@ pub(crate) fn finish<K: ByteSink>(
     ensures ends { Finishes job.now (counts_of movie proof) result
         (outputs K.held K.taken out.old cert.old text.old) (outputs K.held K.taken out.new cert.new text.new) }
     ensures settled { OnTrue (is_settled result) ((K.settled out.new ≡ K.taken out.new) × (K.settled cert.new ≡ K.taken cert.new) × (K.settled text.new ≡ K.taken text.new)) }
-    ensures write { CountsFaults K.faults out.old cert.old text.old out.new cert.new text.new (is_write_fault result) }
+    ensures write { CountsAllFaults K.faults out.old cert.old text.old out.new cert.new text.new (is_write_fault result) }
 {
     let line = match last_line(alloc, movie.frames()) {
         Ok(line) => line,
@@ -88,7 +88,7 @@ pub(crate) fn close<K: ByteSink>(
     ensures ends { Closes proof.progress.count frame least result
         (outputs K.held K.taken out.old cert.old text.old) (outputs K.held K.taken out.new cert.new text.new) }
     ensures settled { OnTrue (is_settled result) ((K.settled out.new ≡ K.taken out.new) × (K.settled cert.new ≡ K.taken cert.new) × (K.settled text.new ≡ K.taken text.new)) }
-    ensures write { CountsFaults K.faults out.old cert.old text.old out.new cert.new text.new (is_write_fault result) }
+    ensures write { CountsAllFaults K.faults out.old cert.old text.old out.new cert.new text.new (is_write_fault result) }
 {
     match end_all(proof, &[], out, cert, text) {
         Ok(()) => EncodeEnd::TooSmall { frame, least },

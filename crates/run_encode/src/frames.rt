@@ -4,13 +4,13 @@ ghost use Rattle.std.specs.Prelude.{◌≡◌, ◌+◌, ◌++◌, ◌≤◌, ◌
 ghost use Rattle.std.specs.List.{All, flat_map};
 ghost use Rattle.pw_outside.specs.Ports.{CountsFault};
 ghost use Rattle.pw_outside.specs.Writing.{Puts, PutsFront};
-ghost use Rattle.pr_frame.specs.Written.{written};
+ghost use Rattle.pr_frame.specs.Written.{coded_bytes};
 ghost use Rattle.qt_movie.specs.MovieBytes.{frame_bytes};
 ghost use Rattle.rate_build.specs.Coding.{coded_frame};
-ghost use Rattle.rate_table.specs.Table.{IsSlice};
+ghost use Rattle.rate_table.specs.Table.{IsSliceTable};
 ghost use Rattle.run_encode.specs.Groups.{IsJob, IsFrameOf, header_in, slice_tables, table_of_group, coded_group};
 ghost use Rattle.run_encode.specs.Outputs.{state_of};
-ghost use Rattle.run_encode.specs.Over.{HasFitting, IsFrameChoice};
+ghost use Rattle.run_encode.specs.inner.Over.{HasFitting, IsFrameChoice};
 
 use crate::job::Job;
 use crate::parts::{frame_size, header_of, slices_in};
@@ -36,13 +36,13 @@ fn write_one<K: ByteSink>(
     requires slices { slices.now ≡ slice_tables job.now frame.now }
     requires some_slices { 1 ≤ length slices.now }
     requires few_slices { length slices.now ≤ 131070 }
-    requires each { All IsSlice slices.now }
+    requires each { All IsSliceTable slices.now }
     requires choice { IsFrameChoice job.now slices.now choice.now }
     requires few { length movie.old.sizes < 1000000 }
     requires spare { 1 ≤ movie.old.spare }
-    ensures ok { OnOk result (Puts (state_of K.held K.taken out.old) (state_of K.held K.taken out.new) (frame_bytes (written (coded_frame frame.now (header_in job.now) choice.now)))) }
-    ensures err { OnErr result (PutsFront (state_of K.held K.taken out.old) (state_of K.held K.taken out.new) (frame_bytes (written (coded_frame frame.now (header_in job.now) choice.now)))) }
-    ensures sizes { OnOk result (movie.new.sizes ≡ movie.old.sizes ++ length (written (coded_frame frame.now (header_in job.now) choice.now)) ∷ []) }
+    ensures ok { OnOk result (Puts (state_of K.held K.taken out.old) (state_of K.held K.taken out.new) (frame_bytes (coded_bytes (coded_frame frame.now (header_in job.now) choice.now)))) }
+    ensures err { OnErr result (PutsFront (state_of K.held K.taken out.old) (state_of K.held K.taken out.new) (frame_bytes (coded_bytes (coded_frame frame.now (header_in job.now) choice.now)))) }
+    ensures sizes { OnOk result (movie.new.sizes ≡ movie.old.sizes ++ length (coded_bytes (coded_frame frame.now (header_in job.now) choice.now)) ∷ []) }
     ensures head { movie.new.head ≡ movie.old.head }
     ensures spare_left { movie.old.spare ≤ movie.new.spare + 1 }
     ensures cause { CountsFault (K.faults out.old) (K.faults out.new) (is_err result) }
@@ -67,9 +67,9 @@ pub(crate) fn write_frames<K: ByteSink>(
     requires choice { HasFitting table.now choice.now }
     requires few { length movie.old.sizes + length frames.now ≤ 1000000 }
     requires spare { length frames.now ≤ movie.old.spare }
-    ensures ok { OnOk result (Puts (state_of K.held K.taken out.old) (state_of K.held K.taken out.new) (flat_map frame_bytes (map written (coded_group job.now frames.now choice.now)))) }
-    ensures err { OnErr result (PutsFront (state_of K.held K.taken out.old) (state_of K.held K.taken out.new) (flat_map frame_bytes (map written (coded_group job.now frames.now choice.now)))) }
-    ensures sizes { OnOk result (movie.new.sizes ≡ movie.old.sizes ++ map length (map written (coded_group job.now frames.now choice.now))) }
+    ensures ok { OnOk result (Puts (state_of K.held K.taken out.old) (state_of K.held K.taken out.new) (flat_map frame_bytes (map coded_bytes (coded_group job.now frames.now choice.now)))) }
+    ensures err { OnErr result (PutsFront (state_of K.held K.taken out.old) (state_of K.held K.taken out.new) (flat_map frame_bytes (map coded_bytes (coded_group job.now frames.now choice.now)))) }
+    ensures sizes { OnOk result (movie.new.sizes ≡ movie.old.sizes ++ map length (map coded_bytes (coded_group job.now frames.now choice.now))) }
     ensures head { movie.new.head ≡ movie.old.head }
     ensures cause { CountsFault (K.faults out.old) (K.faults out.new) (is_err result) }
 {

@@ -5,9 +5,9 @@ ghost use Rattle.std.specs.Io.KnownBytes.{IsAtEnd};
 ghost use Rattle.pw_outside.specs.Ports.{CountsFault};
 ghost use Rattle.pic_raw.specs.Any.{IsReader, head_of, frames_of};
 ghost use Rattle.run_encode.specs.Groups.{IsJob};
-ghost use Rattle.run_encode.specs.Outputs.{outputs, CountsFaults, Extends};
-ghost use Rattle.run_encode.specs.Turns.{is_done_end, is_read_end, is_write_end};
-ghost use Rattle.run_encode.specs.Steps.{IsOpen, left_by, counts_of, GroupsEnd};
+ghost use Rattle.run_encode.specs.Outputs.{outputs, CountsAllFaults, ExtendsAll};
+ghost use Rattle.run_encode.specs.inner.Turns.{is_done_end, is_read_end, is_write_end};
+ghost use Rattle.run_encode.specs.inner.Steps.{IsOpen, left_by, counts_of, GroupsEnd};
 
 use crate::end::EncodeEnd;
 use crate::job::Job;
@@ -39,12 +39,12 @@ pub(crate) fn encode_groups<S: ByteSource, K: ByteSink>(
     requires proof { proof.old.progress.count ≡ 0 }
     ensures ended { IsSome (S.left pictures.old) → GroupsEnd job.now (left_by reader.old (S.left pictures.old)) (counts_of movie.new proof.new) result
         (outputs K.held K.taken out.old cert.old text.old) (outputs K.held K.taken out.new cert.new text.new) }
-    ensures extends { Extends (outputs K.held K.taken out.old cert.old text.old) (outputs K.held K.taken out.new cert.new text.new) }
+    ensures extends { ExtendsAll (outputs K.held K.taken out.old cert.old text.old) (outputs K.held K.taken out.new cert.new text.new) }
     ensures head { movie.new.head ≡ movie.old.head }
     ensures end { OnOk result (IsAtEnd (S.left pictures.new)) }
     ensures kinds { is_done_end result ≡ false }
     ensures read { CountsFault (S.faults pictures.old) (S.faults pictures.new) (is_read_end result) }
-    ensures write { CountsFaults K.faults out.old cert.old text.old out.new cert.new text.new (is_write_end result) }
+    ensures write { CountsAllFaults K.faults out.old cert.old text.old out.new cert.new text.new (is_write_end result) }
 {
     'groups: loop {
         match take_turn(alloc, job, reader, pictures, movie, proof, out, cert, text) {

@@ -7,7 +7,7 @@ ghost use Rattle.rate_table.specs.Table.{IsChoice, indices};
 ghost use Rattle.rate_build.specs.Groups.{shares};
 ghost use Rattle.run_encode.specs.Groups.{IsJob, IsFrameOf, frame_slices, table_of_group};
 ghost use Rattle.run_encode.specs.Encoding.{frame_line, frames_line, part_lines};
-ghost use Rattle.run_encode.specs.Over.{HasFitting};
+ghost use Rattle.run_encode.specs.inner.Over.{HasFitting};
 
 use crate::job::Job;
 use crate::parts::{part_sums, slices_in};

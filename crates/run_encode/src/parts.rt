@@ -2,12 +2,12 @@
 
 ghost use Rattle.std.specs.Prelude.{◌≡◌, ◌+◌, ◌<◌, ◌≤◌, ◌^◌, List, length};
 ghost use Rattle.std.specs.List.{All};
-ghost use Rattle.pr_frame.specs.Written.{written};
+ghost use Rattle.pr_frame.specs.Written.{coded_bytes};
 ghost use Rattle.rate_build.specs.Coding.{coded_frame};
 ghost use Rattle.rate_table.specs.declared.entry.Entry.{Entry};
-ghost use Rattle.rate_table.specs.Table.{IsSlice, IsChoice, indices, size_of, error_of};
+ghost use Rattle.rate_table.specs.Table.{IsSliceTable, IsChoice, indices, size_of, error_of};
 ghost use Rattle.run_encode.specs.Groups.{IsJob, IsFrameOf, frame_slices, header_in, slice_tables};
-ghost use Rattle.run_encode.specs.Over.{IsFrameChoice};
+ghost use Rattle.run_encode.specs.inner.Over.{IsFrameChoice};
 
 use crate::job::Job;
 use pr_frame::written_has_length;
@@ -42,7 +42,7 @@ pub(crate) fn slices_in(job: &Job) -> usize
 pub(crate) fn part_sums(slices: &[SliceTable], choice: &[u8]) -> (u64, u64)
     requires some { 1 ≤ length slices.now }
     requires few { length slices.now ≤ 131070 }
-    requires each { All IsSlice slices.now }
+    requires each { All IsSliceTable slices.now }
     requires choice { (entries : List Entry) × IsChoice slices.now entries × (indices entries ≡ choice.now) }
     ensures size { (entries : List Entry) → IsChoice slices.now entries → indices entries ≡ choice.now → result.0 ≡ size_of entries }
     ensures error { (entries : List Entry) → IsChoice slices.now entries → indices entries ≡ choice.now → result.1 ≡ error_of entries }
@@ -67,9 +67,9 @@ pub(crate) fn frame_size(
     requires slices { slices.now ≡ slice_tables job.now frame.now }
     requires some { 1 ≤ length slices.now }
     requires few { length slices.now ≤ 131070 }
-    requires each { All IsSlice slices.now }
+    requires each { All IsSliceTable slices.now }
     requires choice { IsFrameChoice job.now slices.now choice.now }
-    ensures size { result ≡ length (written (coded_frame frame.now (header_in job.now) choice.now)) }
+    ensures size { result ≡ length (coded_bytes (coded_frame frame.now (header_in job.now) choice.now)) }
     ensures small { result ≤ 4294967286 }
 {
     frame_has_table_size();

@@ -5,9 +5,9 @@ ghost use Rattle.pw_outside.specs.Ports.{CountsFault};
 ghost use Rattle.pic_raw.specs.Any.{IsReader, head_of};
 ghost use Rattle.run_encode.specs.Groups.{IsJob};
 ghost use Rattle.run_encode.specs.Encoding.{is_done, is_write_fault, end_of_fault};
-ghost use Rattle.run_encode.specs.Steps.{left_by};
-ghost use Rattle.run_encode.specs.Turns.{is_read_end};
-ghost use Rattle.run_encode.specs.Over.{ReadsGroup, StopsGroup};
+ghost use Rattle.run_encode.specs.inner.Steps.{left_by};
+ghost use Rattle.run_encode.specs.inner.Turns.{is_read_end};
+ghost use Rattle.run_encode.specs.inner.Over.{ReadsGroup, StopsGroup};
 
 use crate::end::EncodeEnd;
 use crate::job::Job;

@@ -9,10 +9,10 @@ ghost use Rattle.pic_raw.specs.Any.{IsReader, head_of, frames_of, pictures_of};
 ghost use Rattle.pic_y4m.specs.HeadLine.{IsHead};
 ghost use Rattle.run_encode.specs.declared.end.EncodeEnd.TheVariants as ends;
 ghost use Rattle.run_encode.specs.Groups.{AreWords, IsJob, IsJobOf, has_layout};
-ghost use Rattle.run_encode.specs.Outputs.{outputs, CountsFaults, Extends};
+ghost use Rattle.run_encode.specs.Outputs.{outputs, CountsAllFaults, ExtendsAll};
 ghost use Rattle.run_encode.specs.Encoding.{is_done, is_read_fault, is_write_fault, is_settled, StopsFirst, RanOn};
 ghost use Rattle.run_encode.specs.Headline.{HasHeadline};
-ghost use Rattle.run_encode.specs.Steps.{left_by, RanSo};
+ghost use Rattle.run_encode.specs.inner.Steps.{left_by, RanSo};
 
 use crate::end::EncodeEnd;
 use crate::finish::{close, finish};
@@ -98,11 +98,11 @@ fn run_job<S: ByteSource, K: ByteSink>(
     requires fresh { frames_of reader.old ≡ 0 }
     ensures ran { IsSome (S.left pictures.old) → RanSo job.now (left_by reader.old (S.left pictures.old)) result
         (outputs K.held K.taken out.old cert.old text.old) (outputs K.held K.taken out.new cert.new text.new) }
-    ensures extends { Extends (outputs K.held K.taken out.old cert.old text.old) (outputs K.held K.taken out.new cert.new text.new) }
+    ensures extends { ExtendsAll (outputs K.held K.taken out.old cert.old text.old) (outputs K.held K.taken out.new cert.new text.new) }
     ensures settled { OnTrue (is_settled result) ((K.settled out.new ≡ K.taken out.new) × (K.settled cert.new ≡ K.taken cert.new) × (K.settled text.new ≡ K.taken text.new)) }
     ensures end { OnTrue (is_done result) (IsAtEnd (S.left pictures.new)) }
     ensures read { CountsFault (S.faults pictures.old) (S.faults pictures.new) (is_read_fault result) }
-    ensures write { CountsFaults K.faults out.old cert.old text.old out.new cert.new text.new (is_write_fault result) }
+    ensures write { CountsAllFaults K.faults out.old cert.old text.old out.new cert.new text.new (is_write_fault result) }
 {
     let mut movie = match MovieWriter::begin(alloc, out, &job.head) {
         Ok(movie) => movie,
@@ -147,14 +147,14 @@ pub fn encode_run<S: ByteSource, K: ByteSink>(
     ensures headline { Told (S.left pictures.old) (λ bytes. HasHeadline words.now (pictures_of words.now.raw bytes) result
         (outputs K.held K.taken out.old cert.old text.old) (outputs K.held K.taken out.new cert.new text.new)) }
     // Whatever the answer, and whether the pictures' bytes are told or not, each sink extends what it held.
-    ensures extends { Extends (outputs K.held K.taken out.old cert.old text.old) (outputs K.held K.taken out.new cert.new text.new) }
+    ensures extends { ExtendsAll (outputs K.held K.taken out.old cert.old text.old) (outputs K.held K.taken out.new cert.new text.new) }
     // After Done, and after TooSmall, all that was written is settled.
     ensures settled { OnTrue (is_settled result) ((K.settled out.new ≡ K.taken out.new) × (K.settled cert.new ≡ K.taken cert.new) × (K.settled text.new ≡ K.taken text.new)) }
     // Done says that the input was read to its end.
     ensures end { OnTrue (is_done result) (IsAtEnd (S.left pictures.new)) }
     // A fault of a port is answered only where that port's count rose, and every other answer leaves the counts as they were.
     ensures read { CountsFault (S.faults pictures.old) (S.faults pictures.new) (is_read_fault result) }
-    ensures write { CountsFaults K.faults out.old cert.old text.old out.new cert.new text.new (is_write_fault result) }
+    ensures write { CountsAllFaults K.faults out.old cert.old text.old out.new cert.new text.new (is_write_fault result) }
 {
     encoded_has_headline();
     cut_has_headline();

@@ -6,9 +6,9 @@ ghost use Rattle.std.specs.Io.KnownBytes.{IsAtEnd};
 ghost use Rattle.pw_outside.specs.Ports.{CountsFault};
 ghost use Rattle.pic_raw.specs.Any.{IsReader, head_of, frames_of};
 ghost use Rattle.run_encode.specs.Groups.{IsJob};
-ghost use Rattle.run_encode.specs.Outputs.{outputs, CountsFaults, Extends};
-ghost use Rattle.run_encode.specs.Turns.{is_done_turn, is_read_turn, is_write_turn, is_last, goes_on, Moves};
-ghost use Rattle.run_encode.specs.Steps.{IsOpen, left_by, counts_of, TurnIs};
+ghost use Rattle.run_encode.specs.Outputs.{outputs, CountsAllFaults, ExtendsAll};
+ghost use Rattle.run_encode.specs.inner.Turns.{is_done_turn, is_read_turn, is_write_turn, is_last, goes_on, Moves};
+ghost use Rattle.run_encode.specs.inner.Steps.{IsOpen, left_by, counts_of, TurnIs};
 
 use crate::coding::encode_frames;
 use crate::end::EncodeEnd;
@@ -55,7 +55,7 @@ pub(crate) fn take_turn<S: ByteSource, K: ByteSink>(
     ensures turn { IsSome (S.left pictures.old) → TurnIs job.now (frames_of reader.old) (frames_of reader.new) (left_by reader.old (S.left pictures.old)) (left_by reader.new (S.left pictures.new))
         (counts_of movie.old proof.old) (counts_of movie.new proof.new) result
         (outputs K.held K.taken out.old cert.old text.old) (outputs K.held K.taken out.new cert.new text.new) }
-    ensures extends { Extends (outputs K.held K.taken out.old cert.old text.old) (outputs K.held K.taken out.new cert.new text.new) }
+    ensures extends { ExtendsAll (outputs K.held K.taken out.old cert.old text.old) (outputs K.held K.taken out.new cert.new text.new) }
     ensures moves { OnTrue (goes_on result) (Moves reader.old reader.new (counts_of movie.new proof.new) (length movie.new.sizes)) }
     ensures reader { IsReader reader.new }
     ensures open { OnTrue (goes_on result) (IsOpen job.now proof.new) }
@@ -63,7 +63,7 @@ pub(crate) fn take_turn<S: ByteSource, K: ByteSink>(
     ensures end { OnTrue (is_last result) (IsAtEnd (S.left pictures.new)) }
     ensures kinds { is_done_turn result ≡ false }
     ensures read { CountsFault (S.faults pictures.old) (S.faults pictures.new) (is_read_turn result) }
-    ensures write { CountsFaults K.faults out.old cert.old text.old out.new cert.new text.new (is_write_turn result) }
+    ensures write { CountsAllFaults K.faults out.old cert.old text.old out.new cert.new text.new (is_write_turn result) }
 {
     let number = movie.frames();
     let frames = match read_group(alloc, job, reader, pictures) {

@@ -4,7 +4,7 @@ use Rattle.std.specs.Prelude.{IsSome}
 use Rattle.std.specs.Io.KnownBytes.{Consumes, Keeps, ReadConsumes, IsAtEnd}
 use Rattle.pw_outside.specs.Reading.{AreBytes, bytes_of}
 use Rattle.pw_outside.proofs.Steps.{bytes-take}
-use Rattle.run_look.specs.Through.{GaveBytes}
+use Rattle.run_look.specs.inner.Through.{GaveBytes}
 
 bytes-append : (a b : List ℕ) → AreBytes a → AreBytes b → AreBytes (a ++ b)
 bytes-append [] b ha hb i = hb i

@@ -7,7 +7,7 @@ use Rattle.std.proofs.lemmas.Nat.{mul-le}
 use Rattle.std.proofs.lemmas.List.{length-drop}
 use Rattle.std.proofs.lemmas.List.Elements.{All-take, All-drop, All-cons, All-nil, All-head, All-tail, All-contains}
 use Rattle.rate_table.specs.declared.entry.Entry.{Entry}
-use Rattle.rate_table.specs.Table.{Table, IsTable, IsSlice, IsChoice, HasSums, indices, size_of}
+use Rattle.rate_table.specs.Table.{Table, IsTable, IsSliceTable, IsChoice, HasSums, indices, size_of}
 use Rattle.rate_table.specs.Laws.{IndicesTellChoice}
 use Rattle.rate_cert.specs.declared.settings.Settings.{Settings}
 use Rattle.rate_cert.specs.Settings.{frame_slices}
@@ -81,7 +81,7 @@ part_indices s r (fits p) k part is g v h =
 -- ---- the size of a part
 
 -- a choice with these indices has this size
-pub size_one : IndicesTellChoice → (slices : List (List Entry)) → 1 ≤ length slices → length slices ≤ 131070 → All IsSlice slices → (chosen : List ℕ) (size error : ℕ) → HasSums slices chosen size error
+pub size_one : IndicesTellChoice → (slices : List (List Entry)) → 1 ≤ length slices → length slices ≤ 131070 → All IsSliceTable slices → (chosen : List ℕ) (size error : ℕ) → HasSums slices chosen size error
     → (share n : ℕ) → HasSize slices chosen share n → n ≡ share + size
 size_one tell slices some few each chosen size error (choice, is, has, s, e) share n (entries, is', has', sized) =
     let t : Table = record { budget = 1; fixed = 0; slices = slices } in
@@ -95,7 +95,7 @@ size_has slices chosen size error share n (choice, is, has, s, e) sized = (choic
 eq_test : (a b : ℕ) → IsTrue (nat_eq a b) ↔ (a ≡ b)
 eq_test a b = ((λ t. eqb-true a b (search rules)), (λ e. let t : nat_eq a b ≡ true = eq-eqb a b e in search rules))
 
-pub size_test : IndicesTellChoice → (slices : List (List Entry)) → 1 ≤ length slices → length slices ≤ 131070 → All IsSlice slices → (chosen : List ℕ) (size error : ℕ) → HasSums slices chosen size error
+pub size_test : IndicesTellChoice → (slices : List (List Entry)) → 1 ≤ length slices → length slices ≤ 131070 → All IsSliceTable slices → (chosen : List ℕ) (size error : ℕ) → HasSums slices chosen size error
     → (a b share n : ℕ) → a ≡ n → b ≡ share → IsTrue (nat_eq a (b + size)) ↔ HasSize slices chosen share n
 size_test tell slices some few each chosen size error has a b share n ea eb =
     let test = eq_test a (b + size) in (

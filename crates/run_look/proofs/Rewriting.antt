@@ -3,7 +3,7 @@ use Rattle.std.proofs.Common.{◌≡◌, ℕ, suc, ◌+◌, ◌-◌, ◌≤◌, 
 use Rattle.std.specs.List.{flat_map}
 use Rattle.std.proofs.lemmas.List.Concat.{flat_map-append, flat_map-cons}
 use Rattle.pw_outside.specs.Reading.{Fault, Rest}
-use Rattle.pw_outside.specs.Writing.{SinkState, Puts, PutsFront}
+use Rattle.pw_outside.specs.Writing.{SinkState, Puts, PutsFront, Extends}
 use Rattle.pw_outside.proofs.Puts.{puts_then, puts_front, front_more, then_front}
 use Rattle.rate_table.specs.declared.fault.ProofKind.{ProofKind}
 use Rattle.rate_cert.specs.declared.settings.Settings.{Settings}
@@ -12,7 +12,6 @@ use Rattle.rate_cert.specs.Files.{Progress, no_records, after, further, next_at,
 use Rattle.rate_cert.specs.Laws.{AreWritten}
 use Rattle.run_look.specs.declared.end.LookEnd.{LookEnd}
 use Rattle.run_look.specs.declared.end.LookEnd.TheVariants as ends
-use Rattle.run_look.specs.Listing.{Extends}
 use Rattle.run_look.specs.Reproofing.{keeps_order, Rewritten, with_first, rewritten_by, rewritten_at, StopsThere, NextInOrder, EndsAs, PutsUntil}
 use Rattle.run_look.proofs.Alone.{marks_left, suc_left}
 use Rattle.run_look.proofs.Texts.{front_extends}

@@ -1,12 +1,11 @@
 -- A text that extends what was held.
 use Rattle.std.proofs.Common.{ℕ, ◌≤◌, List, [], ◌++◌, take}
 use Rattle.pw_outside.specs.Ports.{last}
-use Rattle.pw_outside.specs.Writing.{SinkState, Puts, PutsFront}
+use Rattle.pw_outside.specs.Writing.{SinkState, Puts, PutsFront, Extends}
 use Rattle.pw_outside.proofs.Puts.{puts_none, puts_then}
 use Rattle.run_look.specs.declared.end.LookEnd.{LookEnd}
 use Rattle.run_look.specs.declared.end.LookEnd.TheVariants as ends
 use Rattle.run_look.specs.Ends.{PrintsLine}
-use Rattle.run_look.specs.Listing.{Extends}
 
 -- the first bytes of some lines were appended
 pub front_extends : (before after : SinkState) (lines : List ℕ) → PutsFront before after lines → Extends before after

@@ -3,4 +3,4 @@ pub mod Listing
 pub mod Checking
 pub mod Reproofing
 pub mod Agreeing
-pub mod Through
+pub mod inner

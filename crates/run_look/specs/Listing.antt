@@ -61,7 +61,3 @@ PrintsList (Ok m) before after = Puts before after (list_text m)
 abbrev pub PrintsListFront : Result Movie (Fault MovieKind) → SinkState → SinkState → Type 0
 PrintsListFront (Err f) before after = Puts before after []
 PrintsListFront (Ok m) before after = PutsFront before after (list_text m)
-
--- What was held has grown at its end, and as many bytes were taken.
-abbrev pub Extends : SinkState → SinkState → Type 0
-Extends before after = (bytes : List ℕ) × Puts before after bytes

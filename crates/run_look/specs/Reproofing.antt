@@ -136,10 +136,3 @@ IsProofIn format bytes = (p : Proved) × (proved bytes ≡ Ok p) × (p.format �
 -- A proof in format 2 comes out byte for byte: writing it again ends in Done, and gives its own bytes.
 abbrev pub StaysAsItIs : Type 0
 StaysAsItIs = (bytes : List ℕ) → AreBytes bytes → IsProofIn 2 bytes → ((reproofed bytes).end ≡ ends.Done) × ((reproofed bytes).cert ≡ bytes)
-
--- The counts of faults of two sinks never fall. One of them has risen where writing failed, and else both are as they were.
-pub record CountsFaults (before now before' now' : ℕ) (failed : Bool) : Type 0 where
-  pub later : before ≤ now
-  pub later' : before' ≤ now'
-  pub rose : OnTrue failed (Rose before now ⊎ Rose before' now')
-  pub kept : OnFalse failed ((now ≡ before) × (now' ≡ before'))

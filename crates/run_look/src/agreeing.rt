@@ -3,9 +3,9 @@
 ghost use Rattle.std.specs.Prelude.{◌≡◌, ◌+◌, ◌*◌, ◌<◌, ◌≤◌, ◌^◌, ℕ, Some, IsSome, IsTrue, ◌↔◌, OnOk, OnErr, IfOk, IfErr, IfSome, IfNone, false, length, slice_get, take, drop};
 ghost use Rattle.std.specs.Bool.{OnTrue};
 ghost use Rattle.std.specs.Io.KnownBytes.{IsAtEnd};
-ghost use Rattle.pw_outside.specs.Ports.{CountsFault, Rose};
+ghost use Rattle.pw_outside.specs.Ports.{CountsFault, Rose, CountsFaults};
 ghost use Rattle.pw_outside.specs.Reading.{Told, bytes_of, rest_of};
-ghost use Rattle.pw_outside.specs.Writing.{sink_state};
+ghost use Rattle.pw_outside.specs.Writing.{sink_state, Extends};
 ghost use Rattle.pic_raw.specs.Any.{IsReader, head_of, left_of, place_of};
 ghost use Rattle.pic_raw.specs.Raw.{IsPicture};
 ghost use Rattle.pic_y4m.specs.Frames.{Pictures};
@@ -21,9 +21,7 @@ ghost use Rattle.rate_cert.specs.Records.{IsGood};
 ghost use Rattle.rate_cert.specs.Files.{no_records, most_records};
 ghost use Rattle.run_look.specs.declared.end.LookEnd.TheVariants as ends;
 ghost use Rattle.run_look.specs.Ends.{is_done, is_read_fault, is_write_fault, is_stopped_by_source, AnswersEnd, IsReadersEnd};
-ghost use Rattle.run_look.specs.Listing.{Extends};
 ghost use Rattle.run_look.specs.Checking.{frames_in, PrintsCheck, CompletesCheck, Counts};
-ghost use Rattle.run_look.specs.Reproofing.{CountsFaults};
 ghost use Rattle.run_look.specs.Agreeing.{Given, given, left_by, pictures_head, form_of, ReadsSample, HasFrame, TakesSample, TakesSamples, SamplesEnd, TakesPicture, TakesPictures, TakesGroup, TakesEnd, GivesPicture, AreLeft, AreFrames, RecordsWith, ChecksOn, Checks, CountsReads};
 
 use crate::checking::{frames_of, next_good, print_records};

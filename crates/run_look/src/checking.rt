@@ -6,13 +6,12 @@ ghost use Rattle.std.specs.Fmt.{decimal};
 ghost use Rattle.std.specs.Io.KnownBytes.{IsAtEnd};
 ghost use Rattle.pw_outside.specs.Ports.{CountsFault, Rose};
 ghost use Rattle.pw_outside.specs.Reading.{Told, rest_of};
-ghost use Rattle.pw_outside.specs.Writing.{sink_state};
+ghost use Rattle.pw_outside.specs.Writing.{sink_state, Extends};
 ghost use Rattle.rate_cert.specs.Settings.{IsSettings};
 ghost use Rattle.rate_cert.specs.Records.{IsGood};
 ghost use Rattle.rate_cert.specs.Files.{no_records, most_records, after, MayStand};
 ghost use Rattle.run_look.specs.declared.end.LookEnd.TheVariants as ends;
 ghost use Rattle.run_look.specs.Ends.{is_done, is_read_fault, is_write_fault, is_stopped_by_source, AnswersEnd, AnswersUnlessOutside, IsReadersEnd, PrintsLine};
-ghost use Rattle.run_look.specs.Listing.{Extends};
 ghost use Rattle.run_look.specs.Checking.{frames_in, RecordsAlone, ChecksAlone, PrintsCheck, Counts, NextGood, CompletesCheck};
 
 use crate::end::LookEnd;

@@ -8,7 +8,7 @@ ghost use Rattle.pr_geom.specs.Layout.{slices_of};
 ghost use Rattle.pr_quant.specs.Errors.{multipliers};
 ghost use Rattle.pr_quant.specs.Matrices.{IsWeight};
 ghost use Rattle.pr_quant.specs.Quantised.{quantised, greatest_coefficient};
-ghost use Rattle.rate_build.specs.Measures.{quantised_block, quantised_part, IsMultiplier, ArePart};
+ghost use Rattle.rate_build.specs.Measures.{quantised_block, quantised_part, IsFrameMultiplier, ArePart};
 ghost use Rattle.rate_build.specs.Coding.{coded_slice, coded_slices, coded_picture, coded_frame, weights_in, IsIndex};
 ghost use Rattle.rate_build.specs.Tables.{HasParts};
 ghost use Rattle.run_look.specs.Agreeing.{SameForm, SameCodes, SameWeights};
@@ -35,7 +35,7 @@ fn multipliers_for(weights: &[u8; 64], index: u8) -> [u32; 64]
 /// A coefficient quantised.
 fn quantise_value(value: i16, multiplier: u32) -> i16
     requires value { nat_abs value ≤ greatest_coefficient }
-    requires multiplier { IsMultiplier multiplier }
+    requires multiplier { IsFrameMultiplier multiplier }
     ensures value { result ≡ quantised value multiplier }
     ensures within { nat_abs result ≤ 8191 }
 {
@@ -47,7 +47,7 @@ fn quantise_value(value: i16, multiplier: u32) -> i16
 /// A block quantised, each coefficient by the multiplier at its place.
 fn quantise_block(block: &Block, multipliers: &[u32; 64]) -> Block
     requires block { AreWithin greatest_coefficient block.now }
-    requires multipliers { (p : ℕ) → p < 64 → IsMultiplier (get_or multipliers.now p 0) }
+    requires multipliers { (p : ℕ) → p < 64 → IsFrameMultiplier (get_or multipliers.now p 0) }
     ensures { result ≡ quantised_block multipliers.now block.now }
 {
     let mut values = [0; 64];
@@ -105,7 +105,7 @@ pub(crate) fn same_header(some: &FrameHeader, other: &FrameHeader) -> bool
 /// Whether this is a block quantised, each coefficient by the multiplier at its place.
 fn is_quantised(coded: &Block, block: &Block, multipliers: &[u32; 64]) -> bool
     requires block { AreWithin greatest_coefficient block.now }
-    requires multipliers { (p : ℕ) → p < 64 → IsMultiplier (get_or multipliers.now p 0) }
+    requires multipliers { (p : ℕ) → p < 64 → IsFrameMultiplier (get_or multipliers.now p 0) }
     ensures { IsTrue result ↔ (coded.now ≡ quantised_block multipliers.now block.now) }
 {
     same_block(coded, &quantise_block(block, multipliers))

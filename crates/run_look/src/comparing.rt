@@ -5,7 +5,7 @@ ghost use Rattle.std.specs.List.{All};
 ghost use Rattle.pic_raw.specs.Raw.{IsPicture};
 ghost use Rattle.pr_frame.specs.declared.coded.CodedPicture.{CodedPicture};
 ghost use Rattle.pr_geom.specs.Layout.{IsLayoutOf};
-ghost use Rattle.rate_table.specs.Table.{IsSlice};
+ghost use Rattle.rate_table.specs.Table.{IsSliceTable};
 ghost use Rattle.rate_build.specs.Tables.{fixed_bytes, entries_of};
 ghost use Rattle.rate_cert.specs.Settings.{IsSettings, frame_slices};
 ghost use Rattle.rate_cert.specs.Records.{IsGood};
@@ -72,7 +72,7 @@ fn slices_for<'a>(settings: &Settings, group: &'a FrameProof, k: u32) -> &'a [Sl
     requires there { k < frames_in settings.now group.now }
     ensures value { result.now ≡ slices_in settings.now group.now k }
     ensures number { length result.now ≡ frame_slices settings.now }
-    ensures each { All IsSlice result.now }
+    ensures each { All IsSliceTable result.now }
 {
     let count = settings.frame_slices() as usize;
     cut_slices(group.table.slices.as_slice(), count * k as usize, count)
@@ -133,7 +133,7 @@ fn indices_for(alloc: Global, frame: &CodedFrame) -> Result<Vec<u8>, AllocError>
 fn has_size(slices: &[SliceTable], part: &[u8], share: u32, size: u32) -> bool
     requires some { 1 ≤ length slices.now }
     requires few { length slices.now ≤ 131070 }
-    requires each { All IsSlice slices.now }
+    requires each { All IsSliceTable slices.now }
     ensures { IsTrue result ↔ HasSize slices.now part.now share size }
 {
     indices_tell_choice();

@@ -4,12 +4,12 @@ ghost use Rattle.std.specs.Prelude.{◌≡◌, OnOk, OnErr, false};
 ghost use Rattle.std.specs.Bool.{OnTrue};
 ghost use Rattle.pw_outside.specs.Ports.{CountsFault};
 ghost use Rattle.pw_outside.specs.Reading.{Told};
-ghost use Rattle.pw_outside.specs.Writing.{sink_state, Puts, PutsFront};
+ghost use Rattle.pw_outside.specs.Writing.{sink_state, Puts, PutsFront, Extends};
 ghost use Rattle.qt_movie.specs.Movie.{movie_in};
 ghost use Rattle.run_look.specs.declared.end.LookEnd.TheVariants as ends;
 ghost use Rattle.qt_tables.specs.Samples.{samples};
 ghost use Rattle.run_look.specs.Ends.{is_done, is_read_fault, is_write_fault, AnswersUnlessOutside};
-ghost use Rattle.run_look.specs.Listing.{sample_lines, list_text, is_stopped_by_sink, list_end, PrintsList, PrintsListFront, Extends};
+ghost use Rattle.run_look.specs.Listing.{sample_lines, list_text, is_stopped_by_sink, list_end, PrintsList, PrintsListFront};
 
 use crate::end::LookEnd;
 use crate::lines::{put_samples, put_track};

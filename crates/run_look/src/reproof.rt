@@ -4,16 +4,15 @@ ghost use Rattle.std.specs.Prelude.{◌≡◌, ◌↔◌, ◌≤◌, suc, IsSome
 ghost use Rattle.std.specs.Bool.{OnTrue};
 ghost use Rattle.std.specs.Io.KnownBytes.{IsAtEnd};
 ghost use Rattle.std.specs.List.{flat_map};
-ghost use Rattle.pw_outside.specs.Ports.{CountsFault, GoesOn};
+ghost use Rattle.pw_outside.specs.Ports.{CountsFault, GoesOn, CountsFaults};
 ghost use Rattle.pw_outside.specs.Reading.{Told, rest_of};
-ghost use Rattle.pw_outside.specs.Writing.{sink_state, Puts, PutsFront};
+ghost use Rattle.pw_outside.specs.Writing.{sink_state, Puts, PutsFront, Extends};
 ghost use Rattle.rate_cert.specs.Settings.{IsSettings};
 ghost use Rattle.rate_cert.specs.Files.{no_records, most_records, after, IsWritten, MayStand, record_bytes, end_bytes};
 ghost use Rattle.rate_cert.specs.Laws.{AreWritten};
 ghost use Rattle.run_look.specs.declared.end.LookEnd.TheVariants as ends;
 ghost use Rattle.run_look.specs.Ends.{is_done, is_read_fault, is_write_fault, is_stopped_by_source, AnswersUnlessOutside, IsReadersEnd};
-ghost use Rattle.run_look.specs.Listing.{Extends};
-ghost use Rattle.run_look.specs.Reproofing.{keeps_order, KeepsOrder, NextInOrder, rewritten_at, reproofed, reproof_text, end_of, EndsAs, CountsFaults, PutsUntil, SaysTheSame, IsProofIn};
+ghost use Rattle.run_look.specs.Reproofing.{keeps_order, KeepsOrder, NextInOrder, rewritten_at, reproofed, reproof_text, end_of, EndsAs, PutsUntil, SaysTheSame, IsProofIn};
 
 use crate::checking::print_records;
 use crate::end::LookEnd;

@@ -26,7 +26,7 @@ impl<S: ByteSource> ByteSource for Through<'_, S> {
     ghost use Rattle.std.specs.Io.{ReadsAtMost};
     ghost use Rattle.std.specs.Io.KnownBytes.{ReadConsumes};
     ghost use Rattle.pw_outside.specs.Ports.{CountsFault, Lowers, count_of, GoesOn};
-    ghost use Rattle.run_look.specs.Through.{GaveBytes, GaveBytes-same};
+    ghost use Rattle.run_look.specs.inner.Through.{GaveBytes, GaveBytes-same};
 
     ghost left = { λ s. S.left s.source.now };
 

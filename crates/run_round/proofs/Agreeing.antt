@@ -8,7 +8,7 @@ use Rattle.pw_planes.specs.declared.picture.Picture.{Picture}
 use Rattle.pic_y4m.specs.Frames.{Pictures}
 use Rattle.pr_frame.specs.declared.coded.CodedFrame.{CodedFrame}
 use Rattle.pr_frame.specs.Laws.{WrittenStands, WrittenHasLength}
-use Rattle.pr_frame.specs.Written.{written as bytes-of}
+use Rattle.pr_frame.specs.Written.{coded_bytes as bytes-of}
 use Rattle.qt_tables.specs.declared.runs.Sample.{Sample}
 use Rattle.rate_table.specs.Table.{indices}
 use Rattle.rate_build.specs.Laws.{FrameHasTableSize}

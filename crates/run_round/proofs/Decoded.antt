@@ -9,7 +9,7 @@ use Rattle.pr_head.specs.declared.frame.FrameHeader.{FrameHeader}
 use Rattle.pr_frame.specs.declared.coded.CodedFrame.{CodedFrame}
 use Rattle.pr_frame.specs.declared.showing.Shown.{Shown}
 use Rattle.pr_frame.specs.Shown.{shown_of}
-use Rattle.pr_frame.specs.Written.{written}
+use Rattle.pr_frame.specs.Written.{coded_bytes}
 use Rattle.pic_y4m.specs.Frames.{Pictures}
 use Rattle.pic_raw.specs.Any.{PicturesHaveForm}
 use Rattle.pr_quant.specs.Matrices.{NamedWeightsAreInRange}
@@ -153,5 +153,5 @@ is-decoded named have-form b movie-read samples-read frames-read w bytes head ps
     subst (λ h. ShowsAll (movie_bytes j.head (all_frames j e.coded)) h (frames_in j e.coded)) input.job.head all in
     let count = frames-number j is ps are b e.coded e.first ends.0 ends.1 in (
       subst (λ (l : Lists). ShowsAll l.movie head (frames_in j e.coded)) (sym ends.2) all',
-      sym (length-map (frames_in j e.coded) written) ∙ sym (ap length (frames-are j e.coded)) ∙ count,
+      sym (length-map (frames_in j e.coded) coded_bytes) ∙ sym (ap length (frames-are j e.coded)) ∙ count,
     )

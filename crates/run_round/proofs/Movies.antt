@@ -3,7 +3,7 @@ use Rattle.std.proofs.Common.{◌≡◌, refl, ℕ, ◌+◌, ◌≤◌, Ok, List
 use Rattle.std.specs.List.{AllByRecursion, AllZip, All}
 use Rattle.pr_frame.specs.declared.coded.CodedFrame.{CodedFrame}
 use Rattle.pr_frame.specs.Stands.{FrameStands}
-use Rattle.pr_frame.specs.Written.{written}
+use Rattle.pr_frame.specs.Written.{coded_bytes}
 use Rattle.qt_atoms.specs.Atoms.{bytes_in}
 use Rattle.qt_tables.specs.declared.runs.Sample.{Sample}
 use Rattle.qt_tables.specs.declared.writer.Extent.{Extent}
@@ -25,7 +25,7 @@ use Rattle.run_round.proofs.Beside.{zip-both}
 -- a sample of a file is a coded frame as it is written
 pub record IsWrittenSample (file : List ℕ) (s : Sample) (f : CodedFrame) : Type 0 where
   pub of : IsSampleOf file s f
-  pub size : s.size ≡ length (written f)
+  pub size : s.size ≡ length (coded_bytes f)
 
 inside : (file frame : List ℕ) (s : Sample) → bytes_in s.size file s.at ≡ frame → s.size ≡ length frame → 28 ≤ length frame → s.at + s.size ≤ length file
 inside file frame s bytes size some =
@@ -33,18 +33,18 @@ inside file frame s bytes size some =
     let left = length-drop s.at file in
     omega (arith, ap length bytes, size, some, taken, left)
 
-pub all-written : (file : List ℕ) (ss : List Sample) (fs : List CodedFrame) → map (λ s. bytes_in s.size file s.at) ss ≡ map written fs
-    → map (λ (s : Sample). s.size) ss ≡ map length (map written fs) → AllZip FrameStands (map written fs) fs → AllZip (IsWrittenSample file) ss fs
+pub all-written : (file : List ℕ) (ss : List Sample) (fs : List CodedFrame) → map (λ s. bytes_in s.size file s.at) ss ≡ map coded_bytes fs
+    → map (λ (s : Sample). s.size) ss ≡ map length (map coded_bytes fs) → AllZip FrameStands (map coded_bytes fs) fs → AllZip (IsWrittenSample file) ss fs
 all-written file [] [] bytes sizes stand = tt
 all-written file [] (f ∷ fs) bytes sizes stand = absurd cc
 all-written file (s ∷ ss) [] bytes sizes stand = absurd cc
 all-written file (s ∷ ss) (f ∷ fs) bytes sizes stand =
-    let here : bytes_in s.size file s.at ≡ written f = cc in
-    let others : map (λ s. bytes_in s.size file s.at) ss ≡ map written fs = cc in
-    let size : s.size ≡ length (written f) = cc in
-    let others-sizes : map (λ (s : Sample). s.size) ss ≡ map length (map written fs) = cc in
+    let here : bytes_in s.size file s.at ≡ coded_bytes f = cc in
+    let others : map (λ s. bytes_in s.size file s.at) ss ≡ map coded_bytes fs = cc in
+    let size : s.size ≡ length (coded_bytes f) = cc in
+    let others-sizes : map (λ (s : Sample). s.size) ss ≡ map length (map coded_bytes fs) = cc in
     let stands : FrameStands (bytes_in s.size file s.at) f = subst (λ b. FrameStands b f) (sym here) stand.0 in (
-      record { of = record { inside = inside file (written f) s here size stand.0.header.fields; stands = stands }; size = size },
+      record { of = record { inside = inside file (coded_bytes f) s here size stand.0.header.fields; stands = stands }; size = size },
       all-written file ss fs others others-sizes stand.1,
     )
 
@@ -64,10 +64,10 @@ module _ (j : Job) where
   map-both f [] ys = refl
   map-both f (x ∷ xs) ys = ap (λ l. f x ∷ l) (map-both f xs ys)
 
-  pub frames-are : (gs : List Group) → all_frames j gs ≡ map written (frames_in j gs)
+  pub frames-are : (gs : List Group) → all_frames j gs ≡ map coded_bytes (frames_in j gs)
   frames-are [] = refl
   frames-are (g ∷ gs) =
-      ap (λ l. frames_of j g ++ l) (frames-are gs) ∙ sym (map-both written (coded_group j (map (coefficients_in j) g.pictures) (indices g.choice)) (frames_in j gs))
+      ap (λ l. frames_of j g ++ l) (frames-are gs) ∙ sym (map-both coded_bytes (coded_group j (map (coefficients_in j) g.pictures) (indices g.choice)) (frames_in j gs))
 
   all-stand : (gs : List Group) → AllByRecursion (GroupIs j) gs → AllZip FrameStands (all_frames j gs) (frames_in j gs)
   all-stand [] h = tt

@@ -16,7 +16,7 @@ use Rattle.pr_frame.specs.declared.coded.CodedSlice.{CodedSlice}
 use Rattle.pr_frame.specs.declared.coded.CodedPicture.{CodedPicture}
 use Rattle.pr_frame.specs.declared.coded.CodedFrame.{CodedFrame}
 use Rattle.pr_frame.specs.Laws.{WrittenStands, WrittenHasLength}
-use Rattle.pr_frame.specs.Written.{written}
+use Rattle.pr_frame.specs.Written.{coded_bytes}
 use Rattle.rate_table.specs.declared.entry.Entry.{Entry}
 use Rattle.rate_table.specs.Table.{IsTable, IsChoice, size_of, indices}
 use Rattle.rate_build.specs.declared.slices.SliceCoefficients.{SliceCoefficients}
@@ -178,8 +178,8 @@ module _ (frame-size : FrameHasTableSize) (frame-length : WrittenHasLength) (fra
     abbrev pub frame : CodedFrame
     frame = coded_frame c (header_in j) part
 
-    size-is : length (written frame) ≡ fixed_bytes j.layout + size_of entries
-    size-is = ap (λ l. length (written (coded_frame c (header_in j) l))) (sym indices-here) ∙ one-size j frame-size frame-length frame-stands c entries of ready chosen-here
+    size-is : length (coded_bytes frame) ≡ fixed_bytes j.layout + size_of entries
+    size-is = ap (λ l. length (coded_bytes (coded_frame c (header_in j) l))) (sym indices-here) ∙ one-size j frame-size frame-length frame-stands c entries of ready chosen-here
 
     part-number : length part ≡ length c.slices
     part-number =
@@ -193,7 +193,7 @@ module _ (frame-size : FrameHasTableSize) (frame-length : WrittenHasLength) (fra
         all-parts c c.layout.interlace slices long ∙ coded-indices (weights_in (header_in j)) c.slices part part-number
 
     -- its sample is as the record says
-    pub as-said : (size : ℕ) → size ≡ length (written frame) → IsAsSaid s r k size frame
+    pub as-said : (size : ℕ) → size ≡ length (coded_bytes frame) → IsAsSaid s r k size frame
     as-said size e = record {
       header = refl;
       slicing = All-map (λ (x : CodedPicture). x.log2 ≡ s.log2) (coded_picture c (coded_slices (weights_in (header_in j)) c.slices part)) (range_with_len 0 (pictures_of c.layout.interlace)) (λ i d lt. refl);

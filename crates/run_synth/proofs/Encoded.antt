@@ -23,12 +23,12 @@ use Rattle.run_look.specs.Ends.{AnswersEnd, is_read_fault as is_stopped}
 use Rattle.std.specs.Prelude.{IsSome}
 use Rattle.run_synth.specs.declared.ports.Input.{Input}
 use Rattle.run_synth.specs.declared.ports.Input.TheVariants as inputs
-use Rattle.run_synth.specs.Ports.{left_in}
+use Rattle.run_synth.specs.inner.Ports.{left_in}
 use Rattle.run_round.specs.Laws.{EncodedIsChecked, EncodedIsDecoded, frames_in, all_shown}
 use Rattle.pr_frame.specs.Shown.{shown_of}
 use Rattle.run_synth.specs.declared.words.SynthWords.{SynthWords}
-use Rattle.run_synth.specs.Synthesis.{AreSynthWords, encode_words, head_in, pictures_in, synthetic_in}
-use Rattle.run_synth.specs.Parts.{bytes_in, AreEncoded, IsDecodable}
+use Rattle.run_synth.specs.Synthesis.{AreSynthWords, encode_words, head_in, pictures_read, synthetic_in}
+use Rattle.run_synth.specs.inner.Parts.{bytes_in, AreEncoded, IsDecodable}
 use Rattle.run_synth.proofs.Laid.{laid, synthetic-ok, input, groups-are}
 
 -- what a sink holds that held nothing
@@ -63,7 +63,7 @@ never-stopped end cause e = elim (subst (λ x. OnTrue (is_stopped x) (Rose 0 0 �
 pub record EncodedSo (w : SynthWords) (end : EncodeEnd) (before after : Outputs) : Type 0 where
   pub job : Job
   pub of : IsJobOf (encode_words w) (head_in w) job
-  pub ran : Ran job (pictures_in w) end before after
+  pub ran : Ran job (pictures_read w) end before after
 
 module _ (w : SynthWords) (ok : AreSynthWords w) (meant : SyntheticIsMeant) where
   pub run-so : (words : EncodeWords) (bytes : List ℕ) (end : EncodeEnd) (before after : Outputs) → words ≡ encode_words w → bytes ≡ bytes_in w
@@ -75,7 +75,7 @@ module _ (w : SynthWords) (ok : AreSynthWords w) (meant : SyntheticIsMeant) wher
       let first = subst (λ x. RanOn x (pictures_of x.raw bytes) end before after) e r in
       let second = subst (λ y. RanOn (encode_words w) (pictures_of (encode_words w).raw y) end before after) f first in
       let third = subst (λ z. RanOn (encode_words w) z end before after) (meant (synthetic_in w) (synthetic-ok w ok)) second in
-      let (j, of, ran) = subst (λ t. OnTrue t ((j : Job) × IsJobOf (encode_words w) (head_in w) j × Ran j (pictures_in w) end before after)) (laid w ok) third.1 in
+      let (j, of, ran) = subst (λ t. OnTrue t ((j : Job) × IsJobOf (encode_words w) (head_in w) j × Ran j (pictures_read w) end before after)) (laid w ok) third.1 in
       record { job = j; of = of; ran = ran }
 
   pub never-bad : (words : EncodeWords) (bytes : List ℕ) (end : EncodeEnd) (before after : Outputs) (kind : PictureKind) (place : ℕ) → words ≡ encode_words w → bytes ≡ bytes_in w
@@ -92,7 +92,7 @@ module _ (w : SynthWords) (ok : AreSynthWords w) (meant : SyntheticIsMeant) wher
   module _ (movie proof text : List ℕ) (r : AreEncoded w movie proof text) where
     pub decodable : EncodedIsDecoded → IsDecodable movie (length (synthetic_pictures (synthetic_in w)))
     decodable law =
-        let d = law (encode_words w) (bytes_in w) (head_in w) (pictures_in w) r.job r.lists (input w r.job ok meant r.of) r.encodes in
+        let d = law (encode_words w) (bytes_in w) (head_in w) (pictures_read w) r.job r.lists (input w r.job ok meant r.of) r.encodes in
         let frames = frames_in r.job r.encodes.coded in
         subst (λ m. IsDecodable m (length (synthetic_pictures (synthetic_in w)))) (sym r.movie_is) (record {
           movie = d.0.movie;
@@ -104,13 +104,13 @@ module _ (w : SynthWords) (ok : AreSynthWords w) (meant : SyntheticIsMeant) wher
 
     pub checkable : EncodedIsChecked → Checks proof movie (bytes_in w) looks.Done (length (synthetic_pictures (synthetic_in w)))
     checkable law =
-        let c = law (encode_words w) (bytes_in w) (head_in w) (pictures_in w) r.job r.lists (input w r.job ok meant r.of) r.encodes r.narrow in
+        let c = law (encode_words w) (bytes_in w) (head_in w) (pictures_read w) r.job r.lists (input w r.job ok meant r.of) r.encodes r.narrow in
         let movie' = sym r.movie_is in
         let proof' = sym r.proof_is in
         let count = groups-are w r.job r.of in
         subst (λ n. Checks proof movie (bytes_in w) looks.Done n) count
-        (subst (λ m. Checks proof m (bytes_in w) looks.Done (group_count r.job.group (pictures_in w))) movie'
-        (subst (λ p. Checks p r.lists.movie (bytes_in w) looks.Done (group_count r.job.group (pictures_in w))) proof' c.0))
+        (subst (λ m. Checks proof m (bytes_in w) looks.Done (group_count r.job.group (pictures_read w))) movie'
+        (subst (λ p. Checks p r.lists.movie (bytes_in w) looks.Done (group_count r.job.group (pictures_read w))) proof' c.0))
 
     -- the same of bytes that are these
     pub checkable-as : EncodedIsChecked → (proof' movie' shown : List ℕ) → proof' ≡ proof → movie' ≡ movie → shown ≡ bytes_in w

@@ -14,8 +14,8 @@ use Rattle.run_encode.specs.declared.job.Job.{Job}
 use Rattle.run_encode.specs.Groups.{AreWords, IsJobOf, has_layout, group_count}
 use Rattle.run_round.specs.Laws.{IsInput}
 use Rattle.run_synth.specs.declared.words.SynthWords.{SynthWords}
-use Rattle.run_synth.specs.Synthesis.{AreSynthWords, encode_words, head_in, pictures_in, synthetic_in}
-use Rattle.run_synth.specs.Parts.{bytes_in}
+use Rattle.run_synth.specs.Synthesis.{AreSynthWords, encode_words, head_in, pictures_read, synthetic_in}
+use Rattle.run_synth.specs.inner.Parts.{bytes_in}
 
 -- a row of slices of eight macroblocks
 four : (a b c d : List ℕ) → length (a ++ (b ++ (c ++ d))) ≡ length a + (length b + (length c + length d))
@@ -89,7 +89,7 @@ words-ok w ok = record {
   format = (omega arith, omega arith);
 }
 
-pub input : (w : SynthWords) (j : Job) → AreSynthWords w → SyntheticIsMeant → IsJobOf (encode_words w) (head_in w) j → IsInput (encode_words w) (bytes_in w) (head_in w) (pictures_in w) j
+pub input : (w : SynthWords) (j : Job) → AreSynthWords w → SyntheticIsMeant → IsJobOf (encode_words w) (head_in w) j → IsInput (encode_words w) (bytes_in w) (head_in w) (pictures_read w) j
 input w j ok meant of = record {
   words = words-ok w ok;
   meant = meant (synthetic_in w) (synthetic-ok w ok);
@@ -98,5 +98,5 @@ input w j ok meant of = record {
 }
 
 -- each picture is a group
-pub groups-are : (w : SynthWords) (j : Job) → IsJobOf (encode_words w) (head_in w) j → group_count j.group (pictures_in w) ≡ length (synthetic_pictures (synthetic_in w))
-groups-are w j of = ap (λ n. group_count n (pictures_in w)) of.group ∙ omega arith
+pub groups-are : (w : SynthWords) (j : Job) → IsJobOf (encode_words w) (head_in w) j → group_count j.group (pictures_read w) ≡ length (synthetic_pictures (synthetic_in w))
+groups-are w j of = ap (λ n. group_count n (pictures_read w)) of.group ∙ omega arith

@@ -4,7 +4,7 @@ use Rattle.std.specs.Bool.{OnTrue, OnFalse}
 use Rattle.std.proofs.lemmas.List.{append-nil}
 use Rattle.pw_outside.proofs.Puts.{puts_then, puts_front}
 use Rattle.pw_outside.specs.Ports.{CountsFault, Rose}
-use Rattle.pw_outside.specs.Writing.{SinkState, Puts, PutsFront}
+use Rattle.pw_outside.specs.Writing.{SinkState, Puts, PutsFront, Extends}
 use Rattle.run_encode.specs.declared.job.Job.{Job}
 use Rattle.run_encode.specs.Completing.{EachFits}
 use Rattle.run_encode.specs.Groups.{IsJobOf}
@@ -12,7 +12,7 @@ use Rattle.std.specs.Prelude.{length}
 use Rattle.run_synth.specs.declared.words.SynthWords.{SynthWords}
 use Rattle.run_synth.specs.declared.end.SynthEnd.{SynthEnd}
 use Rattle.run_synth.specs.declared.end.SynthEnd.TheVariants as ends
-use Rattle.run_synth.specs.Synthesis.{encode_words, head_in, pictures_in, PrintsOn, RanOn, CompletesSynth, Extends, is_settled, is_write_fault}
+use Rattle.run_synth.specs.Synthesis.{encode_words, head_in, pictures_read, PrintsOn, RanOn, CompletesSynth, is_settled, is_write_fault}
 
 -- a whole text that was then flushed, whatever the flush answered
 pub flushed-front : {a b c : SinkState} {xs : List ℕ} (failed : Bool) → Puts a b xs → Puts b c [] → OnTrue failed (PutsFront a c xs)
@@ -56,7 +56,7 @@ settled-so ends.NoMemory P p = tt
 settled-so ends.WriteFault P p = tt
 
 -- where each frame fits, and its layers aren't too many, what was printed is the whole
-fits-done : (w : SynthWords) (end : SynthEnd) (text : List ℕ) → PrintsOn w end text → ((j : Job) → IsJobOf (encode_words w) (head_in w) j → EachFits j (pictures_in w)) → end ≡ ends.Done
+fits-done : (w : SynthWords) (end : SynthEnd) (text : List ℕ) → PrintsOn w end text → ((j : Job) → IsJobOf (encode_words w) (head_in w) j → EachFits j (pictures_read w)) → end ≡ ends.Done
 fits-done w ends.Done text p each = refl
 fits-done w (ends.TooSmall frame least) text (j, of, p) each = let e = p.encodes.ends in absurd ((each j of (length p.encodes.coded) e.0).0 e.1)
 fits-done w (ends.LayersFull frame) text (j, of, p) each = absurd ((each j of (length p.coded) p.there).1 p.passes)

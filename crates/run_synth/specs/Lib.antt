@@ -1,3 +1,2 @@
 pub mod Synthesis
-pub mod Ports
-pub mod Parts
+pub mod inner

@@ -45,8 +45,8 @@ abbrev pub head_in : SynthWords → Head
 head_in w = synthetic_head (synthetic_in w)
 
 -- the pictures that are encoded
-abbrev pub pictures_in : SynthWords → Pictures
-pictures_in w = record { pictures = synthetic_pictures (synthetic_in w); fault = None }
+abbrev pub pictures_read : SynthWords → Pictures
+pictures_read w = record { pictures = synthetic_pictures (synthetic_in w); fault = None }
 
 -- How they are encoded: as raw planes, with the indices 1 to 64, slices of eight macroblocks, the flat matrix, each frame with a
 -- budget of its own, and a proof in format 2.
@@ -99,7 +99,7 @@ Prints j ps ends.WriteFault text = ⊥
 
 -- The same of the words, which fix what holds of all frames.
 abbrev pub PrintsOn : SynthWords → SynthEnd → List ℕ → Type 0
-PrintsOn w end text = (j : Job) × IsJobOf (encode_words w) (head_in w) j × Prints j (pictures_in w) end text
+PrintsOn w end text = (j : Job) × IsJobOf (encode_words w) (head_in w) j × Prints j (pictures_read w) end text
 
 -- ---- what a run did
 
@@ -111,12 +111,8 @@ RanOn w end before after = (text : List ℕ) × PrintsOn w end text × Puts befo
 
 -- Where each frame has a fitting choice and layers that aren't too many, a run is done, unless memory runs out.
 abbrev pub CompletesSynth : SynthWords → SynthEnd → Type 0
-CompletesSynth w end = ((j : Job) → IsJobOf (encode_words w) (head_in w) j → EachFits j (pictures_in w))
+CompletesSynth w end = ((j : Job) → IsJobOf (encode_words w) (head_in w) j → EachFits j (pictures_read w))
     → (end ≡ ends.Done) ⊎ (end ≡ ends.NoMemory)
-
--- something was appended, or nothing
-abbrev pub Extends : SinkState → SinkState → Type 0
-Extends before after = (bytes : List ℕ) × Puts before after bytes
 
 -- ---- by the answer
 

@@ -3,7 +3,7 @@
 ghost use Rattle.std.specs.Prelude.{◌≡◌, IfOk};
 ghost use Rattle.run_encode.specs.Groups.{AreWords};
 ghost use Rattle.run_synth.specs.Synthesis.{AreSynthWords, encode_words, synthetic_in};
-ghost use Rattle.run_synth.specs.Parts.{AreCoded};
+ghost use Rattle.run_synth.specs.inner.Parts.{AreCoded};
 
 use crate::end::SynthEnd;
 use crate::memory::Memory;

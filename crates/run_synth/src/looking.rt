@@ -6,8 +6,8 @@ ghost use Rattle.run_decode.specs.Running.{pictures_line};
 ghost use Rattle.run_look.specs.declared.end.LookEnd.TheVariants as ends;
 ghost use Rattle.run_look.specs.Checking.{check_text};
 ghost use Rattle.run_look.specs.Agreeing.{Checks};
-ghost use Rattle.run_synth.specs.Ports.{held_in, left_in};
-ghost use Rattle.run_synth.specs.Parts.{IsDecodable};
+ghost use Rattle.run_synth.specs.inner.Ports.{held_in, left_in};
+ghost use Rattle.run_synth.specs.inner.Parts.{IsDecodable};
 
 use crate::memory::Memory;
 use crate::ports::{Input, Output};

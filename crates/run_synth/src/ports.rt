@@ -28,7 +28,7 @@ impl ByteSource for Input {
     ghost use Rattle.std.specs.Io.KnownBytes.{ReadConsumes};
     ghost use Rattle.std.proofs.Common.{arith};
     ghost use Rattle.pw_outside.specs.Ports.{last, count_of, Lowers, GoesOn, CountsFault};
-    ghost use Rattle.run_synth.specs.Ports.{left_in, most_in, most_bound};
+    ghost use Rattle.run_synth.specs.inner.Ports.{left_in, most_in, most_bound};
 
     ghost left = { left_in };
 
@@ -62,7 +62,7 @@ impl ByteSink for Output {
     ghost use Rattle.std.specs.Prelude.{◌≡◌, ◌≤◌, ◌<◌, is_err, IfOk, OnOk, length};
     ghost use Rattle.std.specs.Io.KnownBytes.{WriteAppends, Keeps};
     ghost use Rattle.pw_outside.specs.Ports.{last, count_of, taken_more, CountsFault};
-    ghost use Rattle.run_synth.specs.Ports.{held_in, taken_in, faults_in, counts_hold, faults_last};
+    ghost use Rattle.run_synth.specs.inner.Ports.{held_in, taken_in, faults_in, counts_hold, faults_last};
 
     ghost held = { held_in };
 
@@ -105,7 +105,7 @@ impl ByteSink for Output {
 
 impl Output {
     ghost use Rattle.std.specs.Prelude.{◌≡◌, IfSome};
-    ghost use Rattle.run_synth.specs.Ports.{held_in};
+    ghost use Rattle.run_synth.specs.inner.Ports.{held_in};
 
     /// What it holds; nothing where it only counts.
     pub fn bytes(&self) -> &[u8]

@@ -3,9 +3,9 @@
 ghost use Rattle.std.specs.Prelude.{◌≡◌, false, IfOk, []};
 ghost use Rattle.std.specs.Bool.{OnTrue, OnFalse};
 ghost use Rattle.pw_outside.specs.Ports.{CountsFault, Rose};
-ghost use Rattle.pw_outside.specs.Writing.{sink_state, Puts, PutsFront};
-ghost use Rattle.run_synth.specs.Synthesis.{AreSynthWords, PrintsOn, RanOn, CompletesSynth, Extends, is_settled, is_write_fault};
-ghost use Rattle.run_synth.specs.Parts.{AreEncoded};
+ghost use Rattle.pw_outside.specs.Writing.{sink_state, Puts, PutsFront, Extends};
+ghost use Rattle.run_synth.specs.Synthesis.{AreSynthWords, PrintsOn, RanOn, CompletesSynth, is_settled, is_write_fault};
+ghost use Rattle.run_synth.specs.inner.Parts.{AreEncoded};
 
 use crate::encoding::{Coded, Files, Said, encode, synthetic_in};
 use crate::end::SynthEnd;

@@ -6,7 +6,7 @@
 
 ghost use Rattle.std.specs.Prelude.{◌≡◌, ◌<◌, ◌≤◌, ◌^◌, IfSome};
 ghost use Rattle.std.specs.List.{All};
-ghost use Rattle.pw_planes.specs.Samples.{bits_of};
+ghost use Rattle.pw_planes.specs.Samples.{sample_bits};
 ghost use Rattle.rate_build.specs.Coefficients.{HasDepth};
 ghost use Rattle.rate_build.specs.Laws.{HasAlpha};
 
@@ -32,7 +32,7 @@ fn small(word: &str) -> Option<u8> {
 }
 
 fn limit(depth: Depth) -> u32
-    ensures { result ≡ 2 ^ bits_of depth }
+    ensures { result ≡ 2 ^ sample_bits depth }
 {
     match depth {
         Depth::D8 => 256,

@@ -2,12 +2,11 @@
 use Rattle.std.proofs.Common.{◌≡◌, ◌≤◌, ℕ, List, arith, sym, Bool, true, false, Ok, Err, refl, ap, subst, inl, inr, ⊎_elim}
 use Rattle.std.specs.Prelude.{◌⊎◌}
 use Rattle.std.specs.Bool.{OnTrue, OnFalse}
-use Rattle.pw_outside.specs.Ports.{CountsFault}
+use Rattle.pw_outside.specs.Ports.{CountsFault, CountsFaults}
 use Rattle.workshop.specs.declared.words.Task.{Task}
 use Rattle.workshop.specs.declared.words.Task.TheVariants as task
 use Rattle.workshop.specs.declared.status.Status.{Status}
 use Rattle.workshop.specs.declared.status.Status.TheVariants as s
-use Rattle.run_look.specs.Reproofing.{CountsFaults}
 use Rattle.run_look.specs.Agreeing as look
 use Rattle.pcm_track.specs.Ends as sound
 use Rattle.workshop.specs.Status.{AnswersUnlessOutside, is_read_fault, is_write_fault}
@@ -81,7 +80,7 @@ check_reads said before now failed run h =
 
 -- the counts of the movie and of the WAV among those of all that can be read
 pub add_reads : (said : Said) (before now : Faults) (failed : Bool) → IsRun task.AddSound said → now.proof ≡ before.proof
-    → sound.CountsFaults before.movie now.movie before.pictures now.pictures failed → CountsReads (uses_in said) before now failed
+    → CountsFaults before.movie now.movie before.pictures now.pictures failed → CountsReads (uses_in said) before now failed
 add_reads said before now failed run proof h =
     subst (λ u. CountsReads u before now failed) (sym (run_uses task.AddSound said run)) (record {
       pictures = h.later';

@@ -1,8 +1,10 @@
 -- What `addsound` and `sound` answer and write. Our own definitions.
 use Rattle.std.specs.Prelude.{◌≡◌, ℕ, List, ◌⊎◌}
+use Rattle.pw_outside.specs.Reading.{AreBytes}
 use Rattle.pw_outside.specs.Writing.{SinkState, Puts, PutsFront}
 use Rattle.pcm_track.specs.declared.end.SoundEnd.{SoundEnd}
 use Rattle.pcm_track.specs.declared.end.SoundEnd.TheVariants as ends
+use Rattle.sound_round.specs.Laws.{IsReadAgain}
 use Rattle.workshop.specs.Status.{AnswersUnlessOutside}
 use Rattle.workshop.specs.declared.status.Status.{Status}
 use Rattle.workshop.specs.declared.status.Status.TheVariants as s
@@ -21,9 +23,14 @@ abbrev pub AnswersSound : SoundEnd → Status → Type 0
 AnswersSound known status = AnswersUnlessOutside status (status_of known)
 
 -- After Done the sink took all of these bytes, and after every other answer a front of them.
-abbrev pub WritesUntil : Status → List ℕ → SinkState → SinkState → Type 0
-WritesUntil s.Done bytes before after = Puts before after bytes
-WritesUntil _ bytes before after = PutsFront before after bytes
+abbrev pub WritesUntilDone : Status → List ℕ → SinkState → SinkState → Type 0
+WritesUntilDone s.Done bytes before after = Puts before after bytes
+WritesUntilDone _ bytes before after = PutsFront before after bytes
+
+-- After Done the sink took bytes of which the pictures of the file and the sound of the WAV are read again.
+abbrev pub ReadsAgain : Status → (file wav : List ℕ) → SinkState → SinkState → Type 0
+ReadsAgain s.Done file wav before after = AreBytes file → (out : List ℕ) × Puts before after out × IsReadAgain file wav out
+ReadsAgain _ file wav before after = Unit {0}
 
 -- The answer is how the run ends by its input, unless memory runs out.
 abbrev pub CompletesSound : SoundEnd → Status → Type 0

@@ -7,7 +7,7 @@ use Rattle.run_encode.specs.Completing.{EachFits}
 use Rattle.run_synth.specs.declared.words.SynthWords.{SynthWords}
 use Rattle.run_synth.specs.declared.end.SynthEnd.{SynthEnd}
 use Rattle.run_synth.specs.declared.end.SynthEnd.TheVariants as ends
-use Rattle.run_synth.specs.Synthesis.{RanOn, encode_words, head_in, pictures_in}
+use Rattle.run_synth.specs.Synthesis.{RanOn, encode_words, head_in, pictures_read}
 use Rattle.workshop.specs.declared.status.Status.{Status}
 use Rattle.workshop.specs.declared.status.Status.TheVariants as s
 
@@ -25,4 +25,4 @@ AnswersSynth w status before after = (end : SynthEnd) × (status ≡ status_of e
 
 -- Where each picture has a fitting choice and layers that aren't too many, the run is done, unless memory runs out.
 abbrev pub CompletesSynth : SynthWords → Status → Type 0
-CompletesSynth w status = ((j : Job) → IsJobOf (encode_words w) (head_in w) j → EachFits j (pictures_in w)) → (status ≡ s.Done) ⊎ (status ≡ s.NoMemory)
+CompletesSynth w status = ((j : Job) → IsJobOf (encode_words w) (head_in w) j → EachFits j (pictures_read w)) → (status ≡ s.Done) ⊎ (status ≡ s.NoMemory)

@@ -2,11 +2,11 @@
 
 ghost use Rattle.std.specs.Prelude.{◌≡◌, None, [], map};
 ghost use Rattle.std.specs.Bool.{OnTrue};
-ghost use Rattle.pw_outside.specs.Ports.{CountsFault, Rose};
+ghost use Rattle.pw_outside.specs.Ports.{CountsFault, Rose, CountsFaults};
 ghost use Rattle.pw_outside.specs.Reading.{Told};
-ghost use Rattle.pw_outside.specs.Writing.{sink_state};
+ghost use Rattle.pw_outside.specs.Writing.{sink_state, Extends};
 ghost use Rattle.qt_movie.specs.Movie.{movie_in};
-ghost use Rattle.run_decode.specs.Running.{world, CountsFaults, Extends};
+ghost use Rattle.run_decode.specs.Running.{world};
 ghost use Rattle.run_decode.specs.Laws.{WritesFrontsOf};
 ghost use Rattle.workshop.specs.Status.{is_done, is_read_fault, is_settled, is_write_fault, usage_of};
 ghost use Rattle.workshop.specs.Decoding.{status_of, AnswersDecode, CompletesDecode};
@@ -63,7 +63,7 @@ pub(crate) fn decode<M: ByteStore, K: ByteSink>(
     ensures settled { OnTrue (is_settled result) ((K.settled out.new ≡ K.taken out.new) × (K.settled text.new ≡ K.taken text.new)) }
     ensures bytes { M.bytes movie.new ≡ M.bytes movie.old }
     ensures read { CountsFault (M.faults movie.old) (M.faults movie.new) (is_read_fault result) }
-    ensures write { CountsFaults K.faults out.old text.old out.new text.new (is_write_fault result) }
+    ensures write { CountsFaults (K.faults out.old) (K.faults out.new) (K.faults text.old) (K.faults text.new) (is_write_fault result) }
 {
     status_of(decode_run(alloc, movie, words.depth, words.form, out, text, monitors))
 }

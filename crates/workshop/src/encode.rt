@@ -7,7 +7,7 @@ ghost use Rattle.pw_outside.specs.Ports.{CountsFault, Rose};
 ghost use Rattle.pw_outside.specs.Reading.{Told};
 ghost use Rattle.pic_raw.specs.Any.{pictures_of};
 ghost use Rattle.run_encode.specs.Groups.{AreWords};
-ghost use Rattle.run_encode.specs.Outputs.{outputs, CountsFaults, Extends};
+ghost use Rattle.run_encode.specs.Outputs.{outputs, CountsAllFaults, ExtendsAll};
 ghost use Rattle.workshop.specs.Status.{is_done, is_read_fault, is_settled, is_write_fault, usage_of};
 ghost use Rattle.workshop.specs.Encoding.{status_of, AnswersEncode, HoldsHeadline, CompletesEncode};
 
@@ -49,11 +49,11 @@ pub(crate) fn encode<S: ByteSource, K: ByteSink>(
         → (Rose (K.faults out.old) (K.faults out.new) ⊎ Rose (K.faults cert.old) (K.faults cert.new) ⊎ Rose (K.faults text.old) (K.faults text.new) → ⊥)
         → CompletesEncode words.now (pictures_of words.now.raw bytes) result) }
     ensures usage { usage_of result ≡ None }
-    ensures extends { Extends (outputs K.held K.taken out.old cert.old text.old) (outputs K.held K.taken out.new cert.new text.new) }
+    ensures extends { ExtendsAll (outputs K.held K.taken out.old cert.old text.old) (outputs K.held K.taken out.new cert.new text.new) }
     ensures settled { OnTrue (is_settled result) ((K.settled out.new ≡ K.taken out.new) × (K.settled cert.new ≡ K.taken cert.new) × (K.settled text.new ≡ K.taken text.new)) }
     ensures end { OnTrue (is_done result) (IsAtEnd (S.left pictures.new)) }
     ensures read { CountsFault (S.faults pictures.old) (S.faults pictures.new) (is_read_fault result) }
-    ensures write { CountsFaults K.faults out.old cert.old text.old out.new cert.new text.new (is_write_fault result) }
+    ensures write { CountsAllFaults K.faults out.old cert.old text.old out.new cert.new text.new (is_write_fault result) }
 {
     status_of(encode_run(alloc, words, pictures, out, cert, text))
 }

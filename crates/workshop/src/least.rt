@@ -3,13 +3,12 @@
 ghost use Rattle.std.specs.Prelude.{◌≡◌, None};
 ghost use Rattle.std.specs.Bool.{OnTrue};
 ghost use Rattle.std.specs.Io.KnownBytes.{IsAtEnd};
-ghost use Rattle.pw_outside.specs.Ports.{CountsFault, Rose};
+ghost use Rattle.pw_outside.specs.Ports.{CountsFault, Rose, CountsFaults};
 ghost use Rattle.pw_outside.specs.Reading.{Told};
-ghost use Rattle.pw_outside.specs.Writing.{sink_state};
+ghost use Rattle.pw_outside.specs.Writing.{sink_state, Extends};
 ghost use Rattle.rate_table.specs.Reading.{tabled};
 ghost use Rattle.rate_least.specs.Files.{certified};
-ghost use Rattle.rate_least.specs.Ends.{Extends, PrintsLines};
-ghost use Rattle.rate_least.specs.Leasting.{CountsFaults};
+ghost use Rattle.rate_least.specs.Ends.{PrintsLines};
 ghost use Rattle.rate_least.specs.Runs.{AnswersCheck, AnswersCurve, SaysTrue, yes_text, PrintsText, IsCurveText};
 ghost use Rattle.workshop.specs.Status.{is_done, is_read_fault, is_settled, is_write_fault, usage_of};
 ghost use Rattle.workshop.specs.Least.{status_of, Ended, AnswersLeast, CompletesLeast, CompletesCheckLeast, CompletesCurve};

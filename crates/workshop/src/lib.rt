@@ -20,8 +20,6 @@ mod sounding;
 mod status;
 mod store;
 mod synthesis;
-#[cfg(test)]
-mod tests;
 mod top;
 mod words;
 

@@ -8,8 +8,7 @@ ghost use Rattle.pw_outside.specs.Reading.{Told};
 ghost use Rattle.rate_table.specs.Reading.{tabled};
 ghost use Rattle.workshop.specs.Status.{is_done, is_read_fault, is_settled, is_write_fault, has_written, usage_of};
 ghost use Rattle.workshop.specs.Plan.{spaced, outcome_text, AnswersPlan, PrintsPlan, PrintsPart};
-ghost use Rattle.pw_outside.specs.Writing.{sink_state, Puts, PutsFront};
-ghost use Rattle.run_look.specs.Listing.{Extends};
+ghost use Rattle.pw_outside.specs.Writing.{sink_state, Puts, PutsFront, Extends};
 
 use crate::status::Status;
 use pw_outside::{ByteSink, ByteSource, NoMemory, put};

@@ -3,11 +3,10 @@
 ghost use Rattle.std.specs.Prelude.{◌≡◌, None};
 ghost use Rattle.std.specs.Bool.{OnTrue};
 ghost use Rattle.std.specs.Io.KnownBytes.{IsAtEnd};
-ghost use Rattle.pw_outside.specs.Ports.{CountsFault};
+ghost use Rattle.pw_outside.specs.Ports.{CountsFault, CountsFaults};
 ghost use Rattle.pw_outside.specs.Reading.{Told};
-ghost use Rattle.pw_outside.specs.Writing.{sink_state, Puts};
-ghost use Rattle.run_look.specs.Listing.{Extends};
-ghost use Rattle.run_look.specs.Reproofing.{reproofed, SaysTheSame, IsProofIn, CountsFaults};
+ghost use Rattle.pw_outside.specs.Writing.{sink_state, Puts, Extends};
+ghost use Rattle.run_look.specs.Reproofing.{reproofed, SaysTheSame, IsProofIn};
 ghost use Rattle.workshop.specs.Status.{is_done, is_read_fault, is_settled, is_write_fault, usage_of};
 ghost use Rattle.workshop.specs.Reproofing.{AnswersReproof, WritesUntil};
 

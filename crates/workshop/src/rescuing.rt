@@ -2,10 +2,10 @@
 
 ghost use Rattle.std.specs.Prelude.{◌≡◌, None, ℕ, List};
 ghost use Rattle.std.specs.Bool.{OnTrue};
-ghost use Rattle.pw_outside.specs.Ports.{CountsFault, Rose};
+ghost use Rattle.pw_outside.specs.Ports.{CountsFault, Rose, CountsFaults};
 ghost use Rattle.pw_outside.specs.Reading.{Told};
-ghost use Rattle.pw_outside.specs.Writing.{sink_state, Puts};
-ghost use Rattle.rescue_run.specs.Rescuing.{IsRate, world, Extends, CountsFaults};
+ghost use Rattle.pw_outside.specs.Writing.{sink_state, Puts, Extends};
+ghost use Rattle.rescue_run.specs.Rescuing.{IsRate, world};
 ghost use Rattle.rescue_run.specs.Laws.{WritesFronts, IsMovieOf};
 ghost use Rattle.workshop.specs.Options.{rate_of};
 ghost use Rattle.workshop.specs.Status.{is_done, is_read_fault, is_settled, is_write_fault, usage_of};
@@ -54,7 +54,7 @@ pub(crate) fn rescue<M: ByteStore, K: ByteSink>(
     ensures settled { OnTrue (is_settled result) ((K.settled out.new ≡ K.taken out.new) × (K.settled text.new ≡ K.taken text.new)) }
     ensures bytes { M.bytes movie.new ≡ M.bytes movie.old }
     ensures read { CountsFault (M.faults movie.old) (M.faults movie.new) (is_read_fault result) }
-    ensures write { CountsFaults K.faults out.old text.old out.new text.new (is_write_fault result) }
+    ensures write { CountsFaults (K.faults out.old) (K.faults out.new) (K.faults text.old) (K.faults text.new) (is_write_fault result) }
 {
     status_of(rescue_run(alloc, movie, rate.num, rate.den, out, text))
 }

@@ -2,18 +2,18 @@
 
 ghost use Rattle.std.specs.Prelude.{◌≡◌, None};
 ghost use Rattle.std.specs.Bool.{OnTrue};
-ghost use Rattle.pw_outside.specs.Ports.{CountsFault, Rose};
+ghost use Rattle.pw_outside.specs.Ports.{CountsFault, Rose, CountsFaults};
 ghost use Rattle.pw_outside.specs.Reading.{Told};
-ghost use Rattle.pw_outside.specs.Writing.{sink_state};
-ghost use Rattle.pcm_track.specs.Ends.{Extends, CountsFaults};
+ghost use Rattle.pw_outside.specs.Writing.{sink_state, Extends};
 ghost use Rattle.pcm_track.specs.Adding.{added};
 ghost use Rattle.pcm_track.specs.Sounding.{sounded};
 ghost use Rattle.workshop.specs.Status.{is_read_fault, is_settled, is_write_fault, usage_of};
-ghost use Rattle.workshop.specs.Sounding.{status_of, AnswersSound, WritesUntil, CompletesSound};
+ghost use Rattle.workshop.specs.Sounding.{status_of, AnswersSound, WritesUntilDone, ReadsAgain, CompletesSound};
 
 use crate::status::Status;
 use pcm_track::{SoundEnd, add_run, sound_run};
 use pw_outside::{ByteSink, ByteSource, ByteStore};
+use sound_round::added_is_read_again;
 use std::alloc::Global;
 
 /// The answer with the fields of a run's end.
@@ -45,10 +45,12 @@ pub(crate) fn add_sound<M: ByteStore, S: ByteSource, K: ByteSink>(
         → (Rose (K.faults out.old) (K.faults out.new) → ⊥) → (Rose (K.faults text.old) (K.faults text.new) → ⊥)
         → CompletesSound (added file bytes).end result)) }
     ensures usage { usage_of result ≡ None }
-    ensures out { Told (M.bytes movie.old) (λ file. Told (S.left wav.old) (λ bytes. WritesUntil result (added file bytes).out
+    ensures out { Told (M.bytes movie.old) (λ file. Told (S.left wav.old) (λ bytes. WritesUntilDone result (added file bytes).out
         (sink_state (K.held out.old) (K.taken out.old)) (sink_state (K.held out.new) (K.taken out.new)))) }
-    ensures text { Told (M.bytes movie.old) (λ file. Told (S.left wav.old) (λ bytes. WritesUntil result (added file bytes).text
+    ensures text { Told (M.bytes movie.old) (λ file. Told (S.left wav.old) (λ bytes. WritesUntilDone result (added file bytes).text
         (sink_state (K.held text.old) (K.taken text.old)) (sink_state (K.held text.new) (K.taken text.new)))) }
+    ensures again { Told (M.bytes movie.old) (λ file. Told (S.left wav.old) (λ bytes. ReadsAgain result file bytes
+        (sink_state (K.held out.old) (K.taken out.old)) (sink_state (K.held out.new) (K.taken out.new)))) }
     ensures out_extends { Extends (sink_state (K.held out.old) (K.taken out.old)) (sink_state (K.held out.new) (K.taken out.new)) }
     ensures text_extends { Extends (sink_state (K.held text.old) (K.taken text.old)) (sink_state (K.held text.new) (K.taken text.new)) }
     ensures settled { OnTrue (is_settled result) ((K.settled out.new ≡ K.taken out.new) × (K.settled text.new ≡ K.taken text.new)) }
@@ -56,6 +58,7 @@ pub(crate) fn add_sound<M: ByteStore, S: ByteSource, K: ByteSink>(
     ensures read { CountsFaults (M.faults movie.old) (M.faults movie.new) (S.faults wav.old) (S.faults wav.new) (is_read_fault result) }
     ensures write { CountsFaults (K.faults out.old) (K.faults out.new) (K.faults text.old) (K.faults text.new) (is_write_fault result) }
 {
+    added_is_read_again();
     status_of(add_run(alloc, movie, wav, out, text))
 }
 
@@ -72,9 +75,9 @@ pub(crate) fn sound<M: ByteStore, K: ByteSink>(
         → (Rose (K.faults out.old) (K.faults out.new) → ⊥) → (Rose (K.faults text.old) (K.faults text.new) → ⊥)
         → CompletesSound (sounded file).end result) }
     ensures usage { usage_of result ≡ None }
-    ensures out { Told (M.bytes movie.old) (λ file. WritesUntil result (sounded file).out
+    ensures out { Told (M.bytes movie.old) (λ file. WritesUntilDone result (sounded file).out
         (sink_state (K.held out.old) (K.taken out.old)) (sink_state (K.held out.new) (K.taken out.new))) }
-    ensures text { Told (M.bytes movie.old) (λ file. WritesUntil result (sounded file).text
+    ensures text { Told (M.bytes movie.old) (λ file. WritesUntilDone result (sounded file).text
         (sink_state (K.held text.old) (K.taken text.old)) (sink_state (K.held text.new) (K.taken text.new))) }
     ensures out_extends { Extends (sink_state (K.held out.old) (K.taken out.old)) (sink_state (K.held out.new) (K.taken out.new)) }
     ensures text_extends { Extends (sink_state (K.held text.old) (K.taken text.old)) (sink_state (K.held text.new) (K.taken text.new)) }

@@ -3,8 +3,8 @@
 ghost use Rattle.std.specs.Prelude.{◌≡◌, None, false};
 ghost use Rattle.std.specs.Bool.{OnTrue};
 ghost use Rattle.pw_outside.specs.Ports.{CountsFault, Rose};
-ghost use Rattle.pw_outside.specs.Writing.{sink_state};
-ghost use Rattle.run_synth.specs.Synthesis.{AreSynthWords, Extends};
+ghost use Rattle.pw_outside.specs.Writing.{sink_state, Extends};
+ghost use Rattle.run_synth.specs.Synthesis.{AreSynthWords};
 ghost use Rattle.workshop.specs.Status.{is_read_fault, is_settled, is_write_fault, usage_of};
 ghost use Rattle.workshop.specs.Synthesis.{status_of, AnswersSynth, CompletesSynth};
 

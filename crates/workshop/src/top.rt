@@ -9,9 +9,9 @@ ghost use Rattle.workshop.specs.Status.{is_done, is_read_fault, is_settled, is_w
 ghost use Rattle.workshop.specs.declared.words.Task.TheVariants as task;
 ghost use Rattle.workshop.specs.Words.{said, usage_fault, IsRun, IsEncode, IsDecode, IsRescue, IsLeast, IsSynth, tells_monitors, uses_in, reads_pictures, reads_proof, reads_movie, writes_out, writes_cert, writes_text};
 ghost use Rattle.workshop.specs.Faults.{faults, CountsReads, CountsWrites, NoPortFailed, Settles};
-ghost use Rattle.pw_outside.specs.Writing.{sink_state, Puts};
+ghost use Rattle.pw_outside.specs.Writing.{sink_state, Puts, Extends};
 ghost use Rattle.qt_movie.specs.Movie.{movie_in};
-ghost use Rattle.run_look.specs.Listing.{PrintsList, PrintsListFront, Extends};
+ghost use Rattle.run_look.specs.Listing.{PrintsList, PrintsListFront};
 ghost use Rattle.workshop.specs.Plan.{AnswersPlan, PrintsPlan, PrintsPart, CompletesPlan};
 ghost use Rattle.pic_raw.specs.Any.{pictures_of};
 ghost use Rattle.run_encode.specs.declared.job.EncodeWords.{EncodeWords};
@@ -34,7 +34,7 @@ ghost use Rattle.workshop.specs.Options.{rate_of};
 ghost use Rattle.workshop.specs.Rescuing.{AnswersRescue, CompletesRescue};
 ghost use Rattle.pcm_track.specs.Adding.{added};
 ghost use Rattle.pcm_track.specs.Sounding.{sounded};
-ghost use Rattle.workshop.specs.Sounding.{AnswersSound, WritesUntil as WritesSound, CompletesSound};
+ghost use Rattle.workshop.specs.Sounding.{AnswersSound, WritesUntilDone, ReadsAgain, CompletesSound};
 ghost use Rattle.rate_least.specs.Files.{certified};
 ghost use Rattle.rate_least.specs.Ends.{PrintsLines};
 ghost use Rattle.rate_least.specs.Runs.{AnswersCheck as AnswersCertificate, AnswersCurve, SaysTrue, yes_text, PrintsText, IsCurveText};
@@ -260,10 +260,14 @@ pub fn workshop<S: ByteSource, M: ByteStore, K: ByteSink>(
     ensures addsound { Told (M.bytes movie.old) (λ file. Told (S.left pictures.old) (λ wav. IsRun task.AddSound (said words.now) → AnswersSound (added file wav).end result)) }
     // After Done the movie with sound was appended to `out`, and the line to `text`; after every other answer a front of each, a byte
     // that an input doesn't have counted as 0.
-    ensures addsound_out { Told (M.bytes movie.old) (λ file. Told (S.left pictures.old) (λ wav. IsRun task.AddSound (said words.now) → WritesSound result (added file wav).out
+    ensures addsound_out { Told (M.bytes movie.old) (λ file. Told (S.left pictures.old) (λ wav. IsRun task.AddSound (said words.now) → WritesUntilDone result (added file wav).out
         (sink_state (K.held out.old) (K.taken out.old)) (sink_state (K.held out.new) (K.taken out.new)))) }
-    ensures addsound_text { Told (M.bytes movie.old) (λ file. Told (S.left pictures.old) (λ wav. IsRun task.AddSound (said words.now) → WritesSound result (added file wav).text
+    ensures addsound_text { Told (M.bytes movie.old) (λ file. Told (S.left pictures.old) (λ wav. IsRun task.AddSound (said words.now) → WritesUntilDone result (added file wav).text
         (sink_state (K.held text.old) (K.taken text.old)) (sink_state (K.held text.new) (K.taken text.new)))) }
+    // After Done what was appended to `out` is a movie of the same pictures (kind, size and time scale; the bytes and the duration of each
+    // sample), and `sound` of it gives the WAV's sound back.
+    ensures addsound_again { Told (M.bytes movie.old) (λ file. Told (S.left pictures.old) (λ wav. IsRun task.AddSound (said words.now) → ReadsAgain result file wav
+        (sink_state (K.held out.old) (K.taken out.old)) (sink_state (K.held out.new) (K.taken out.new)))) }
     // Where no port failed, the answer is how putting the sound beside the pictures ends, unless memory runs out.
     ensures addsound_complete { Told (M.bytes movie.old) (λ file. Told (S.left pictures.old) (λ wav. IsRun task.AddSound (said words.now)
         → NoPortFailed (uses_in (said words.now)) (faults S.faults M.faults K.faults pictures.old proof.old movie.old out.old cert.old text.old) (faults S.faults M.faults K.faults pictures.new proof.new movie.new out.new cert.new text.new)
@@ -274,9 +278,9 @@ pub fn workshop<S: ByteSource, M: ByteStore, K: ByteSink>(
     ensures sound { Told (M.bytes movie.old) (λ file. IsRun task.Sound (said words.now) → AnswersSound (sounded file).end result) }
     // After Done the head of a WAV and the bytes of the chunks were appended to `out`, and the line to `text`; after every other answer
     // a front of each, a byte that the file doesn't have counted as 0.
-    ensures sound_out { Told (M.bytes movie.old) (λ file. IsRun task.Sound (said words.now) → WritesSound result (sounded file).out
+    ensures sound_out { Told (M.bytes movie.old) (λ file. IsRun task.Sound (said words.now) → WritesUntilDone result (sounded file).out
         (sink_state (K.held out.old) (K.taken out.old)) (sink_state (K.held out.new) (K.taken out.new))) }
-    ensures sound_text { Told (M.bytes movie.old) (λ file. IsRun task.Sound (said words.now) → WritesSound result (sounded file).text
+    ensures sound_text { Told (M.bytes movie.old) (λ file. IsRun task.Sound (said words.now) → WritesUntilDone result (sounded file).text
         (sink_state (K.held text.old) (K.taken text.old)) (sink_state (K.held text.new) (K.taken text.new))) }
     // Where no port failed, the answer is the one that taking the sound out gives, unless memory runs out.
     ensures sound_complete { Told (M.bytes movie.old) (λ file. IsRun task.Sound (said words.now)

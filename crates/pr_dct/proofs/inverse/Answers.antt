@@ -1,8 +1,8 @@
 use Rattle.std.proofs.Common.{rules, arith, ◌^◌, ◌∙◌, ap, refl, pos, get_or, lit<, to_z-of_z, to_z, of_z, w32}
 use mir.Val.{SFits}
-use Rattle.pr_dct.specs.Transform.{cosines, rounded}
+use Rattle.pr_dct.specs.Transform.{cosines, rounded, flat}
 use Rattle.pr_dct.proofs.PassLemmas.{turned_reach, first_within, second_within, all_passes, turned_pairs}
-use Rattle.pr_dct.specs.Passes.{turned, flat}
+use Rattle.pr_dct.specs.inner.Passes.{turned}
 use Rattle.pr_dct.proofs.SumLemmas.{kept32}
 use Rattle.pr_dct.proofs.HalfLemmas.{flat_samples}
 use Rattle.pr_dct.proofs.inverse.Goals as goal

@@ -1,8 +1,7 @@
 use Rattle.std.proofs.Common.{rules, ◌≡◌, ◌≤◌, ◌++◌, sym, subst}
 use Rattle.std.proofs.lemmas.Result.{err_from_is_err_and, on_ok_weaker, on_err_weaker}
-use Rattle.pw_outside.specs.Ports.{last}
+use Rattle.pw_outside.specs.Ports.{last, CountsFaults}
 use Rattle.qt_movie.specs.MovieBytes.{ftyp_bytes}
-use Rattle.pcm_track.specs.Ends.{CountsFaults}
 use Rattle.pcm_track.specs.Adding.{data_atoms}
 use Rattle.pcm_track.proofs.Pieces.{any_err}
 use Rattle.pcm_track.proofs.DataAtoms.{none-both, head-both, middle-both, last-both, whole-both, answer-last, not-done-last, not-read-last}

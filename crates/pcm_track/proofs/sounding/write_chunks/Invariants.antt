@@ -1,9 +1,8 @@
 use Rattle.std.proofs.Common.{◌≡◌, length, take, drop}
 use Rattle.std.specs.List.{flat_map}
 use Rattle.pw_outside.specs.Reading.{Told}
-use Rattle.pw_outside.specs.Writing.{sink_state, Puts}
+use Rattle.pw_outside.specs.Writing.{sink_state, Puts, Extends}
 use Rattle.qt_tables.specs.Samples.{chunks}
-use Rattle.pcm_track.specs.Ends.{Extends}
 use Rattle.pcm_track.specs.Sounding.{chunk_bytes, chunks_end}
 use Rattle.pcm_track.proofs.sounding.write_chunks.Given as goal
 

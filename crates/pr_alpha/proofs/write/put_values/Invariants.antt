@@ -1,6 +1,6 @@
 use Rattle.std.proofs.Common.{◌≡◌, ◌^◌, ◌<◌, ◌≤◌, List, Bool, false, take}
 use Rattle.pw_bits.specs.Writing.{written, Writes}
-use Rattle.pr_alpha.specs.Writing.{Codes}
+use Rattle.pr_alpha.specs.inner.Writing.{Codes}
 use Rattle.pr_alpha.proofs.write.put_values.Given as goal
 
 abbrev pub invariant-loop-value : goal.invariant-loop-value

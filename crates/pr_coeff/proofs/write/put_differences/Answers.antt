@@ -7,7 +7,7 @@ use Rattle.pw_bits.proofs.WritingLemmas.{Writes-nil, Writes-Writes}
 use Rattle.pr_coeff.specs.Component.{column, dc_words, dc_book, folded, turned, is_negative}
 use Rattle.std.proofs.Common.{◌-ℤ◌}
 use Rattle.pr_codes.specs.Words.{word}
-use Rattle.pr_coeff.specs.Writing.{CodesDc}
+use Rattle.pr_coeff.specs.inner.Writing.{CodesDc}
 use Rattle.pr_coeff.specs.declared.write.Differences.{Differences}
 use Rattle.pr_coeff.proofs.WovenLemmas.{length-column}
 use Rattle.pr_coeff.proofs.CodingLemmas.{any_err, CodesDc-nil, CodesDc-more, CodesDc-all, cut_differences, column_more, column_cut, kept_value, small_at}

@@ -1,7 +1,7 @@
 use Rattle.std.proofs.Common.{◌≡◌, ◌≤◌, List, Bool, false, take, nat_abs}
 use Rattle.pw_bits.specs.Writing.{written, Writes}
 use Rattle.pr_coeff.specs.Component.{column}
-use Rattle.pr_coeff.specs.Writing.{CodesDc}
+use Rattle.pr_coeff.specs.inner.Writing.{CodesDc}
 use Rattle.pr_coeff.proofs.write.put_differences.Given as goal
 
 abbrev pub invariant-loop-block : goal.invariant-loop-block

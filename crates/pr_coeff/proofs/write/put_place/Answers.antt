@@ -2,7 +2,7 @@ use Rattle.std.proofs.Common.{◌+◌, ◌≤◌, ◌++◌, ◌∷◌, [], pos, 
 use Rattle.pw_bits.specs.Writing.{written, Begins}
 use Rattle.pw_bits.proofs.WritingLemmas.{Writes-nil, Writes-short, Writes-Writes}
 use Rattle.pr_coeff.specs.Component.{column, ac_words}
-use Rattle.pr_coeff.specs.Writing.{Codes}
+use Rattle.pr_coeff.specs.inner.Writing.{Codes}
 use Rattle.pr_coeff.proofs.CodingLemmas.{any_err, Codes-nil, Codes-Codes, cut_values, column_more, column_split, kept_value, small_at}
 use Rattle.pr_coeff.proofs.write.put_place.Goals as goal
 

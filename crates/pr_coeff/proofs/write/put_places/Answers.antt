@@ -3,7 +3,7 @@ use Rattle.std.proofs.lemmas.List.{take_all}
 use Rattle.pw_bits.specs.Writing.{written, Writes, Begins}
 use Rattle.pw_bits.proofs.WritingLemmas.{Writes-nil, Writes-short, Writes-Writes}
 use Rattle.pr_coeff.specs.Component.{column, listed, ac_words}
-use Rattle.pr_coeff.specs.Writing.{Codes}
+use Rattle.pr_coeff.specs.inner.Writing.{Codes}
 use Rattle.pr_coeff.specs.declared.write.Coding.{Coding}
 use Rattle.pr_coeff.proofs.WovenLemmas.{column_small}
 use Rattle.pr_coeff.proofs.CodingLemmas.{any_err, Codes-nil, Codes-Codes, Codes-all, cut_values, listed_more, listed_cut}

@@ -1,7 +1,7 @@
 use Rattle.std.proofs.Common.{◌≡◌, ◌≤◌, List, Bool, false, take, ◌*◌, length}
 use Rattle.pw_bits.specs.Writing.{written, Writes}
 use Rattle.pr_coeff.specs.Component.{listed}
-use Rattle.pr_coeff.specs.Writing.{Codes}
+use Rattle.pr_coeff.specs.inner.Writing.{Codes}
 use Rattle.pr_coeff.proofs.write.put_places.Given as goal
 
 abbrev pub invariant-loop-place : goal.invariant-loop-place

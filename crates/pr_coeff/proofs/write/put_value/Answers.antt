@@ -8,7 +8,7 @@ use Rattle.std.proofs.lemmas.Result.{on_ok_weaker, on_err_weaker}
 use Rattle.pw_bits.specs.Writing.{written, Writes, Begins}
 use Rattle.pw_bits.proofs.WritingLemmas.{Writes-nil}
 use Rattle.pr_coeff.specs.Component.{is_negative}
-use Rattle.pr_coeff.specs.Writing.{triple_words}
+use Rattle.pr_coeff.specs.inner.Writing.{triple_words}
 use Rattle.pr_coeff.proofs.CodingLemmas.{Codes-nil, Codes-zero, Codes-triple, cut_triple, signed_parts, lt_zero}
 use Rattle.pr_coeff.proofs.write.put_value.Goals as goal
 

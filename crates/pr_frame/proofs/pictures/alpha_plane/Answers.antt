@@ -6,7 +6,7 @@ use Rattle.pr_geom.specs.declared.places.SlicePlace.{SlicePlace}
 use Rattle.pr_geom.specs.declared.places.Part.TheVariants.{Y}
 use Rattle.pr_geom.specs.Blocks.{blocks_of}
 use Rattle.pr_frame.specs.Shown.{placed, value_block, shown_values, all_shown}
-use Rattle.pr_frame.specs.Placing.{with_placed}
+use Rattle.pr_frame.specs.inner.Placing.{with_placed}
 use Rattle.pr_frame.proofs.ShownParts.{layout_places, few_slices, coded_count, coded_at, shown_more, shown_end, values_written, some_alpha}
 use Rattle.pr_frame.proofs.pictures.alpha_plane.Goals as goal
 

@@ -3,7 +3,7 @@ use Rattle.pr_geom.specs.Slices.{no_slice}
 use Rattle.pr_frame.specs.Forms.{places_in}
 use Rattle.pr_frame.specs.Coded.{IsCodedSlice}
 use Rattle.pr_frame.specs.Shown.{shown_part, all_shown}
-use Rattle.pr_frame.specs.Placing.{with_placed}
+use Rattle.pr_frame.specs.inner.Placing.{with_placed}
 use Rattle.pr_frame.proofs.ShownParts.{layout_places, few_slices, coded_count, coded_at, shown_more, shown_end, part_written}
 use Rattle.pr_frame.proofs.pictures.part_plane.Goals as goal
 

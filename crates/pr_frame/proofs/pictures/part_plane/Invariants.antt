@@ -2,7 +2,7 @@ use Rattle.std.proofs.Common.{◌≡◌, drop}
 use Rattle.pw_planes.specs.Plane.{uniform}
 use Rattle.pr_frame.specs.Forms.{places_in}
 use Rattle.pr_frame.specs.Shown.{shown_part, all_shown, width_of, height_of}
-use Rattle.pr_frame.specs.Placing.{with_placed}
+use Rattle.pr_frame.specs.inner.Placing.{with_placed}
 use Rattle.pr_frame.proofs.pictures.part_plane.Given as goal
 
 abbrev pub invariant-loop-number : goal.invariant-loop-number

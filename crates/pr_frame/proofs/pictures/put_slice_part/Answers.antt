@@ -1,7 +1,7 @@
 use Rattle.std.proofs.Common.{◌≡◌, map, ap, sym, ◌∙◌}
 use Rattle.pr_geom.specs.Blocks.{blocks_of}
 use Rattle.pr_frame.specs.Shown.{placed, shown_block, part_of, shown_part}
-use Rattle.pr_frame.specs.Placing.{with_placed}
+use Rattle.pr_frame.specs.inner.Placing.{with_placed}
 use Rattle.pr_frame.proofs.pictures.put_slice_part.Goals as goal
 use Rattle.pr_frame.proofs.pictures.put_slice_part.Goals.{in-Y, in-Cb, in-Cr}
 

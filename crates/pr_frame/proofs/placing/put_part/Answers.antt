@@ -2,7 +2,7 @@ use Rattle.std.proofs.Common.{◌≡◌, ◌+◌, ◌<◌, [], length, drop, map
 use Rattle.std.proofs.lemmas.List.{length-map, get_or-map}
 use Rattle.pr_geom.specs.Blocks.{blocks_of}
 use Rattle.pr_frame.specs.Shown.{placed, shown_block}
-use Rattle.pr_frame.specs.Placing.{with_placed}
+use Rattle.pr_frame.specs.inner.Placing.{with_placed}
 use Rattle.pr_frame.proofs.Placed.{placed_more, placed_end}
 use Rattle.pr_frame.proofs.placing.put_part.Goals as goal
 

@@ -1,7 +1,7 @@
 use Rattle.std.proofs.Common.{◌≡◌, drop, map}
 use Rattle.pr_geom.specs.Blocks.{blocks_of}
 use Rattle.pr_frame.specs.Shown.{placed, shown_block}
-use Rattle.pr_frame.specs.Placing.{with_placed}
+use Rattle.pr_frame.specs.inner.Placing.{with_placed}
 use Rattle.pr_frame.proofs.placing.put_part.Given as goal
 
 abbrev pub invariant-loop-k : goal.invariant-loop-k

@@ -4,7 +4,7 @@ use Rattle.pr_geom.specs.declared.places.Part.TheVariants.{Y}
 use Rattle.pr_geom.specs.Blocks.{blocks_of}
 use Rattle.pr_geom.proofs.BlockLemmas.{luma_count, luma_corner_of}
 use Rattle.pr_frame.specs.Shown.{placed, value_block}
-use Rattle.pr_frame.specs.Placing.{with_placed}
+use Rattle.pr_frame.specs.inner.Placing.{with_placed}
 use Rattle.pr_frame.proofs.Placed.{placed_more, placed_end, in_slice}
 use Rattle.pr_frame.proofs.placing.put_values.Goals as goal
 

@@ -1,8 +1,7 @@
 use Rattle.std.proofs.Common.{rules, ◌≡◌, ◌^◌, ◌*◌, ◌∙◌, ap, arith, get_or, pos, lit<, to_z, of_z, to_z-of_z, w16, w32}
 use mir.Val.{SFits}
 use Rattle.pr_quant.specs.Quantised.{dequantised, scale_of}
-use Rattle.pr_dct.specs.Transform.{rounded}
-use Rattle.pr_dct.specs.Passes.{flat}
+use Rattle.pr_dct.specs.Transform.{rounded, flat}
 use Rattle.pr_dct.proofs.SumLemmas.{kept32}
 use Rattle.pr_frame.proofs.FlatBlocks.{flat_shown}
 use Rattle.pr_frame.proofs.products.flat_block.Goals as goal

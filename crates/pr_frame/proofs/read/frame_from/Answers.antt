@@ -32,7 +32,7 @@ returns-in_err-pictures-clause-bytes g c =
           let head = head-at c.args.size left new o a.0 c.from.result a.1 c.from.ensures in
           let room = head-room c.args.size left new o c.from.result head c.in_ok-header.ensures.size (c.requires.bytes h) in
           frame-pictures-fails c.args.size s o t head fault
-          (subst (λ n. Fails told_fault fault (coded_pictures_at n o.size o.header t)) c.pictures_in-count.ensures ((c.in_err-pictures.ensures.bytes (λ k. room)).answer (c.in_ok-header.ensures.bytes.told h)));
+          (subst (λ n. Fails told_fault fault (coded_pictures_at n o.size o.header t)) c.pictures_of-count.ensures ((c.in_err-pictures.ensures.bytes (λ k. room)).answer (c.in_ok-header.ensures.bytes.told h)));
     })
 
 pub returns-clause-bytes : goal.returns-clause-bytes
@@ -49,5 +49,5 @@ returns-clause-bytes g c =
     record {
       told = λ h. (c.in_ok-pictures.ensures.bytes (λ k. room h)).told (c.in_ok-header.ensures.bytes.told h);
       answer = λ h. frame-value c.args.size s o t (head h) xs u
-          (subst (λ n. coded_pictures_at n o.size o.header t ≡ Ok (xs, u)) c.pictures_in-count.ensures ((c.in_ok-pictures.ensures.bytes (λ k. room h)).answer (c.in_ok-header.ensures.bytes.told h)));
+          (subst (λ n. coded_pictures_at n o.size o.header t ≡ Ok (xs, u)) c.pictures_of-count.ensures ((c.in_ok-pictures.ensures.bytes (λ k. room h)).answer (c.in_ok-header.ensures.bytes.told h)));
     }

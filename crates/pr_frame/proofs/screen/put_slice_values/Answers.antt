@@ -2,8 +2,8 @@ use Rattle.std.proofs.Common.{◌≡◌, map, ap, sym, ◌∙◌, Some}
 use Rattle.pr_geom.specs.declared.places.Part.TheVariants.{Y}
 use Rattle.pr_geom.specs.Blocks.{blocks_of}
 use Rattle.pr_frame.specs.Shown.{placed, value_block, shown_values}
-use Rattle.pr_frame.specs.Placing.{with_placed}
-use Rattle.pr_frame.specs.Screen.{with_values}
+use Rattle.pr_frame.specs.inner.Placing.{with_placed}
+use Rattle.pr_frame.specs.inner.Screen.{with_values}
 use Rattle.pr_frame.proofs.screen.put_slice_values.Goals as goal
 
 pub returns-in-Some : goal.returns-in-Some

@@ -7,7 +7,7 @@ use Rattle.pr_frame.specs.declared.coded.CodedPicture.{CodedPicture}
 use Rattle.pr_frame.specs.Forms.{places_in}
 use Rattle.pr_frame.specs.Coded.{IsCodedPicture}
 use Rattle.pr_frame.specs.Reading.{ahead, coded_slices_at}
-use Rattle.pr_frame.specs.Screen.{AreSlicesOf}
+use Rattle.pr_frame.specs.inner.Screen.{AreSlicesOf}
 use Rattle.pr_frame.proofs.Rests.{picture-rest, table-rest}
 use Rattle.pr_head.proofs.Passing.{ahead-ahead}
 use Rattle.pr_frame.proofs.PictureSteps.{slices-rest, layout-places, layout-count, picture-fails, table-fails, slices-fails, picture-value, behind-table, picture-end, enough-table, enough-slices}

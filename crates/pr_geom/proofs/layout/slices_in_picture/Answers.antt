@@ -6,7 +6,7 @@ use Rattle.pr_geom.proofs.layout.slices_in_picture.Goals as goal
 use Rattle.pr_geom.proofs.layout.slices_in_picture.Goals.{After-slices_in_row}
 
 rows_are : (c : After-slices_in_row) → c.macroblocks_for-rows.result ≡ macroblocks (c.args.height / pictures_of c.args.interlace)
-rows_are c = c.macroblocks_for-rows.ensures ∙ ap (λ n. macroblocks (c.args.height / n)) (c.from.ensures ∙ c.pictures_in.ensures)
+rows_are c = c.macroblocks_for-rows.ensures ∙ ap (λ n. macroblocks (c.args.height / n)) (c.from.ensures ∙ c.pictures_of.ensures)
 
 count_is : (c : After-slices_in_row) → c.slices_in_row.result ≡ length (row_widths (macroblocks c.args.width) c.args.log2)
 count_is c = c.slices_in_row.ensures ∙ (λ i. length (row_widths (c.macroblocks_for.ensures i) (c.from-2.ensures i)))

@@ -1,5 +1,5 @@
 use Rattle.std.proofs.Common.{◌≡◌, ◌+◌, ap, ◌∙◌, arith}
-use Rattle.pr_head.specs.Steps.{table_in}
+use Rattle.pr_head.specs.inner.Steps.{table_in}
 use Rattle.pw_outside.specs.Reading.{rest_of}
 use Rattle.pr_head.specs.Faults.{told_fault}
 use Rattle.pw_outside.proofs.Steps.{agrees-same}

@@ -3,7 +3,7 @@ use Rattle.std.specs.Prelude.{IsSome}
 use Rattle.pw_outside.specs.Ports.{Lowers, GoesOn}
 use Rattle.pw_outside.specs.Reading.{rest_of}
 use Rattle.pw_outside.proofs.Chains.{with_front}
-use Rattle.pr_head.specs.Steps.{sizes_in}
+use Rattle.pr_head.specs.inner.Steps.{sizes_in}
 use Rattle.pr_head.proofs.picture.sizes_of.Given as goal
 
 abbrev pub invariant-loop : goal.invariant-loop

@@ -2,7 +2,7 @@ use Rattle.std.proofs.Common.{◌≡◌, ◌+◌, ◌≤◌}
 use Rattle.std.specs.Prelude.{IsSome}
 use Rattle.pw_outside.specs.Ports.{Lowers, GoesOn}
 use Rattle.pw_outside.specs.Reading.{rest_of}
-use Rattle.pr_head.specs.Steps.{passed}
+use Rattle.pr_head.specs.inner.Steps.{passed}
 use Rattle.pr_head.proofs.pieces.pass.Given as goal
 
 abbrev pub invariant-loop-left : goal.invariant-loop-left

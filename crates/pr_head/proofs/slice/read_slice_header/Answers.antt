@@ -1,6 +1,6 @@
 use Rattle.pw_outside.specs.Reading.{rest_of}
 use Rattle.std.proofs.Common.{ap, ◌∙◌}
-use Rattle.pr_head.specs.Steps.{slice_in}
+use Rattle.pr_head.specs.inner.Steps.{slice_in}
 use Rattle.pr_head.specs.Faults.{told_fault}
 use Rattle.pw_outside.proofs.Steps.{agrees-same}
 use Rattle.pr_head.proofs.Whole.{slice-same}

@@ -1,7 +1,7 @@
 use Rattle.std.proofs.Common.{◌≡◌, ◌+◌, ◌-◌, ◌*◌, ◌++◌, length}
 use Rattle.pw_outside.specs.Reading.{Told}
 use Rattle.qt_atoms.specs.Written.{rows}
-use Rattle.qt_tables.specs.Window.{Shows}
+use Rattle.qt_tables.specs.inner.Window.{Shows}
 use Rattle.std.specs.Int.{w32}
 use Rattle.qt_atoms.specs.Atoms.{number_in}
 use Rattle.qt_tables.proofs.rows.numbers_of.Given as goal

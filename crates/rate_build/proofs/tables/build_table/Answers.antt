@@ -1,7 +1,7 @@
 use Rattle.std.proofs.Common.{length, sym, subst, ap, ◌∙◌, arith}
 use Rattle.std.specs.List.{All}
 use Rattle.std.proofs.lemmas.List.{length-map}
-use Rattle.rate_table.specs.Table.{IsSlice}
+use Rattle.rate_table.specs.Table.{IsSliceTable}
 use Rattle.pr_frame.specs.Ready.{IsReadyAlpha}
 use Rattle.rate_build.specs.declared.slices.SliceCoefficients.{SliceCoefficients}
 use Rattle.rate_build.specs.Tables.{HasParts, entries_of}
@@ -26,7 +26,7 @@ invariant_of-result c =
       fixed_limit = c.fixed_size.ensures.small;
       some = omega (arith, n, number.0);
       few = omega (arith, n, number.1);
-      each = subst (All IsSlice) (sym c.from_vec.ensures) v.slices;
+      each = subst (All IsSliceTable) (sym c.from_vec.ensures) v.slices;
     }
 
 pub returns-in-Ok-clause-errors : goal.returns-in-Ok-clause-errors
@@ -34,4 +34,4 @@ returns-in-Ok-clause-errors c =
     let v = c.in-Ok.ensures in
     let n = ap length (c.from_vec.ensures ∙ v.value) ∙ length-map c.as_slice-slices.result.now (entries_of c.coefficients.inside.layout.interlace c.coefficients.inside.alpha c.args.weights.now c.args.lo c.args.hi) ∙ ap length c.as_slice-slices.ensures in
     let number = frame_slices (record { layout = c.coefficients.inside.layout; alpha = c.coefficients.inside.alpha; slices = c.coefficients.inside.slices }) c.coefficients.invariant c.fixed_size.ensures.some c.fixed_size.ensures.few in
-    λ choice h. choice_error_small c.from_vec.result choice (subst (All IsSlice) (sym c.from_vec.ensures) v.slices) (omega (arith, n, number.1)) h
+    λ choice h. choice_error_small c.from_vec.result choice (subst (All IsSliceTable) (sym c.from_vec.ensures) v.slices) (omega (arith, n, number.1)) h

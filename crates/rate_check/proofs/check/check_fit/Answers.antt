@@ -4,7 +4,7 @@ use Rattle.std.proofs.lemmas.Result.{on_ok_weaker, IfErr-weaker}
 use Rattle.rate_table.specs.declared.entry.Pair.{Pair}
 use Rattle.rate_table.specs.Records.{Printed, HasCounts}
 use Rattle.rate_cert.specs.Records.{Asks, FailsFit, FailsLayers}
-use Rattle.rate_check.specs.Printed.{of_layers}
+use Rattle.rate_check.specs.inner.Printed.{of_layers}
 use Rattle.rate_check.proofs.Answered.{granted}
 use Rattle.rate_check.proofs.Judged.{good_fit, layers_fail}
 use Rattle.rate_check.proofs.check.check_fit.Goals as goal

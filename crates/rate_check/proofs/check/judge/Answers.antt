@@ -2,7 +2,7 @@ use Rattle.std.proofs.Common.{Vec, Global, map, sym, ap, sym, ◌∙◌}
 use Rattle.rate_table.specs.declared.entry.Pair.{Pair}
 use Rattle.rate_cert.specs.declared.proof.Verdict.{Verdict}
 use Rattle.rate_cert.specs.Records.{Record, said_by}
-use Rattle.rate_check.specs.Printed.{of_layers}
+use Rattle.rate_check.specs.inner.Printed.{of_layers}
 use Rattle.rate_check.proofs.Answered.{granted}
 use Rattle.rate_check.proofs.Judged.{fit_good, fit_fails, none_good, none_fails}
 use Rattle.rate_check.proofs.check.judge.Goals as goal

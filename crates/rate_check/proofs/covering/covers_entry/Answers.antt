@@ -1,6 +1,6 @@
 use Rattle.std.proofs.Common.{◌≡◌, ◌+◌, ◌*◌, get_or, arith, inr}
 use Rattle.rate_table.specs.Pairs.{joined}
-use Rattle.rate_check.specs.Covering.{Covers, ReachesTo}
+use Rattle.rate_check.specs.inner.Covering.{Covers, ReachesTo}
 use Rattle.rate_check.proofs.covering.covers_entry.Goals.{else-weight-bound-via-then-weight-bound+else-not-has_no_more, else-weight-bound-via-else-weight-bound}
 use Rattle.rate_check.proofs.Answered.{yes, no, granted, denied}
 use Rattle.rate_check.proofs.Orders.{no_pair}

@@ -2,9 +2,9 @@ use Rattle.std.proofs.Common.{◌≡◌, ◌+◌, ◌-◌, ◌*◌, ◌<◌, ◌
 use Rattle.std.proofs.lemmas.Nat.{mul-le}
 use Rattle.std.proofs.lemmas.List.{length-map}
 use Rattle.rate_table.specs.declared.entry.Pair.{Pair}
-use Rattle.rate_table.specs.Table.{Table, IsTable, least_size}
+use Rattle.rate_table.specs.Table.{Table, IsTable, least_sizes}
 use Rattle.rate_table.specs.Pairs.{RisesAndFalls, rest}
-use Rattle.rate_check.specs.Printed.{of_layers}
+use Rattle.rate_check.specs.inner.Printed.{of_layers}
 use Rattle.rate_check.proofs.Answered.{yes, no, granted, denied}
 use Rattle.rate_check.proofs.Covered.{same_product}
 use Rattle.rate_check.proofs.Vectors.{items_of, element}
@@ -121,7 +121,7 @@ loop-k-preserved c =
     record {
       steps = until_more t m u (items_of c.args.layers.now) c.loop-k.k c.loop-k.invariant.steps here;
       taken = (taken_next t c.loop-k.k c.entries-entries.result.now lt e c.loop-k.taken c.from-taken.result c.loop-k.invariant.taken (c.from-taken.ensures ∙ c.least_size.ensures)).1
-          ∙ ap (λ k. t.fixed + least_size (drop k t.slices)) back;
+          ∙ ap (λ k. t.fixed + least_sizes (drop k t.slices)) back;
       costs = (costs_next t m c.loop-k.k c.entries-entries.result.now lt e c.loop-k.costs c.least_cost-costs.result c.loop-k.invariant.costs c.least_cost-costs.ensures.value).1
           ∙ ap (λ k. rest m (drop k t.slices)) back;
       small = omega (arith, c.loop-k.invariant.small);

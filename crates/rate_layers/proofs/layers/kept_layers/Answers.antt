@@ -7,7 +7,7 @@ use Rattle.rate_table.specs.declared.entry.Pair.{Pair}
 use Rattle.rate_table.specs.Table.{Table, IsTable}
 use Rattle.rate_table.specs.Pairs.{RisesAndFalls}
 use Rattle.rate_layers.specs.Layers.{pairs_in}
-use Rattle.rate_layers.specs.Bound.{IsBoundOf}
+use Rattle.rate_layers.specs.inner.Bound.{IsBoundOf}
 use Rattle.rate_layers.proofs.Bounds.{front_first}
 use Rattle.rate_layers.proofs.Assembled.{Assembled, Further, further, assembled_first, assembled_end, assembled_below, errors_small}
 use Rattle.rate_layers.proofs.layers.kept_layers.Goals as goal

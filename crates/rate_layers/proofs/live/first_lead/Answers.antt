@@ -1,6 +1,6 @@
 use Rattle.std.proofs.Common.{refl}
 use Rattle.std.proofs.lemmas.Bool.{false≢true}
-use Rattle.rate_layers.specs.Live.{marked}
+use Rattle.rate_layers.specs.inner.Live.{marked}
 use Rattle.rate_layers.proofs.Onward.{first_on, none_on, none_more}
 use Rattle.rate_layers.proofs.live.first_lead.Goals as goal
 

@@ -2,7 +2,7 @@ use Rattle.std.proofs.Common.{rules, ◌≡◌, ◌+◌, sym, subst, ◌∙◌, 
 use Rattle.std.specs.List.{Contains}
 use Rattle.rate_table.specs.declared.entry.Pair.{Pair}
 use Rattle.rate_table.specs.Pairs.{joined}
-use Rattle.rate_layers.specs.Live.{StandsAt}
+use Rattle.rate_layers.specs.inner.Live.{StandsAt}
 use Rattle.rate_layers.proofs.Fronts.{same_pair}
 use Rattle.rate_layers.proofs.Marked.{marked_at, marked_in}
 use Rattle.rate_layers.proofs.live.leads.Goals as goal

@@ -3,7 +3,7 @@ use Rattle.std.proofs.lemmas.List.{length-map, get_or_default}
 use Rattle.rate_table.specs.Table.{Table, IndicesRise}
 use Rattle.rate_table.specs.Pairs.{joined}
 use Rattle.rate_layers.specs.Layers.{Rises}
-use Rattle.rate_layers.specs.Live.{LeadsOn, IsFirstOn, marked}
+use Rattle.rate_layers.specs.inner.Live.{LeadsOn, IsFirstOn, marked}
 use Rattle.rate_layers.proofs.Fronts.{same_pair}
 use Rattle.rate_layers.proofs.Found.{Walking, items_of, element, entries_at, layer_rises, walk_first, walk_on, walk_more, walk_small, walk_end}
 use Rattle.rate_layers.proofs.live.walk.Goals as goal

@@ -1,5 +1,5 @@
 use Rattle.std.proofs.Common.{◌≡◌, length, take}
-use Rattle.rate_layers.specs.Live.{MarkedMore}
+use Rattle.rate_layers.specs.inner.Live.{MarkedMore}
 use Rattle.rate_layers.proofs.marks.mark_sources.Given as goal
 
 abbrev pub invariant-loop-x : goal.invariant-loop-x

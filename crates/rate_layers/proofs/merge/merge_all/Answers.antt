@@ -2,8 +2,8 @@ use Rattle.std.proofs.Common.{Vec, Global, ◌+◌, [], ◌∷◌, ◌++◌, sym
 use Rattle.std.proofs.lemmas.List.{take_more, take_all}
 use Rattle.rate_table.specs.declared.entry.Entry.{Entry}
 use Rattle.rate_table.specs.declared.entry.Pair.{Pair}
-use Rattle.rate_layers.specs.Bound.{IsNext}
-use Rattle.rate_layers.specs.Merge.{Merged}
+use Rattle.rate_layers.specs.inner.Bound.{IsNext}
+use Rattle.rate_layers.specs.inner.Merge.{Merged}
 use Rattle.rate_layers.proofs.Merges.{next_none, next_push}
 use Rattle.rate_layers.proofs.merge.merge_all.Goals as goal
 

@@ -1,5 +1,5 @@
 use Rattle.std.proofs.Common.{take}
-use Rattle.rate_layers.specs.Bound.{IsNext}
+use Rattle.rate_layers.specs.inner.Bound.{IsNext}
 use Rattle.rate_layers.proofs.merge.merge_all.Given as goal
 
 abbrev pub invariant-loop-x : goal.invariant-loop-x

@@ -3,7 +3,7 @@ use Rattle.std.proofs.lemmas.List.{take_all, drop_all}
 use Rattle.std.proofs.lemmas.Bool.{false≢true}
 use Rattle.rate_table.specs.declared.entry.Pair.{Pair}
 use Rattle.rate_table.specs.Pairs.{joined}
-use Rattle.rate_layers.specs.Merge.{Merging, IsBehind, AreBehind, Offered, Passes}
+use Rattle.rate_layers.specs.inner.Merge.{Merging, IsBehind, AreBehind, Offered, Passes}
 use Rattle.rate_table.proofs.Lists.{contains_none}
 use Rattle.rate_layers.proofs.Merges.{merging_none, step_front, step_layer, step_skip, layer_later, front_later, merged_end, contains_drop}
 use Rattle.rate_layers.proofs.merge.merge_one.Goals as goal

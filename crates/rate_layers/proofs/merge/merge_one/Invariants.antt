@@ -1,5 +1,5 @@
 use Rattle.std.proofs.Common.{length, take, drop, ◌-◌, ◌≤◌, []}
-use Rattle.rate_layers.specs.Merge.{Merging}
+use Rattle.rate_layers.specs.inner.Merge.{Merging}
 use Rattle.rate_layers.proofs.merge.merge_one.Given as goal
 
 abbrev pub invariant-loop-p : goal.invariant-loop-p

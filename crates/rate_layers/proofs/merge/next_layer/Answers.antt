@@ -1,7 +1,7 @@
 use Rattle.std.proofs.Common.{ap, subst}
 use Rattle.rate_layers.specs.declared.merge.Work.{Work}
-use Rattle.rate_layers.specs.Bound.{IsNext}
-use Rattle.rate_layers.specs.Merge.{Thinned}
+use Rattle.rate_layers.specs.inner.Bound.{IsNext}
+use Rattle.rate_layers.specs.inner.Merge.{Thinned}
 use Rattle.rate_layers.proofs.Passings.{next_passing}
 use Rattle.rate_layers.proofs.Thinning.{thinned_trans, next_thinned}
 use Rattle.rate_layers.proofs.merge.next_layer.Goals as goal

@@ -1,6 +1,6 @@
 use Rattle.std.proofs.Common.{sym, subst, refl}
 use Rattle.std.specs.List.{Contains}
-use Rattle.rate_layers.specs.Merge.{Offered}
+use Rattle.rate_layers.specs.inner.Merge.{Offered}
 use Rattle.rate_layers.proofs.Merges.{offered_push}
 use Rattle.rate_layers.proofs.merge.offer.Goals as goal
 

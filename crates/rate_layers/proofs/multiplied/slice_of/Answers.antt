@@ -5,7 +5,7 @@ use Rattle.rate_table.specs.declared.entry.Entry.{Entry}
 use Rattle.rate_table.specs.Table.{IsEntry}
 use Rattle.rate_table.specs.Body.{last_index}
 use Rattle.rate_table.proofs.Behind.{last_index-behind, slice-behind}
-use Rattle.rate_layers.specs.Multiplied.{counted}
+use Rattle.rate_layers.specs.inner.Multiplied.{counted}
 use Rattle.rate_layers.proofs.Onward.{indices_at}
 use Rattle.rate_layers.proofs.multiplied.slice_of.Goals as goal
 

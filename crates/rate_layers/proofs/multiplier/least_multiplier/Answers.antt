@@ -2,7 +2,7 @@ use Rattle.std.proofs.Common.{◌≡◌, ◌+◌, ◌-◌, ◌/◌, ◌≤◌, L
 use Rattle.std.specs.List.{All}
 use Rattle.std.proofs.lemmas.Bool.{false≢true}
 use Rattle.rate_table.specs.declared.entry.Entry.{Entry}
-use Rattle.rate_table.specs.Table.{Table, IsSlice, IsChoice, size_of}
+use Rattle.rate_table.specs.Table.{Table, IsSliceTable, IsChoice, size_of}
 use Rattle.rate_layers.specs.Multiplier.{ArePicks}
 use Rattle.rate_layers.proofs.Picks.{top_picks, none_lower, multiplier_end}
 use Rattle.rate_layers.proofs.multiplier.least_multiplier.Goals as goal
@@ -11,7 +11,7 @@ pub loop-low-init : goal.loop-low-init
 loop-low-init c =
     let slices = c.as_slice-slices.result.now in
     let same : slices ≡ c.args.table.now.slices = c.as_slice-slices.ensures.slices ∙ ap (λ (t : Table). t.slices) c.table.view_is in
-    let ok : All IsSlice slices = subst (λ l. All IsSlice l) (sym c.as_slice-slices.ensures.slices) c.as_slice-slices.ensures.each in
+    let ok : All IsSliceTable slices = subst (λ l. All IsSliceTable l) (sym c.as_slice-slices.ensures.slices) c.as_slice-slices.ensures.each in
     let budget = ap (λ (t : Table). t.budget) c.table.view_is in
     let fixed = ap (λ (t : Table). t.fixed) c.table.view_is in
     let d = c.requires.fits in
@@ -26,7 +26,7 @@ pub loop-low-preserved : goal.loop-low-preserved
 loop-low-preserved c =
     let i = c.loop-low.invariant in
     let slices = c.as_slice-slices.result.now in
-    let ok : All IsSlice slices = subst (λ l. All IsSlice l) (sym c.as_slice-slices.ensures.slices) c.as_slice-slices.ensures.each in
+    let ok : All IsSliceTable slices = subst (λ l. All IsSliceTable l) (sym c.as_slice-slices.ensures.slices) c.as_slice-slices.ensures.each in
     record {
       ends = omega arith;
       limit = i.limit;

@@ -1,5 +1,5 @@
 use Rattle.std.proofs.Common.{◌≤◌, take}
-use Rattle.rate_layers.specs.Merge.{IsFloor}
+use Rattle.rate_layers.specs.inner.Merge.{IsFloor}
 use Rattle.rate_layers.proofs.passing.floor_of.Given as goal
 
 abbrev pub invariant-loop-p : goal.invariant-loop-p

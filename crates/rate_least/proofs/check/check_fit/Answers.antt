@@ -5,7 +5,7 @@ use Rattle.rate_cert.specs.Records.{Asks}
 use Rattle.rate_check.proofs.Answered.{granted}
 use Rattle.rate_least.specs.declared.outcome.WidePair.{WidePair}
 use Rattle.rate_least.specs.Records.{Printed, HasCounts, FailsFit, FailsLayers}
-use Rattle.rate_least.specs.Printed.{of_layers}
+use Rattle.rate_least.specs.inner.Printed.{of_layers}
 use Rattle.rate_least.proofs.Judged.{good_fit, layers_fail}
 use Rattle.rate_least.proofs.check.check_fit.Goals as goal
 

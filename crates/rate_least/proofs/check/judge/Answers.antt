@@ -1,7 +1,7 @@
 use Rattle.std.proofs.Common.{Vec, Global, map, sym, ap}
 use Rattle.rate_least.specs.declared.outcome.WidePair.{WidePair}
 use Rattle.rate_least.specs.Records.{said_by}
-use Rattle.rate_least.specs.Printed.{of_layers}
+use Rattle.rate_least.specs.inner.Printed.{of_layers}
 use Rattle.rate_least.proofs.Judged.{fit_good, fit_fails, none_good, none_fails}
 use Rattle.rate_least.proofs.check.judge.Goals as goal
 

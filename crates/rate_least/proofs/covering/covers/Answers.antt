@@ -2,7 +2,7 @@ use Rattle.std.proofs.Common.{get_or, ap, ◌∙◌, subst, arith, ⊎_elim}
 use Rattle.std.proofs.lemmas.Bool.{cases_lt}
 use Rattle.std.proofs.lemmas.List.{get_or_default}
 use Rattle.rate_table.specs.declared.entry.Entry.{Entry}
-use Rattle.rate_least.specs.Covering.{CoversEntry}
+use Rattle.rate_least.specs.inner.Covering.{CoversEntry}
 use Rattle.rate_check.proofs.Answered.{no, granted, denied}
 use Rattle.rate_least.proofs.Covered.{passes}
 use Rattle.rate_least.proofs.covering.covers.Goals as goal

@@ -1,6 +1,6 @@
 use Rattle.std.proofs.Common.{ℕ, ◌<◌, get_or}
 use Rattle.rate_table.specs.declared.entry.Entry.{Entry}
-use Rattle.rate_least.specs.Covering.{CoversEntry}
+use Rattle.rate_least.specs.inner.Covering.{CoversEntry}
 use Rattle.rate_least.proofs.covering.covers.Given as goal
 
 abbrev pub invariant-loop-entry : goal.invariant-loop-entry

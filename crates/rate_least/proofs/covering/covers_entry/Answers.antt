@@ -1,6 +1,6 @@
 use Rattle.std.proofs.Common.{◌≡◌, ◌+◌, ◌*◌, get_or, ap, arith}
 use Rattle.rate_least.specs.Pairs.{joined}
-use Rattle.rate_least.specs.Covering.{Covers, ReachesTo}
+use Rattle.rate_least.specs.inner.Covering.{Covers, ReachesTo}
 use Rattle.rate_check.proofs.Answered.{yes, no, granted, denied}
 use Rattle.rate_least.proofs.Orders.{no_pair}
 use Rattle.rate_least.proofs.Covered.{uncovered, last_dominates, reaches_on, one_more, not_counted}

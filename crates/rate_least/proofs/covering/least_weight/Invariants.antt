@@ -1,6 +1,6 @@
 use Rattle.std.proofs.Common.{ℕ, ◌<◌, ◌≤◌, ◌^◌, get_or}
 use Rattle.rate_least.specs.declared.outcome.WidePair.{WidePair}
-use Rattle.rate_least.specs.Covering.{weight}
+use Rattle.rate_least.specs.inner.Covering.{weight}
 use Rattle.rate_least.proofs.covering.least_weight.Given as goal
 
 abbrev pub invariant-loop-pair : goal.invariant-loop-pair

@@ -1,5 +1,5 @@
 use Rattle.std.proofs.Common.{◌-◌, ◌≤◌, length}
-use Rattle.rate_least.specs.Covering.{ReachesTo}
+use Rattle.rate_least.specs.inner.Covering.{ReachesTo}
 use Rattle.rate_least.proofs.covering.reach.Given as goal
 
 abbrev pub invariant-loop-at : goal.invariant-loop-at

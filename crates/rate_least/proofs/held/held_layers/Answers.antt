@@ -9,7 +9,7 @@ use Rattle.rate_least.specs.declared.bound.Bound.{Bound}
 use Rattle.rate_least.specs.Pairs.{RisesAndFalls}
 use Rattle.rate_least.specs.Records.{IsNarrow}
 use Rattle.rate_least.specs.Layers.{pairs_in}
-use Rattle.rate_least.specs.Covering.{IsBoundOf}
+use Rattle.rate_least.specs.inner.Covering.{IsBoundOf}
 use Rattle.rate_least.proofs.Covered.{same_product}
 use Rattle.rate_least.proofs.Bounds.{front_first}
 use Rattle.rate_least.proofs.Refused.{capped}

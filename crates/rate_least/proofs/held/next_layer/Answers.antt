@@ -1,5 +1,5 @@
 use Rattle.std.proofs.Common.{subst}
-use Rattle.rate_least.specs.Merge.{IsNext}
+use Rattle.rate_least.specs.inner.Merge.{IsNext}
 use Rattle.rate_least.proofs.Passings.{next_passing}
 use Rattle.rate_least.proofs.held.next_layer.Goals as goal
 

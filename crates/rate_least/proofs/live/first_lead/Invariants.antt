@@ -2,7 +2,7 @@ use Rattle.std.proofs.Common.{ℕ, ◌<◌, get_or}
 use Rattle.std.specs.List.{Contains}
 use Rattle.rate_table.specs.declared.entry.Entry.{Entry}
 use Rattle.rate_least.specs.Pairs.{joined}
-use Rattle.rate_least.specs.Live.{marked}
+use Rattle.rate_least.specs.inner.Live.{marked}
 use Rattle.rate_least.proofs.live.first_lead.Given as goal
 
 -- the entries before lead to none of the marked pairs

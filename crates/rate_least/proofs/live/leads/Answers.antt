@@ -2,7 +2,7 @@ use Rattle.std.proofs.Common.{rules, ◌≡◌, ◌+◌, sym, subst, arith}
 use Rattle.std.specs.List.{Contains}
 use Rattle.rate_least.specs.declared.outcome.WidePair.{WidePair}
 use Rattle.rate_least.specs.Pairs.{joined}
-use Rattle.rate_least.specs.Live.{StandsAt}
+use Rattle.rate_least.specs.inner.Live.{StandsAt}
 use Rattle.rate_least.proofs.Fronts.{same_pair}
 use Rattle.rate_least.proofs.Marked.{marked_at, marked_in}
 use Rattle.rate_least.proofs.live.leads.Goals as goal

@@ -3,7 +3,7 @@ use Rattle.std.proofs.lemmas.List.{length-map}
 use Rattle.rate_table.specs.Table.{Table, IndicesRise}
 use Rattle.rate_least.specs.Pairs.{joined}
 use Rattle.rate_least.specs.Layers.{Rises}
-use Rattle.rate_least.specs.Live.{LeadsOn, IsFirstOn, marked}
+use Rattle.rate_least.specs.inner.Live.{LeadsOn, IsFirstOn, marked}
 use Rattle.rate_least.proofs.Fronts.{same_pair}
 use Rattle.rate_least.proofs.Found.{Walking, items_of, element, marks_in, mark_element, entries_at, layer_rises, walk_first, walk_on, walk_more, walk_small, walk_end}
 use Rattle.rate_least.proofs.live.walk.Goals as goal

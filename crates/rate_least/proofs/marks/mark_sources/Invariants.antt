@@ -1,5 +1,5 @@
 use Rattle.std.proofs.Common.{◌≡◌, length, take}
-use Rattle.rate_least.specs.Live.{MarkedMore}
+use Rattle.rate_least.specs.inner.Live.{MarkedMore}
 use Rattle.rate_least.proofs.marks.mark_sources.Given as goal
 
 abbrev pub invariant-loop-x : goal.invariant-loop-x

@@ -1,7 +1,7 @@
 use Rattle.std.proofs.Common.{◌≡◌, ◌+◌, length, get_or, ap, sym, ◌∙◌, subst, arith}
 use Rattle.std.proofs.lemmas.List.{get_or_default, with_items_is}
 use Rattle.rate_least.specs.declared.outcome.WidePair.{WidePair}
-use Rattle.rate_least.specs.Live.{MarkedMore}
+use Rattle.rate_least.specs.inner.Live.{MarkedMore}
 use Rattle.rate_least.proofs.Marked.{MarkedSo, so_more, so_same, so_end}
 use Rattle.rate_least.proofs.marks.marks_before.Goals as goal
 use Rattle.rate_least.proofs.marks.marks_before.Goals.{then-next_marks-i, else-next_marks-i}

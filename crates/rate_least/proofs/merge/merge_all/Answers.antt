@@ -2,7 +2,7 @@ use Rattle.std.proofs.Common.{Vec, Global, ◌+◌, [], ◌∷◌, ◌++◌, sym
 use Rattle.std.proofs.lemmas.List.{take_more, take_all}
 use Rattle.rate_table.specs.declared.entry.Entry.{Entry}
 use Rattle.rate_least.specs.declared.outcome.WidePair.{WidePair}
-use Rattle.rate_least.specs.Merge.{Merged, IsNext}
+use Rattle.rate_least.specs.inner.Merge.{Merged, IsNext}
 use Rattle.rate_least.proofs.Merges.{next_none, next_push}
 use Rattle.rate_least.proofs.merge.merge_all.Goals as goal
 

@@ -1,5 +1,5 @@
 use Rattle.std.proofs.Common.{take}
-use Rattle.rate_least.specs.Merge.{IsNext}
+use Rattle.rate_least.specs.inner.Merge.{IsNext}
 use Rattle.rate_least.proofs.merge.merge_all.Given as goal
 
 abbrev pub invariant-loop-x : goal.invariant-loop-x

@@ -3,7 +3,7 @@ use Rattle.std.proofs.lemmas.List.{take_all, drop_all}
 use Rattle.std.proofs.lemmas.Bool.{false≢true}
 use Rattle.rate_least.specs.declared.outcome.WidePair.{WidePair}
 use Rattle.rate_least.specs.Pairs.{joined}
-use Rattle.rate_least.specs.Merge.{Merging, IsBehind, AreBehind, Offered, Passes}
+use Rattle.rate_least.specs.inner.Merge.{Merging, IsBehind, AreBehind, Offered, Passes}
 use Rattle.rate_table.proofs.Lists.{contains_none}
 use Rattle.rate_least.proofs.Merges.{merging_none, step_front, step_layer, step_skip, layer_later, front_later, merged_end, contains_drop}
 use Rattle.rate_least.proofs.merge.merge_one.Goals as goal

@@ -1,6 +1,6 @@
 use Rattle.std.proofs.Common.{sym, subst, refl}
 use Rattle.std.specs.List.{Contains}
-use Rattle.rate_least.specs.Merge.{Offered}
+use Rattle.rate_least.specs.inner.Merge.{Offered}
 use Rattle.rate_least.proofs.Merges.{offered_push}
 use Rattle.rate_least.proofs.merge.offer.Goals as goal
 

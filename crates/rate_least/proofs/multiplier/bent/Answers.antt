@@ -4,7 +4,7 @@ use Rattle.std.proofs.lemmas.List.{take_all}
 use Rattle.std.proofs.lemmas.List.Elements.{All-contains, All-more, All-weaker, Contains-get_or}
 use Rattle.std.proofs.lemmas.Bool.{false≢true}
 use Rattle.rate_table.specs.declared.entry.Entry.{Entry}
-use Rattle.rate_least.specs.Bent.{Wins}
+use Rattle.rate_least.specs.inner.Bent.{Wins}
 use Rattle.rate_least.proofs.Bends.{bent_wins, wins_trans, wins_self}
 use Rattle.rate_least.proofs.multiplier.bent.Goals as goal
 use Rattle.rate_least.proofs.multiplier.bent.Goals.{then-not-is_better, else-not-is_better}

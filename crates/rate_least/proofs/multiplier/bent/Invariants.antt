@@ -1,7 +1,7 @@
 use Rattle.std.proofs.Common.{◌≡◌, take}
 use Rattle.std.specs.List.{Contains, All}
 use Rattle.rate_table.specs.Pairs.{cost}
-use Rattle.rate_least.specs.Bent.{Wins}
+use Rattle.rate_least.specs.inner.Bent.{Wins}
 use Rattle.rate_least.proofs.multiplier.bent.Given as goal
 
 -- the best so far is an entry, and is taken rather than each so far

@@ -1,8 +1,8 @@
 use Rattle.std.proofs.Common.{◌≡◌, ◌-◌, ◌/◌, sym, ap, ◌∙◌, subst, arith}
 use Rattle.std.specs.List.{All}
 use Rattle.std.proofs.lemmas.Bool.{false≢true}
-use Rattle.rate_table.specs.Table.{Table, IsSlice, IsChoice}
-use Rattle.rate_least.specs.Held.{IsMultiplier}
+use Rattle.rate_table.specs.Table.{Table, IsSliceTable, IsChoice}
+use Rattle.rate_least.specs.Held.{IsGreatestMultiplier}
 use Rattle.rate_least.proofs.Bends.{first_bend, none_higher}
 use Rattle.rate_least.proofs.multiplier.greatest_multiplier.Goals as goal
 
@@ -10,7 +10,7 @@ pub loop-low-init : goal.loop-low-init
 loop-low-init c =
     let slices = c.as_slice-slices.result.now in
     let same : slices ≡ c.args.table.now.slices = c.as_slice-slices.ensures.slices ∙ ap (λ (t : Table). t.slices) c.table.view_is in
-    let ok : All IsSlice slices = subst (λ l. All IsSlice l) (sym c.as_slice-slices.ensures.slices) c.as_slice-slices.ensures.each in
+    let ok : All IsSliceTable slices = subst (λ l. All IsSliceTable l) (sym c.as_slice-slices.ensures.slices) c.as_slice-slices.ensures.each in
     let d = c.requires.meets in
     record {
       ends = omega arith;
@@ -23,7 +23,7 @@ pub loop-low-preserved : goal.loop-low-preserved
 loop-low-preserved c =
     let i = c.loop-low.invariant in
     let slices = c.as_slice-slices.result.now in
-    let ok : All IsSlice slices = subst (λ l. All IsSlice l) (sym c.as_slice-slices.ensures.slices) c.as_slice-slices.ensures.each in
+    let ok : All IsSliceTable slices = subst (λ l. All IsSliceTable l) (sym c.as_slice-slices.ensures.slices) c.as_slice-slices.ensures.each in
     record {
       ends = omega arith;
       limit = omega (arith, i.limit);
@@ -36,7 +36,7 @@ returns c =
     let i = c.loop-low.invariant in
     let slices = c.as_slice-slices.result.now in
     let same : slices ≡ c.args.table.now.slices = c.as_slice-slices.ensures.slices ∙ ap (λ (t : Table). t.slices) c.table.view_is in
-    subst (λ l. IsMultiplier l c.args.cap c.loop-low.low) same (record {
+    subst (λ l. IsGreatestMultiplier l c.args.cap c.loop-low.low) same (record {
       meets = i.meets;
       limit = omega (arith, i.ends, i.limit);
       greatest = λ n l h. omega (arith, c.loop-low-test.false, i.greatest n l h);

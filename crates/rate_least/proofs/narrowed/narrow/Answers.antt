@@ -2,7 +2,7 @@ use Rattle.std.proofs.Common.{◌≡◌, suc, ◌+◌, ◌-◌, ◌<◌, [], len
 use Rattle.std.proofs.lemmas.List.{length-map}
 use Rattle.rate_table.specs.Table.{Table, least}
 use Rattle.rate_table.specs.Pairs.{cost, rest}
-use Rattle.rate_least.specs.Live.{Capped}
+use Rattle.rate_least.specs.inner.Live.{Capped}
 use Rattle.rate_least.proofs.Asked.{IsKept}
 use Rattle.rate_least.proofs.Bounds.{sum_step}
 use Rattle.rate_least.proofs.Covered.{same_product}

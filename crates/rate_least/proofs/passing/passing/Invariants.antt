@@ -1,7 +1,7 @@
 use Rattle.std.proofs.Common.{take}
 use Rattle.std.specs.List.{All}
 use Rattle.rate_table.specs.Table.{IsEntry}
-use Rattle.rate_least.specs.Merge.{Passing}
+use Rattle.rate_least.specs.inner.Merge.{Passing}
 use Rattle.rate_least.proofs.passing.passing.Given as goal
 
 abbrev pub invariant-loop-x : goal.invariant-loop-x

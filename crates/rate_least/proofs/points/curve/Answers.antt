@@ -5,7 +5,7 @@ use Rattle.rate_table.specs.Table.{Table, IsTable}
 use Rattle.rate_least.specs.declared.outcome.WidePair.{WidePair}
 use Rattle.rate_least.specs.declared.bound.Bound.{Bound}
 use Rattle.rate_least.specs.Records.{IsNarrow}
-use Rattle.rate_least.specs.Merge.{IsNext}
+use Rattle.rate_least.specs.inner.Merge.{IsNext}
 use Rattle.rate_least.proofs.Stepped.{entries_at}
 use Rattle.rate_least.proofs.Curved.{Curved, curved_first, curved_push, joins_small, points_narrow, points_small, curves_pass, curves_stay, curve_is}
 use Rattle.rate_least.proofs.points.curve.Goals as goal

@@ -7,7 +7,7 @@ use Rattle.rate_check.proofs.Answered.{yes, no, granted, denied}
 use Rattle.rate_least.specs.declared.outcome.WidePair.{WidePair}
 use Rattle.rate_least.specs.Pairs.{RisesAndFalls, least_error}
 use Rattle.rate_least.specs.Records.{IsNarrow}
-use Rattle.rate_least.specs.Printed.{of_layers}
+use Rattle.rate_least.specs.inner.Printed.{of_layers}
 use Rattle.rate_least.proofs.Covered.{same_product}
 use Rattle.rate_least.proofs.Vectors.{items_of, element}
 use Rattle.rate_least.proofs.Stepped.{StepsAt, entries_at, bound_next, errors_next, costs_next, until_more, step_is, all_by_number, number_of_all}

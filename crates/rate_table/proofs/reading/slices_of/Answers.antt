@@ -1,7 +1,7 @@
 use Rattle.std.proofs.Common.{◌∷◌, [], arith, rules, length-append}
 use Rattle.std.proofs.lemmas.Result.{err_from_is_err_and}
 use Rattle.std.proofs.lemmas.List.Elements.{All-push}
-use Rattle.rate_table.specs.Table.{IsSlice}
+use Rattle.rate_table.specs.Table.{IsSliceTable}
 use Rattle.rate_table.proofs.InTurn.{slices-more, slices-end, slices-all}
 use Rattle.rate_table.proofs.reading.slices_of.Goals as goal
 
@@ -19,7 +19,7 @@ loop-preserved g c =
     rw c.in_ok-push.ensures.items (record {
       count = omega (arith, length-append c.loop.slices.items (es ∷ []));
       place = search rules;
-      each = All-push IsSlice c.loop.slices.items es c.loop.invariant.each c.in_ok-slice.ensures.slice;
+      each = All-push IsSliceTable c.loop.slices.items es c.loop.invariant.each c.in_ok-slice.ensures.slice;
       told = λ h. c.in_ok-slice.ensures.bytes.told (c.loop.invariant.told h);
       bytes = λ h. slices-more c.loop.slices.items c.args.count c.loop.counter _ _ es _ c.loop-test.true (c.in_ok-slice.ensures.bytes.answer (c.loop.invariant.told h)) (c.loop.invariant.bytes h);
       becomes = λ first h. c.in_ok-slice.ensures.becomes first (c.loop.invariant.becomes first h);

@@ -1,7 +1,7 @@
 use Rattle.std.proofs.Common.{◌≡◌, ◌+◌, ◌-◌, ◌*◌, ◌≤◌, length}
 use Rattle.std.specs.Prelude.{IsSome}
 use Rattle.std.specs.List.{All}
-use Rattle.rate_table.specs.Table.{IsSlice}
+use Rattle.rate_table.specs.Table.{IsSliceTable}
 use Rattle.pw_outside.specs.Ports.{GoesOn}
 use Rattle.pw_outside.specs.Reading.{rest_of}
 use Rattle.rate_table.specs.Reading.{slices_at}
@@ -12,7 +12,7 @@ abbrev pub invariant-loop : goal.invariant-loop
 invariant-loop g l = record {
   count : length l.slices.items ≡ l.counter;
   place : l.place ≤ l.initial.place + 2465 * l.counter;
-  each : All IsSlice l.slices.items;
+  each : All IsSliceTable l.slices.items;
   told : IsSome (g.S.ByteSource.left l.initial.source) → IsSome (g.S.ByteSource.left l.source);
   bytes : IsSome (g.S.ByteSource.left l.initial.source)
       → with_front l.slices.items (slices_at (l.count - l.counter) (rest_of l.place (g.S.ByteSource.left l.source)))

@@ -22,7 +22,7 @@ returns-clause-best c =
     record {
       best = choice_at slices number;
       is_best = best_of-is_best c.args.table.now (choice_at slices number) (subst (λ t. IsTable t) c.table.view_is c.table.invariant) c.in-Some-best_at.ensures.best;
-      has_indices = sym (c.in_ok-choice_of-in-Some-best_at.ensures ∙ ap (λ l. indices (choice_at l number)) slices_are);
-      has_size = ap (λ (s : Sums). s.size) (sym sums);
-      has_error = ap (λ (s : Sums). s.error) (sym errors);
+      choice = c.in_ok-choice_of-in-Some-best_at.ensures ∙ ap (λ l. indices (choice_at l number)) slices_are;
+      size = ap (λ (s : Sums). s.size) sums;
+      error = ap (λ (s : Sums). s.error) errors;
     }

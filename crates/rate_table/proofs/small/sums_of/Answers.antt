@@ -1,7 +1,7 @@
 use Rattle.std.proofs.Common.{◌≡◌, ℕ, List, ◌∷◌, ◌-◌, ◌+◌, ◌<◌, [], arith, drop, length, ◌∙◌, ap, sym}
 use Rattle.std.proofs.lemmas.List.{drop_more, length-drop, get_or_read}
 use Rattle.rate_table.specs.declared.entry.Entry.{Entry}
-use Rattle.rate_table.specs.Table.{IsSlice}
+use Rattle.rate_table.specs.Table.{IsSliceTable}
 use Rattle.rate_table.specs.Small.{all_sums}
 use Rattle.std.proofs.lemmas.List.Elements.{All-drop}
 use Rattle.rate_table.proofs.Numbered.{sums-small, all_sums-cons, length-all_sums}
@@ -9,7 +9,7 @@ use Rattle.rate_table.proofs.small.sums_of.Goals as goal
 
 pub extended-requires : goal.extended-requires
 extended-requires c =
-    rw (c.deref.ensures.value, c.loop-i.invariant.1) (sums-small (drop c.loop-i.i c.args.slices.now) (All-drop IsSlice c.loop-i.i c.args.slices.now c.requires.each) (omega (arith, length-drop c.loop-i.i c.args.slices.now, c.requires.few)))
+    rw (c.deref.ensures.value, c.loop-i.invariant.1) (sums-small (drop c.loop-i.i c.args.slices.now) (All-drop IsSliceTable c.loop-i.i c.args.slices.now c.requires.each) (omega (arith, length-drop c.loop-i.i c.args.slices.now, c.requires.few)))
 
 pub loop-i-preserved : goal.loop-i-preserved
 loop-i-preserved c =

@@ -1,7 +1,7 @@
 use Rattle.std.proofs.Common.{subst, []}
 use Rattle.pw_outside.proofs.Puts.{puts_none}
 use Rattle.rescue_run.specs.Rescuing.{world, rescue_text}
-use Rattle.rescue_run.specs.Steps.{FinishIs}
+use Rattle.rescue_run.specs.inner.Steps.{FinishIs}
 use Rattle.rescue_run.proofs.Ending.{finish_then}
 use Rattle.rescue_run.proofs.finish.finish.Goals as goal
 

@@ -1,10 +1,9 @@
 use Rattle.std.proofs.Common.{◌≡◌, ◌-◌, ◌≤◌}
 use Rattle.std.specs.Prelude.{IsSome}
 use Rattle.pw_outside.specs.Reading.{bytes_of}
-use Rattle.pw_outside.specs.Writing.{sink_state}
-use Rattle.rescue_run.specs.Rescuing.{Extends}
-use Rattle.rescue_run.specs.Windows.{Shows}
-use Rattle.rescue_run.specs.Steps.{AreKept, GatheredUpTo}
+use Rattle.pw_outside.specs.Writing.{sink_state, Extends}
+use Rattle.rescue_run.specs.inner.Windows.{Shows}
+use Rattle.rescue_run.specs.inner.Steps.{AreKept, GatheredUpTo}
 use Rattle.rescue_run.proofs.gather.gather_all.Given as goal
 
 abbrev pub invariant-loop-place : goal.invariant-loop-place

@@ -2,8 +2,8 @@ use Rattle.std.proofs.Common.{rules, ◌≤◌, arith, subst, sym}
 use Rattle.std.specs.Prelude.{IsSome}
 use Rattle.pw_outside.specs.Reading.{bytes_of}
 use Rattle.pw_outside.specs.Writing.{SinkState, sink_state}
-use Rattle.rescue_run.specs.Windows.{NoMark, FindsMark}
-use Rattle.rescue_run.specs.Steps.{GatheredUpTo, GoesFrom}
+use Rattle.rescue_run.specs.inner.Windows.{NoMark, FindsMark}
+use Rattle.rescue_run.specs.inner.Steps.{GatheredUpTo, GoesFrom}
 use Rattle.rescue_run.proofs.Turning.{gathered_further, stopped_here}
 use Rattle.rescue_run.proofs.gather.step.Goals as goal
 

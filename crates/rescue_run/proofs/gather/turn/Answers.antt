@@ -3,7 +3,7 @@ use Rattle.std.specs.Prelude.{Err, IsSome, IfSome}
 use Rattle.pw_outside.specs.Reading.{bytes_of}
 use Rattle.pw_outside.specs.Writing.{sink_state}
 use Rattle.qt_atoms.specs.Atoms.{bytes_in}
-use Rattle.rescue_run.specs.Steps.{TakingIs, GatheredUpTo, extents_in}
+use Rattle.rescue_run.specs.inner.Steps.{TakingIs, GatheredUpTo, extents_in}
 use Rattle.rescue_run.proofs.Turning.{goes_err, halted_reading, halted_taking, judged_some, judged_none, gathered_one, gathered_none}
 use Rattle.rescue_run.proofs.gather.turn.Goals as goal
 

@@ -1,10 +1,9 @@
 use Rattle.std.proofs.Common.{◌≡◌, ◌-◌, ◌≤◌}
 use Rattle.std.specs.Prelude.{IsSome}
 use Rattle.pw_outside.specs.Reading.{bytes_of}
-use Rattle.pw_outside.specs.Writing.{sink_state, Puts}
+use Rattle.pw_outside.specs.Writing.{sink_state, Puts, Extends}
 use Rattle.qt_atoms.specs.Atoms.{bytes_in}
-use Rattle.rescue_run.specs.Rescuing.{Extends}
-use Rattle.rescue_run.specs.Windows.{Shows}
+use Rattle.rescue_run.specs.inner.Windows.{Shows}
 use Rattle.rescue_run.proofs.gathering.copy_bytes.Given as goal
 
 abbrev pub invariant-loop-next : goal.invariant-loop-next

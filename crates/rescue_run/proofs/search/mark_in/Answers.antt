@@ -1,6 +1,6 @@
 use Rattle.std.proofs.Common.{refl, subst, ◌-◌, take, drop}
 use Rattle.std.specs.Prelude.{Some, None}
-use Rattle.rescue_run.specs.Windows.{IsFirstMark}
+use Rattle.rescue_run.specs.inner.Windows.{IsFirstMark}
 use Rattle.rescue_run.proofs.Marks.{mark_of}
 use Rattle.rescue_run.proofs.search.mark_in.Goals as goal
 

@@ -1,7 +1,7 @@
 use Rattle.std.proofs.Common.{◌≡◌, ◌-◌, ◌≤◌}
 use Rattle.std.specs.Prelude.{IsSome}
 use Rattle.pw_outside.specs.Reading.{bytes_of}
-use Rattle.rescue_run.specs.Windows.{Shows, NoMark}
+use Rattle.rescue_run.specs.inner.Windows.{Shows, NoMark}
 use Rattle.rescue_run.proofs.search.next_mark.Given as goal
 
 abbrev pub invariant-loop-place : goal.invariant-loop-place

@@ -1,10 +1,10 @@
 use Rattle.std.proofs.Common.{◌<◌, ◌^◌, refl, arith, List, ℕ, [], ◌∷◌, ◌++◌, length, ap, sym, subst, ◌∙◌}
 use Rattle.pw_outside.specs.Writing.{Puts, PutsFront}
-use Rattle.pr_frame.specs.Written.{written}
+use Rattle.pr_frame.specs.Written.{coded_bytes}
 use Rattle.qt_movie.specs.MovieBytes.{frame_bytes}
 use Rattle.std.specs.List.{All}
 use Rattle.std.proofs.lemmas.List.Elements.{All-take, All-drop}
-use Rattle.rate_table.specs.Table.{Table, IsSlice}
+use Rattle.rate_table.specs.Table.{Table, IsSliceTable}
 use Rattle.rate_build.specs.Coding.{coded_frame}
 use Rattle.run_encode.specs.Groups.{header_in}
 use Rattle.run_encode.specs.Outputs.{state_of}
@@ -17,7 +17,7 @@ frames-init g c = record {
   written = none-written _ _ _ _ _ _ c.args.table.now
       (c.as_slice-slices.ensures.slices ∙ ap (λ (x : Table). x.slices) c.table.view_is) c.requires.table c.requires.frames
       (subst (λ (x : Table). x.budget < 2 ^ 31) c.table.view_is c.table.invariant.budget_limit) c.requires.choice (g.met.K.ByteSink.counts c.args.out.now).1;
-  each = subst (All IsSlice) (sym c.as_slice-slices.ensures.slices) c.as_slice-slices.ensures.each;
+  each = subst (All IsSliceTable) (sym c.as_slice-slices.ensures.slices) c.as_slice-slices.ensures.each;
   head = refl;
   spare = omega (arith, c.requires.spare);
   cause = refl;
@@ -45,7 +45,7 @@ write_one-requires-clause-slices g c =
     (here-part _ _ _ is _ _ _ _ c.slices_in-count.ensures.value _ s.left_is _ _ c.split_at.ensures.front c.split_at-in-frames.ensures.front).0
 
 pub write_one-requires-clause-each : goal.write_one-requires-clause-each
-write_one-requires-clause-each g c = subst (All IsSlice) (sym c.split_at.ensures.front) (All-take IsSlice _ _ c.frames.invariant.each)
+write_one-requires-clause-each g c = subst (All IsSliceTable) (sym c.split_at.ensures.front) (All-take IsSliceTable _ _ c.frames.invariant.each)
 
 pub write_one-requires-clause-choice : goal.write_one-requires-clause-choice
 write_one-requires-clause-choice g c =
@@ -59,20 +59,20 @@ returns-in_err-write_one-clause-err g c =
     let s = current _ _ _ c.frame-item.result _ _ _ _ _ _ _ c.frames-test.true c.frame-item.is c.frames.invariant.written in
     any_err c.from_residual.result (front-all _ _ _ is _ _ _ _ c.slices_in-count.ensures.value _ s.left_is _ _ _ s.puts
     (subst (λ choice. PutsFront (state_of g.K.ByteSink.held g.K.ByteSink.taken c.frames.out) (state_of g.K.ByteSink.held g.K.ByteSink.taken c.write_one.new.out)
-    (frame_bytes (written (coded_frame c.frame-item.result (header_in c.args.job.now) choice)))) c.split_at-in-frames.ensures.front c.in_err-write_one.ensures.err))
+    (frame_bytes (coded_bytes (coded_frame c.frame-item.result (header_in c.args.job.now) choice)))) c.split_at-in-frames.ensures.front c.in_err-write_one.ensures.err))
 
 pub frames-preserved : goal.frames-preserved
 frames-preserved g c =
     let is = frame-is c.args.job.now c.args.frames.now c.frames.frame-index c.frame-item.result c.frames-test.true c.frame-item.is c.requires.frames in
     let s = current _ _ _ c.frame-item.result _ _ _ _ _ _ _ c.frames-test.true c.frame-item.is c.frames.invariant.written in
-    let f = λ (choice : List ℕ). written (coded_frame c.frame-item.result (header_in c.args.job.now) choice) in
+    let f = λ (choice : List ℕ). coded_bytes (coded_frame c.frame-item.result (header_in c.args.job.now) choice) in
     record {
       written = moved _ _ _ _ _ _ _ _ _ _ _ _ (sym c.split_at.ensures.back) (sym c.split_at-in-frames.ensures.back)
           (frame-more _ _ _ is _ _ _ _ c.slices_in-count.ensures.value _ _ _ _ _ _ _ s
           (subst (λ choice. Puts (state_of g.K.ByteSink.held g.K.ByteSink.taken c.frames.out) (state_of g.K.ByteSink.held g.K.ByteSink.taken c.write_one.new.out) (frame_bytes (f choice)))
           c.split_at-in-frames.ensures.front c.in_ok-write_one.ensures.ok)
           (c.in_ok-write_one.ensures.sizes ∙ ap (λ choice. c.frames.movie.sizes ++ length (f choice) ∷ []) c.split_at-in-frames.ensures.front));
-      each = subst (All IsSlice) (sym c.split_at.ensures.back) (All-drop IsSlice _ _ c.frames.invariant.each);
+      each = subst (All IsSliceTable) (sym c.split_at.ensures.back) (All-drop IsSliceTable _ _ c.frames.invariant.each);
       head = c.in_ok-write_one.ensures.head ∙ c.frames.invariant.head;
       spare = omega (arith, c.in_ok-write_one.ensures.spare_left, c.frames.invariant.spare);
       cause = c.in_ok-write_one.ensures.cause.kept ∙ c.frames.invariant.cause;

@@ -1,8 +1,8 @@
 use Rattle.std.proofs.Common.{◌≡◌, ◌-◌, ◌+◌, ◌≤◌, length, IsSome}
 use Rattle.pic_y4m.specs.declared.head.TheConstants.{MAX_FRAMES}
 use Rattle.pic_raw.specs.Any.{IsReader, head_of, frames_of}
-use Rattle.run_encode.specs.Outputs.{outputs, Extends}
-use Rattle.run_encode.specs.Steps.{IsOpen, counts_of, left_by, WholeGroups}
+use Rattle.run_encode.specs.Outputs.{outputs, ExtendsAll}
+use Rattle.run_encode.specs.inner.Steps.{IsOpen, counts_of, left_by, WholeGroups}
 use Rattle.run_encode.proofs.groups.encode_groups.Given as goal
 
 abbrev pub invariant-groups : goal.invariant-groups
@@ -11,7 +11,7 @@ invariant-groups g l = record {
   done : IsSome (g.S.ByteSource.left l.initial.pictures) → WholeGroups l.job (left_by l.initial.reader (g.S.ByteSource.left l.initial.pictures)) (left_by l.reader (g.S.ByteSource.left l.pictures))
       (frames_of l.reader) (counts_of l.movie l.proof)
       (outputs g.K.ByteSink.held g.K.ByteSink.taken l.initial.out l.initial.cert l.initial.text) (outputs g.K.ByteSink.held g.K.ByteSink.taken l.out l.cert l.text);
-  extends : Extends (outputs g.K.ByteSink.held g.K.ByteSink.taken l.initial.out l.initial.cert l.initial.text) (outputs g.K.ByteSink.held g.K.ByteSink.taken l.out l.cert l.text);
+  extends : ExtendsAll (outputs g.K.ByteSink.held g.K.ByteSink.taken l.initial.out l.initial.cert l.initial.text) (outputs g.K.ByteSink.held g.K.ByteSink.taken l.out l.cert l.text);
   head : l.movie.head ≡ l.initial.movie.head;
   form : head_of l.reader ≡ head_of l.initial.reader;
   reader : IsReader l.reader;

@@ -1,7 +1,7 @@
 use Rattle.std.proofs.Common.{◌+◌, ◌*◌, ◌++◌, ap, sym, subst, ◌∙◌, take}
 use Rattle.std.specs.List.{All}
 use Rattle.std.proofs.lemmas.List.Elements.{All-take, All-drop}
-use Rattle.rate_table.specs.Table.{Table, IsSlice, IsChoice}
+use Rattle.rate_table.specs.Table.{Table, IsSliceTable, IsChoice}
 use Rattle.run_encode.specs.Encoding.{frame_line}
 use Rattle.run_encode.proofs.Lining.{AreFirstLines, no-lines, all-lines, line-more, enough-slices, enough-choice, part-here, behind-next, from-first}
 use Rattle.run_encode.proofs.lines.lines_for.Goals as goal
@@ -25,8 +25,8 @@ split_at-requires-in-frames c =
 pub part_sums-sums-requires-clause-each : goal.part_sums-sums-requires-clause-each
 part_sums-sums-requires-clause-each c =
     let n = c.slices_in-count.result in
-    subst (All IsSlice) (sym (c.split_at.ensures.front ∙ ap (take n) c.frames.invariant.slices))
-    (All-take IsSlice n _ (All-drop IsSlice (n * c.frames.k) _ (subst (λ (x : Table). All IsSlice x.slices) c.table.view_is c.table.invariant.each)))
+    subst (All IsSliceTable) (sym (c.split_at.ensures.front ∙ ap (take n) c.frames.invariant.slices))
+    (All-take IsSliceTable n _ (All-drop IsSliceTable (n * c.frames.k) _ (subst (λ (x : Table). All IsSliceTable x.slices) c.table.view_is c.table.invariant.each)))
 
 pub part_sums-sums-requires-clause-choice : goal.part_sums-sums-requires-clause-choice
 part_sums-sums-requires-clause-choice c =

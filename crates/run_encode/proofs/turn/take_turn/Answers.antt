@@ -1,7 +1,7 @@
 use Rattle.std.proofs.Common.{◌≡◌, ◌<◌, ◌≤◌, arith, length, ap, ◌∙◌}
 use Rattle.std.proofs.lemmas.List.{length-map}
 use Rattle.run_encode.specs.Groups.{coefficients_in}
-use Rattle.run_encode.specs.Steps.{counts_of}
+use Rattle.run_encode.specs.inner.Steps.{counts_of}
 use Rattle.run_encode.proofs.Beginning.{nothing-put}
 use Rattle.run_encode.proofs.Extending.{none-extends, all-extends, stops-extends}
 use Rattle.run_encode.proofs.Turning.{wrote, stopped, unread, counts-kept, nonempty, frames-number}

@@ -1,5 +1,5 @@
 use Rattle.std.proofs.Common.{get_or, sym, subst, arith}
-use Rattle.rate_build.specs.Measures.{IsMultiplier}
+use Rattle.rate_build.specs.Measures.{IsFrameMultiplier}
 use Rattle.rate_build.proofs.Small.{are_multipliers}
 use Rattle.rate_check.proofs.Answered.{yes, no, denied}
 use Rattle.run_look.proofs.Alike.{part_number, part_at, part_whole}
@@ -10,7 +10,7 @@ returns-then-coded-blocks c = no (λ e. c.if-coded-blocks.true (part_number c.ar
 
 pub is_quantised-requires-clause-multipliers : goal.is_quantised-requires-clause-multipliers
 is_quantised-requires-clause-multipliers c = λ p h.
-    subst (λ ms. IsMultiplier (get_or ms p 0)) (sym c.multipliers_for-multipliers.ensures) (are_multipliers c.args.weights.now c.args.index c.told-weights c.requires.weights c.requires.index.least c.requires.index.most p h)
+    subst (λ ms. IsFrameMultiplier (get_or ms p 0)) (sym c.multipliers_for-multipliers.ensures) (are_multipliers c.args.weights.now c.args.index c.told-weights c.requires.weights c.requires.index.least c.requires.index.most p h)
 
 pub returns-then-not-is_quantised : goal.returns-then-not-is_quantised
 returns-then-not-is_quantised c = no (λ e.

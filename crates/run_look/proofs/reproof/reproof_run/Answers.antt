@@ -6,7 +6,7 @@ use Rattle.pw_outside.specs.Writing.{sink_state, Puts}
 use Rattle.pw_outside.proofs.Puts.{puts_none}
 use Rattle.run_look.specs.Ends.{is_done}
 use Rattle.run_look.specs.Reproofing.{reproofed, PutsUntil, IsProofIn}
-use Rattle.run_look.specs.Through.{GaveBytes-same}
+use Rattle.run_look.specs.inner.Through.{GaveBytes-same}
 use Rattle.run_look.proofs.Gave.{gave_all}
 use Rattle.run_look.proofs.Staying.{same_put}
 use Rattle.run_look.proofs.Reproofed.{printed_cert, no_text}

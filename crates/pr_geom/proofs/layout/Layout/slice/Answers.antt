@@ -3,7 +3,7 @@ use Rattle.std.proofs.Math.Pow.{pow_mono}
 use Rattle.std.proofs.lemmas.List.{get_or_default}
 use Rattle.pr_geom.specs.declared.places.SlicePlace.{SlicePlace}
 use Rattle.pr_geom.specs.Slices.{row_widths, no_slice}
-use Rattle.pr_geom.specs.Spots.{spot}
+use Rattle.pr_geom.specs.inner.Spots.{spot}
 use Rattle.pr_geom.specs.Layout.{columns_of, rows_of, slices_of}
 use Rattle.pr_geom.proofs.SliceLemmas.{some_slices, in_row, row_below, slice_is, slice_bounds, spot_width, height_small}
 use Rattle.pr_geom.proofs.layout.Layout.slice.Goals as goal

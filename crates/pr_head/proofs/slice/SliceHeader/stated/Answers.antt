@@ -1,4 +1,4 @@
-use Rattle.pr_head.specs.Steps.{stated_in}
+use Rattle.pr_head.specs.inner.Steps.{stated_in}
 use Rattle.pr_head.proofs.slice.SliceHeader.stated.Goals as goal
 
 pub returns-clause-value : goal.returns-clause-value

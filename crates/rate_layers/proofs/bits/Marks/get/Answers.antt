@@ -2,7 +2,7 @@ use Rattle.std.proofs.Common.{◌≡◌, ◌/◌, ◌%◌, ◌<◌, length, get_
 use Rattle.std.specs.Int.{bit_at}
 use Rattle.std.proofs.lemmas.List.{get_or_default}
 use Rattle.std.proofs.lemmas.Nat.Bits.{shr_and_one}
-use Rattle.rate_layers.specs.Bits.{marks_in}
+use Rattle.rate_layers.specs.inner.Bits.{marks_in}
 use Rattle.rate_layers.proofs.InWords.{marks_length, mark_at, has_word}
 use Rattle.rate_layers.proofs.bits.Marks.get.Goals as goal
 

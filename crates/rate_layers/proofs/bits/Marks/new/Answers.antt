@@ -1,6 +1,6 @@
 use Rattle.std.proofs.Common.{◌≡◌, replicate, ap, ◌∙◌, arith}
 use Rattle.std.proofs.lemmas.Grind.{div_ceil_times}
-use Rattle.rate_layers.specs.Bits.{marks_in}
+use Rattle.rate_layers.specs.inner.Bits.{marks_in}
 use Rattle.rate_layers.proofs.InWords.{none_set}
 use Rattle.rate_layers.proofs.bits.Marks.new.Goals as goal
 

@@ -1,6 +1,6 @@
 use Rattle.std.proofs.Common.{◌≡◌, ◌/◌, ◌<◌, length, set, true, ap, ◌∙◌, arith}
 use Rattle.std.proofs.lemmas.List.{get_or_default}
-use Rattle.rate_layers.specs.Bits.{marks_in}
+use Rattle.rate_layers.specs.inner.Bits.{marks_in}
 use Rattle.rate_layers.proofs.InWords.{marks_length, has_word, set_one}
 use Rattle.rate_layers.proofs.bits.Marks.set.Goals as goal
 

@@ -1,0 +1,14 @@
+pub mod Bodies
+pub mod Forms
+pub mod EqualRuns
+pub mod PicturesRead
+pub mod PicturesRuns
+pub mod PicturesPlaced
+pub mod Pictures
+pub mod SoundRuns
+pub mod SoundShares
+pub mod SoundBytes
+pub mod SoundFields
+pub mod SoundTrack
+pub mod SoundTaken
+pub mod Both

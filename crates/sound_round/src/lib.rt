@@ -1,0 +1,6 @@
+//! What was put beside the pictures of a movie is read again: its pictures, and its sound. Laws alone, over the definitions of `pcm_track` and `qt_movie`.
+#![tactic(auto)]
+
+mod laws;
+
+pub use laws::{added_is_read_again, added_pictures_are_read, added_sound_is_taken_out};
