@@ -1,11 +1,11 @@
 //! A reader of pictures in any form.
 
-ghost use Rattle.std.specs.Prelude.{◌≡◌, IfOk, IfSome};
+ghost use Rattle.std.specs.Prelude.{◌≡◌, IfOk, IfSome, false};
 ghost use Rattle.std.specs.Io.KnownBytes.{IsAtEnd};
 ghost use Rattle.std.specs.Option.{IfNone};
 ghost use Rattle.pw_outside.specs.Ports.{CountsFault, GoesOn};
 ghost use Rattle.pw_outside.specs.Reading.{Gives};
-ghost use Rattle.pic_y4m.specs.Faults.{told_fault, is_failed};
+ghost use Rattle.pic_y4m.specs.Faults.{told_fault, is_failed, is_out_of_memory};
 ghost use Rattle.pic_y4m.specs.HeadLine.{IsHead};
 
 use crate::reader::RawReader;
@@ -45,6 +45,8 @@ impl AnyReader {
         ensures becomes { GoesOn S.becomes source.old source.new }
         // The error is `Failed` only where a call of the source failed, and each such call is answered by it.
         ensures cause { CountsFault (S.faults source.old) (S.faults source.new) (is_failed result) }
+        // No memory is taken.
+        ensures memory { is_out_of_memory result ≡ false }
     {
         match form {
             Some(head) => Ok(AnyReader::Raw(RawReader::new(head))),

@@ -3,7 +3,7 @@
 ghost use Rattle.std.specs.Prelude.{◌≡◌, ◌<◌, ◌≤◌, ◌^◌, IfOk, length, false};
 ghost use Rattle.pw_outside.specs.Ports.{CountsFault, GoesOn};
 ghost use Rattle.pw_outside.specs.Reading.{Gives, Answers};
-ghost use Rattle.pic_y4m.specs.Faults.{told_fault, is_failed};
+ghost use Rattle.pic_y4m.specs.Faults.{told_fault, is_failed, is_out_of_memory};
 ghost use Rattle.pic_y4m.specs.Line.{magic_at};
 ghost use Rattle.pic_y4m.specs.Parameters.{AreWithin};
 ghost use Rattle.pic_y4m.specs.HeadLine.{mode_allowed, stream_of, text_stream, stream_at, IsStream};
@@ -33,6 +33,7 @@ fn magic_of<S: ByteSource>(source: &mut S) -> Result<(), PictureFault>
     ensures bytes { Gives told_fault (λ x. x) (S.left source.old) (S.left source.new) 0 9 result magic_at }
     ensures becomes { GoesOn S.becomes source.old source.new }
     ensures cause { CountsFault (S.faults source.old) (S.faults source.new) (is_failed result) }
+    ensures memory { is_out_of_memory result ≡ false }
 {
     let mut piece = [0u8; 9];
     let count = fill(source, &mut piece)?;
@@ -50,6 +51,7 @@ fn magic_of<S: ByteSource>(source: &mut S) -> Result<(), PictureFault>
 fn check_mode(found: &Parameters, format: Format) -> Result<(), PictureFault>
     ensures answer { Answers told_fault (λ x. x) result (mode_allowed found.now format) }
     ensures pure { is_failed result ≡ false }
+    ensures memory { is_out_of_memory result ≡ false }
 {
     let Some(mode) = found.mode else {
         return Ok(());
@@ -74,6 +76,7 @@ fn stream_of(found: &Parameters) -> Result<Stream, PictureFault>
     ensures answer { Answers told_fault (λ x. x) result (stream_of found.now) }
     ensures stream { IfOk result IsStream }
     ensures pure { is_failed result ≡ false }
+    ensures memory { is_out_of_memory result ≡ false }
 {
     let format = found.format.unwrap_or(Format {
         chroma: Chroma::C422,
@@ -114,6 +117,7 @@ fn text_stream(text: &[u8]) -> Result<Stream, PictureFault>
     ensures answer { Answers told_fault (λ x. x) result (text_stream text.now) }
     ensures stream { IfOk result IsStream }
     ensures pure { is_failed result ≡ false }
+    ensures memory { is_out_of_memory result ≡ false }
 {
     if !text.is_empty() && text[0] != b' ' {
         return Err(bad(PictureKind::Parameter, 9));
@@ -133,6 +137,7 @@ pub(crate) fn stream_at<S: ByteSource>(
     ensures place { place.new ≤ 1024 }
     ensures becomes { GoesOn S.becomes source.old source.new }
     ensures cause { CountsFault (S.faults source.old) (S.faults source.new) (is_failed result) }
+    ensures memory { is_out_of_memory result ≡ false }
 {
     *place = 9;
     magic_of(source)?;

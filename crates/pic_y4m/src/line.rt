@@ -1,11 +1,11 @@
 //! One line of an input.
 
-ghost use Rattle.std.specs.Prelude.{◌≡◌, ◌+◌, ◌<◌, ◌≤◌, ◌^◌, IfOk, IfSome, length};
+ghost use Rattle.std.specs.Prelude.{◌≡◌, ◌+◌, ◌<◌, ◌≤◌, ◌^◌, IfOk, IfSome, length, false};
 ghost use Rattle.std.specs.Io.KnownBytes.{IsAtEnd};
 ghost use Rattle.std.specs.Option.{IfNone};
 ghost use Rattle.pw_outside.specs.Ports.{CountsFault, GoesOn};
 ghost use Rattle.pw_outside.specs.Reading.{Gives};
-ghost use Rattle.pic_y4m.specs.Faults.{told_fault, is_failed};
+ghost use Rattle.pic_y4m.specs.Faults.{told_fault, is_failed, is_out_of_memory};
 ghost use Rattle.pic_y4m.specs.Line.{next_line};
 
 use crate::bytes::next_byte;
@@ -60,6 +60,7 @@ pub(crate) fn line_of<S: ByteSource>(
     ensures end { IfOk result (λ line. IfNone line (IsAtEnd (S.left source.new))) }
     ensures becomes { GoesOn S.becomes source.old source.new }
     ensures cause { CountsFault (S.faults source.old) (S.faults source.new) (is_failed result) }
+    ensures memory { is_out_of_memory result ≡ false }
 {
     let mut bytes: ArrayVec<u8, 1024> = ArrayVec::new();
     for _ in 0..most {

@@ -3,7 +3,7 @@
 ghost use Rattle.std.specs.Prelude.{◌≡◌, ◌+◌, ◌<◌, ◌≤◌, ◌^◌, IfOk, length, position, false};
 ghost use Rattle.std.specs.List.{position_or_len, slice_split};
 ghost use Rattle.pw_outside.specs.Reading.{Answers};
-ghost use Rattle.pic_y4m.specs.Faults.{told_fault, is_failed};
+ghost use Rattle.pic_y4m.specs.Faults.{told_fault, is_failed, is_out_of_memory};
 ghost use Rattle.pic_y4m.specs.Parameters.{none_found, is_space, with_width, with_height, with_rate, with_mode, with_format, with_parameter, parameters_of, AreWithin};
 
 use crate::fault::{PictureFault, PictureKind, bad};
@@ -34,6 +34,7 @@ fn with_width(found: Parameters, place: u64, value: &[u8]) -> Result<Parameters,
     ensures answer { Answers told_fault (λ p. p) result (with_width found place value.now) }
     ensures within { IfOk result AreWithin }
     ensures pure { is_failed result ≡ false }
+    ensures memory { is_out_of_memory result ≡ false }
 {
     if found.width.is_some() {
         return Err(bad(PictureKind::Parameter, place));
@@ -54,6 +55,7 @@ fn with_height(found: Parameters, place: u64, value: &[u8]) -> Result<Parameters
     ensures answer { Answers told_fault (λ p. p) result (with_height found place value.now) }
     ensures within { IfOk result AreWithin }
     ensures pure { is_failed result ≡ false }
+    ensures memory { is_out_of_memory result ≡ false }
 {
     if found.height.is_some() {
         return Err(bad(PictureKind::Parameter, place));
@@ -74,6 +76,7 @@ fn with_rate(found: Parameters, place: u64, value: &[u8]) -> Result<Parameters, 
     ensures answer { Answers told_fault (λ p. p) result (with_rate found place value.now) }
     ensures within { IfOk result AreWithin }
     ensures pure { is_failed result ≡ false }
+    ensures memory { is_out_of_memory result ≡ false }
 {
     if found.rate.is_some() {
         return Err(bad(PictureKind::Parameter, place));
@@ -94,6 +97,7 @@ fn with_mode(found: Parameters, place: u64, value: &[u8]) -> Result<Parameters, 
     ensures answer { Answers told_fault (λ p. p) result (with_mode found place value.now) }
     ensures within { IfOk result AreWithin }
     ensures pure { is_failed result ≡ false }
+    ensures memory { is_out_of_memory result ≡ false }
 {
     if found.mode.is_some() {
         return Err(bad(PictureKind::Parameter, place));
@@ -117,6 +121,7 @@ fn with_format(found: Parameters, place: u64, value: &[u8]) -> Result<Parameters
     ensures answer { Answers told_fault (λ p. p) result (with_format found place value.now) }
     ensures within { IfOk result AreWithin }
     ensures pure { is_failed result ≡ false }
+    ensures memory { is_out_of_memory result ≡ false }
 {
     if found.format.is_some() {
         return Err(bad(PictureKind::Parameter, place));
@@ -137,6 +142,7 @@ fn with_parameter(found: Parameters, place: u64, word: &[u8]) -> Result<Paramete
     ensures answer { Answers told_fault (λ p. p) result (with_parameter found place word.now) }
     ensures within { IfOk result AreWithin }
     ensures pure { is_failed result ≡ false }
+    ensures memory { is_out_of_memory result ≡ false }
 {
     if word.is_empty() {
         return Ok(found);
@@ -174,6 +180,7 @@ pub(crate) fn parameters_of(place: u64, text: &[u8]) -> Result<Parameters, Pictu
     ensures answer { Answers told_fault (λ p. p) result (parameters_of none_found place (slice_split is_space text.now)) }
     ensures within { IfOk result AreWithin }
     ensures pure { is_failed result ≡ false }
+    ensures memory { is_out_of_memory result ≡ false }
 {
     let mut found = Parameters {
         width: None,

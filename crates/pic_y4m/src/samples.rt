@@ -8,7 +8,7 @@ ghost use Rattle.pw_outside.specs.Ports.{CountsFault, GoesOn};
 ghost use Rattle.pw_outside.specs.Reading.{Answers, Gives};
 ghost use Rattle.pw_planes.specs.Samples.{sample_bits};
 ghost use Rattle.pic_y4m.specs.declared.samples.SampleSize.TheVariants.{Byte, Pair};
-ghost use Rattle.pic_y4m.specs.Faults.{told_fault, is_failed};
+ghost use Rattle.pic_y4m.specs.Faults.{told_fault, is_failed, is_out_of_memory};
 ghost use Rattle.pic_y4m.specs.Samples.{size_of, sample_bytes, samples_in, samples_at, some_samples_at, in_range, is_past};
 
 use crate::fault::{PictureFault, PictureKind, bad};
@@ -190,6 +190,8 @@ pub fn check_range(
     ensures answer { Answers told_fault (λ x. x) result (in_range size limit samples.now place) }
     ensures below { OnOk result (All (λ s. s < limit) samples.now) }
     ensures pure { is_failed result ≡ false }
+    // No memory is taken.
+    ensures memory { is_out_of_memory result ≡ false }
 {
     match past_of(samples, limit) {
         None => Ok(()),

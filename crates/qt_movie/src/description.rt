@@ -1,10 +1,10 @@
 //! The descriptions of a track's samples.
 
-ghost use Rattle.std.specs.Prelude.{◌≡◌, ◌≤◌, ◌<◌, ◌+◌, ◌^◌, length, IfOk};
+ghost use Rattle.std.specs.Prelude.{◌≡◌, ◌≤◌, ◌<◌, ◌+◌, ◌^◌, length, IfOk, false};
 ghost use Rattle.std.specs.List.{All};
 ghost use Rattle.pw_outside.specs.Ports.{CountsFault};
 ghost use Rattle.pw_outside.specs.Reading.{Answers, Told};
-ghost use Rattle.qt_tables.specs.Faults.{told_fault, is_failed};
+ghost use Rattle.qt_tables.specs.Faults.{told_fault, is_failed, is_out_of_memory};
 ghost use Rattle.qt_movie.specs.Movie.{is_prores, description_in, described, descriptions_in};
 ghost use Rattle.qt_movie.specs.Ranges.{DescriptionLies, HasSize};
 
@@ -53,6 +53,7 @@ fn description_of<M: ByteStore>(
     ensures lies { IfOk result (DescriptionLies place stsd.now.end) }
     ensures bytes { M.bytes store.new ≡ M.bytes store.old }
     ensures cause { CountsFault (M.faults store.old) (M.faults store.new) (is_failed result) }
+    ensures memory { is_out_of_memory result ≡ false }
 {
     let room = stsd.end - place;
     if room < 16 {

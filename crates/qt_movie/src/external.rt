@@ -1,10 +1,10 @@
 //! Where the data of a track lies.
 
-ghost use Rattle.std.specs.Prelude.{◌≡◌, ◌≤◌, ◌<◌, ◌+◌, ◌^◌, length, IfOk, IfSome, Ok};
+ghost use Rattle.std.specs.Prelude.{◌≡◌, ◌≤◌, ◌<◌, ◌+◌, ◌^◌, length, IfOk, IfSome, Ok, false};
 ghost use Rattle.pw_outside.specs.Ports.{CountsFault};
 ghost use Rattle.pw_outside.specs.Reading.{Answers, Told};
 ghost use Rattle.qt_atoms.specs.Atoms.{LiesIn};
-ghost use Rattle.qt_tables.specs.Faults.{told_fault, is_failed};
+ghost use Rattle.qt_tables.specs.Faults.{told_fault, is_failed, is_out_of_memory};
 ghost use Rattle.qt_movie.specs.Movie.{reference_at, references, references_of, dref_in, data_in, lies_here, is_external};
 
 use crate::description::Description;
@@ -36,6 +36,7 @@ fn reference_of<M: ByteStore>(
     ensures within { IfOk result (λ found. IfSome found (λ r. place + r.size ≤ dref.now.end)) }
     ensures bytes { M.bytes store.new ≡ M.bytes store.old }
     ensures cause { CountsFault (M.faults store.old) (M.faults store.new) (is_failed result) }
+    ensures memory { is_out_of_memory result ≡ false }
 {
     let room = dref.end - place;
     if room < 12 {
@@ -110,6 +111,8 @@ pub fn dref_of<M: ByteStore>(store: &mut M, minf: &Atom) -> Result<Option<Atom>,
     ensures lies { IfOk result (λ found. IfSome found (LiesIn minf.now.body minf.now.end)) }
     ensures bytes { M.bytes store.new ≡ M.bytes store.old }
     ensures cause { CountsFault (M.faults store.old) (M.faults store.new) (is_failed result) }
+    // No memory is taken.
+    ensures memory { is_out_of_memory result ≡ false }
 {
     match find(store, minf, *b"dinf")? {
         Some(dinf) => Ok(find(store, &dinf, *b"dref")?),

@@ -5,7 +5,7 @@ ghost use Rattle.pw_outside.specs.Ports.{CountsFault};
 ghost use Rattle.pw_outside.specs.Reading.{Answers, Told};
 ghost use Rattle.qt_atoms.specs.Atoms.{LiesIn, children, is_kind};
 ghost use Rattle.qt_tables.specs.declared.fault.MovieKind.TheVariants as kinds;
-ghost use Rattle.qt_tables.specs.Faults.{told_fault, is_failed, some_or};
+ghost use Rattle.qt_tables.specs.Faults.{told_fault, is_failed, is_out_of_memory, some_or};
 ghost use Rattle.qt_movie.specs.Movie.{moov_in, moov_or, whole_in, unread_kind};
 
 use crate::fields::bad;
@@ -40,6 +40,7 @@ fn met_moov(moov: Option<Atom>) -> Result<Atom, MovieFault>
     ensures value { Answers told_fault (λ x. x) result (some_or moov kinds.NoMoov 0) }
     ensures lies { IfOk result (λ m. moov ≡ Some m) }
     ensures failed { is_failed result ≡ false }
+    ensures memory { is_out_of_memory result ≡ false }
 {
     match moov {
         Some(moov) => Ok(moov),
@@ -54,6 +55,8 @@ pub fn moov_of<M: ByteStore>(store: &mut M, end: u64) -> Result<Atom, MovieFault
     ensures lies { IfOk result (LiesIn 0 end) }
     ensures bytes { M.bytes store.new ≡ M.bytes store.old }
     ensures cause { CountsFault (M.faults store.old) (M.faults store.new) (is_failed result) }
+    // No memory is taken.
+    ensures memory { is_out_of_memory result ≡ false }
 {
     let mut moov = None;
     let mut place = 0;
@@ -90,6 +93,8 @@ pub fn judge_children<M: ByteStore>(store: &mut M, moov: &Atom) -> Result<(), Mo
     ensures whole { Told (M.bytes store.old) (λ file. OnOk result ((children file moov.now).bad ≡ None)) }
     ensures bytes { M.bytes store.new ≡ M.bytes store.old }
     ensures cause { CountsFault (M.faults store.old) (M.faults store.new) (is_failed result) }
+    // No memory is taken.
+    ensures memory { is_out_of_memory result ≡ false }
 {
     match find_either(store, moov, [*b"cmov", *b"mvex"])? {
         None => Ok(()),

@@ -1,9 +1,9 @@
 //! The atoms of a track that tell its pictures.
 
-ghost use Rattle.std.specs.Prelude.{◌≡◌, ◌≤◌, length, IfOk, IfSome};
+ghost use Rattle.std.specs.Prelude.{◌≡◌, ◌≤◌, length, IfOk, IfSome, false};
 ghost use Rattle.pw_outside.specs.Ports.{CountsFault};
 ghost use Rattle.pw_outside.specs.Reading.{Answers, Told};
-ghost use Rattle.qt_tables.specs.Faults.{told_fault, is_failed};
+ghost use Rattle.qt_tables.specs.Faults.{told_fault, is_failed, is_out_of_memory};
 ghost use Rattle.qt_movie.specs.Movie.{parts_in};
 ghost use Rattle.qt_movie.specs.Ranges.{PartsLie};
 
@@ -30,6 +30,8 @@ pub fn parts_of<M: ByteStore>(store: &mut M, trak: &Atom) -> Result<Option<Parts
     ensures lie { IfOk result (λ found. IfSome found (PartsLie trak.now.body trak.now.end)) }
     ensures bytes { M.bytes store.new ≡ M.bytes store.old }
     ensures cause { CountsFault (M.faults store.old) (M.faults store.new) (is_failed result) }
+    // No memory is taken.
+    ensures memory { is_out_of_memory result ≡ false }
 {
     let mdia = match find(store, trak, *b"mdia")? {
         Some(mdia) => mdia,

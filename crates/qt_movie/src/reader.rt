@@ -71,10 +71,10 @@ impl Model for MovieReader {
 }
 
 impl MovieReader {
-    ghost use Rattle.std.specs.Prelude.{◌≡◌, ◌≤◌, ◌<◌, ◌^◌, length, slice_get, Some, IfOk, IfSome};
+    ghost use Rattle.std.specs.Prelude.{◌≡◌, ◌≤◌, ◌<◌, ◌^◌, length, slice_get, Some, IfOk, IfSome, false};
     ghost use Rattle.pw_outside.specs.Ports.{CountsFault};
     ghost use Rattle.pw_outside.specs.Reading.{Answers, Told};
-    ghost use Rattle.qt_tables.specs.Faults.{told_fault, is_failed};
+    ghost use Rattle.qt_tables.specs.Faults.{told_fault, is_failed, is_out_of_memory};
     ghost use Rattle.qt_tables.specs.Samples.{samples};
     ghost use Rattle.qt_tables.specs.Tables.{AreTables};
     ghost use Rattle.qt_movie.specs.Movie.{movie_in, track_of, span_in};
@@ -140,6 +140,8 @@ impl MovieReader {
         ensures order { IfOk result (λ x. x.0 ≤ x.1) }
         ensures bytes { M.bytes store.new ≡ M.bytes store.old }
         ensures cause { CountsFault (M.faults store.old) (M.faults store.new) (is_failed result) }
+        // No memory is taken.
+        ensures memory { is_out_of_memory result ≡ false }
     {
         let length = store.length()?;
         let sample = self.sample(i);
@@ -162,6 +164,8 @@ impl MovieReader {
         ensures same_store { IfOk result (λ span. span.store.ghost_name ≡ store.entry.ghost_name) }
         ensures bytes { IfOk result (λ span. M.bytes span.store.now ≡ M.bytes store.old) }
         ensures faults { IfOk result (λ span. M.faults span.store.now ≡ M.faults store.old) }
+        // No memory is taken.
+        ensures memory { is_out_of_memory result ≡ false }
     {
         let (at, end) = self.place(store, i)?;
         Ok(Span::new(store, at, end))

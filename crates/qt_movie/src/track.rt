@@ -1,11 +1,11 @@
 //! The track that is taken.
 
-ghost use Rattle.std.specs.Prelude.{◌≡◌, ◌≤◌, ◌<◌, ◌+◌, ◌^◌, length, IfOk, IfSome, None, Ok};
+ghost use Rattle.std.specs.Prelude.{◌≡◌, ◌≤◌, ◌<◌, ◌+◌, ◌^◌, length, IfOk, IfSome, None, Ok, false};
 ghost use Rattle.std.specs.List.{All, list_all};
 ghost use Rattle.pw_outside.specs.Ports.{CountsFault};
 ghost use Rattle.pw_outside.specs.Reading.{Answers, Told};
 ghost use Rattle.qt_atoms.specs.Atoms.{children};
-ghost use Rattle.qt_tables.specs.Faults.{told_fault, is_failed};
+ghost use Rattle.qt_tables.specs.Faults.{told_fault, is_failed, is_out_of_memory};
 ghost use Rattle.qt_movie.specs.Movie.{is_prores, is_trak, is_video, prores_track, track_in, first_track, traks_of};
 ghost use Rattle.qt_movie.specs.Ranges.{PartsLie, HasSize, TrackLies};
 
@@ -104,6 +104,7 @@ fn is_video<M: ByteStore>(store: &mut M, hdlr: &Atom) -> Result<bool, MovieFault
     ensures value { Told (M.bytes store.old) (λ file. Answers told_fault (λ x. x) result (Ok (is_video file hdlr.now))) }
     ensures bytes { M.bytes store.new ≡ M.bytes store.old }
     ensures cause { CountsFault (M.faults store.old) (M.faults store.new) (is_failed result) }
+    ensures memory { is_out_of_memory result ≡ false }
 {
     if hdlr.end - hdlr.body < 12 {
         return Ok(false);

@@ -1,10 +1,10 @@
 //! Fields of a proof that are no numbers of one, two, four or eight bytes: several bytes, and a number in groups of 7 bits.
 
-ghost use Rattle.std.specs.Prelude.{◌+◌, ◌*◌, ◌<◌, ◌≤◌, ◌^◌, IfOk};
+ghost use Rattle.std.specs.Prelude.{◌≡◌, ◌+◌, ◌*◌, ◌<◌, ◌≤◌, ◌^◌, IfOk, false};
 ghost use Rattle.pw_outside.specs.Ports.{CountsFault, GoesOn};
 ghost use Rattle.pw_outside.specs.Reading.{Gives, bytes_at};
 ghost use Rattle.rate_table.specs.declared.fault.ProofKind.TheVariants.{ProofShort};
-ghost use Rattle.rate_table.specs.Reading.{told_fault, is_failed};
+ghost use Rattle.rate_table.specs.Reading.{told_fault, is_failed, is_out_of_memory};
 ghost use Rattle.rate_cert.specs.Numbers.{group_at, groups_at, limit, short_at};
 
 use pw_outside::{ByteSource, fill};
@@ -23,6 +23,7 @@ pub(crate) fn bytes_of<S: ByteSource, const N: usize>(
     ensures place { place.new ≤ place.old + N }
     ensures becomes { GoesOn S.becomes source.old source.new }
     ensures cause { CountsFault (S.faults source.old) (S.faults source.new) (is_failed result) }
+    ensures memory { is_out_of_memory result ≡ false }
 {
     let mut piece = [0u8; N];
     let count = fill(source, &mut piece)?;
@@ -41,6 +42,7 @@ fn group_of<S: ByteSource>(source: &mut S, place: &mut u64, first: u64) -> Resul
     ensures place { place.new ≤ place.old + 1 }
     ensures becomes { GoesOn S.becomes source.old source.new }
     ensures cause { CountsFault (S.faults source.old) (S.faults source.new) (is_failed result) }
+    ensures memory { is_out_of_memory result ≡ false }
 {
     let mut piece = [0u8; 1];
     let count = fill(source, &mut piece)?;
@@ -65,6 +67,7 @@ fn groups_of<S: ByteSource>(
     ensures place { place.new ≤ place.old + more + 1 }
     ensures becomes { GoesOn S.becomes source.old source.new }
     ensures cause { CountsFault (S.faults source.old) (S.faults source.new) (is_failed result) }
+    ensures memory { is_out_of_memory result ≡ false }
 {
     let byte = group_of(source, place, first)?;
     if more == 0 {
@@ -91,6 +94,7 @@ pub(crate) fn short_of<S: ByteSource>(source: &mut S, place: &mut u64) -> Result
     ensures place { place.new ≤ place.old + 10 }
     ensures becomes { GoesOn S.becomes source.old source.new }
     ensures cause { CountsFault (S.faults source.old) (S.faults source.new) (is_failed result) }
+    ensures memory { is_out_of_memory result ≡ false }
 {
     let first = *place;
     let byte = read_u8(source, place, SHORT)?;

@@ -7,7 +7,7 @@ ghost use Rattle.pw_outside.specs.Reading.{Gives};
 ghost use Rattle.pr_geom.specs.Faults.{first_fault, slice_count};
 ghost use Rattle.pr_geom.specs.Slices.{pictures_of};
 ghost use Rattle.pr_quant.specs.Matrices.{IsWeight};
-ghost use Rattle.rate_table.specs.Reading.{told_fault, is_failed};
+ghost use Rattle.rate_table.specs.Reading.{told_fault, is_failed, is_out_of_memory};
 ghost use Rattle.rate_cert.specs.Settings.{IsSettings};
 ghost use Rattle.rate_cert.specs.Files.{IsFormat};
 ghost use Rattle.rate_cert.specs.Head.{chroma_of, depth_of, alpha_of, interlace_of, form_of, group_of, is_no_weight, has_no_layout, format_at, size_at, chroma_at, depth_at, alpha_at, interlace_at, kinds_at, slicing_at, rate_at, weights_at, budget_at, settings_at};
@@ -135,6 +135,7 @@ pub(crate) fn format_of<S: ByteSource>(source: &mut S, place: &mut u64) -> Resul
     ensures place { place.new ≤ place.old + 5 }
     ensures becomes { GoesOn S.becomes source.old source.new }
     ensures cause { CountsFault (S.faults source.old) (S.faults source.new) (is_failed result) }
+    ensures memory { is_out_of_memory result ≡ false }
 {
     let at = *place;
     let magic = read_u32(source, place, SHORT)?;
@@ -158,6 +159,7 @@ fn size_of<S: ByteSource>(source: &mut S, place: &mut u64) -> Result<Size, Table
     ensures place { place.new ≤ place.old + 5 }
     ensures becomes { GoesOn S.becomes source.old source.new }
     ensures cause { CountsFault (S.faults source.old) (S.faults source.new) (is_failed result) }
+    ensures memory { is_out_of_memory result ≡ false }
 {
     let at = *place;
     let form = read_u8(source, place, SHORT)?;
@@ -190,6 +192,7 @@ fn chroma_of<S: ByteSource>(source: &mut S, place: &mut u64) -> Result<Chroma, T
     ensures place { place.new ≤ place.old + 1 }
     ensures becomes { GoesOn S.becomes source.old source.new }
     ensures cause { CountsFault (S.faults source.old) (S.faults source.new) (is_failed result) }
+    ensures memory { is_out_of_memory result ≡ false }
 {
     let at = *place;
     let number = read_u8(source, place, SHORT)?;
@@ -207,6 +210,7 @@ fn depth_of<S: ByteSource>(source: &mut S, place: &mut u64) -> Result<Depth, Tab
     ensures place { place.new ≤ place.old + 1 }
     ensures becomes { GoesOn S.becomes source.old source.new }
     ensures cause { CountsFault (S.faults source.old) (S.faults source.new) (is_failed result) }
+    ensures memory { is_out_of_memory result ≡ false }
 {
     let at = *place;
     let number = read_u8(source, place, SHORT)?;
@@ -224,6 +228,7 @@ fn alpha_of<S: ByteSource>(source: &mut S, place: &mut u64) -> Result<AlphaKind,
     ensures place { place.new ≤ place.old + 1 }
     ensures becomes { GoesOn S.becomes source.old source.new }
     ensures cause { CountsFault (S.faults source.old) (S.faults source.new) (is_failed result) }
+    ensures memory { is_out_of_memory result ≡ false }
 {
     let at = *place;
     let number = read_u8(source, place, SHORT)?;
@@ -241,6 +246,7 @@ fn interlace_of<S: ByteSource>(source: &mut S, place: &mut u64) -> Result<Interl
     ensures place { place.new ≤ place.old + 1 }
     ensures becomes { GoesOn S.becomes source.old source.new }
     ensures cause { CountsFault (S.faults source.old) (S.faults source.new) (is_failed result) }
+    ensures memory { is_out_of_memory result ≡ false }
 {
     let at = *place;
     let number = read_u8(source, place, SHORT)?;
@@ -262,6 +268,7 @@ fn kinds_of<S: ByteSource>(
     ensures place { place.new ≤ place.old + 4 }
     ensures becomes { GoesOn S.becomes source.old source.new }
     ensures cause { CountsFault (S.faults source.old) (S.faults source.new) (is_failed result) }
+    ensures memory { is_out_of_memory result ≡ false }
 {
     let chroma = chroma_of(source, place)?;
     let depth = depth_of(source, place)?;
@@ -294,6 +301,7 @@ fn slicing_of<S: ByteSource>(
     ensures place { place.new ≤ place.old + 3 }
     ensures becomes { GoesOn S.becomes source.old source.new }
     ensures cause { CountsFault (S.faults source.old) (S.faults source.new) (is_failed result) }
+    ensures memory { is_out_of_memory result ≡ false }
 {
     let at = *place;
     let log2 = read_u8(source, place, SHORT)?;
@@ -325,6 +333,7 @@ fn rate_of<S: ByteSource>(source: &mut S, place: &mut u64) -> Result<Rate, Table
     ensures place { place.new ≤ place.old + 8 }
     ensures becomes { GoesOn S.becomes source.old source.new }
     ensures cause { CountsFault (S.faults source.old) (S.faults source.new) (is_failed result) }
+    ensures memory { is_out_of_memory result ≡ false }
 {
     let at = *place;
     let num = read_u32(source, place, SHORT)?;
@@ -355,6 +364,7 @@ fn weights_of<S: ByteSource>(source: &mut S, place: &mut u64) -> Result<[u8; 64]
     ensures place { place.new ≤ place.old + 64 }
     ensures becomes { GoesOn S.becomes source.old source.new }
     ensures cause { CountsFault (S.faults source.old) (S.faults source.new) (is_failed result) }
+    ensures memory { is_out_of_memory result ≡ false }
 {
     let at = *place;
     let weights = bytes_of::<S, 64>(source, place)?;
@@ -373,6 +383,7 @@ fn budget_of<S: ByteSource>(source: &mut S, place: &mut u64, group: u8) -> Resul
     ensures place { place.new ≤ place.old + 4 }
     ensures becomes { GoesOn S.becomes source.old source.new }
     ensures cause { CountsFault (S.faults source.old) (S.faults source.new) (is_failed result) }
+    ensures memory { is_out_of_memory result ≡ false }
 {
     let at = *place;
     let budget = read_u32(source, place, SHORT)?;
@@ -394,6 +405,7 @@ pub(crate) fn settings_of<S: ByteSource>(
     ensures place { place.new ≤ place.old + 152 }
     ensures becomes { GoesOn S.becomes source.old source.new }
     ensures cause { CountsFault (S.faults source.old) (S.faults source.new) (is_failed result) }
+    ensures memory { is_out_of_memory result ≡ false }
 {
     let size = size_of(source, place)?;
     let kinds = kinds_of(source, place, size.height)?;

@@ -4,7 +4,7 @@ ghost use Rattle.std.specs.Prelude.{◌≡◌, ◌+◌, ◌<◌, ◌≤◌, ◌^
 ghost use Rattle.std.specs.Io.KnownBytes.{IsAtEnd};
 ghost use Rattle.pw_outside.specs.Ports.{CountsFault, GoesOn};
 ghost use Rattle.pw_outside.specs.Reading.{Gives};
-ghost use Rattle.rate_table.specs.Reading.{told_fault, is_failed};
+ghost use Rattle.rate_table.specs.Reading.{told_fault, is_failed, is_out_of_memory};
 ghost use Rattle.rate_cert.specs.Settings.{IsSettings};
 ghost use Rattle.rate_cert.specs.Head.{head_at};
 ghost use Rattle.rate_cert.specs.Files.{IsFormat, IsWritten, MayStand, Progress, no_records, after, most_records, mark_at, end_at, next_at, place_of};
@@ -37,6 +37,7 @@ fn mark_of<S: ByteSource>(
     ensures place { place.new ≤ place.old + 1 }
     ensures becomes { GoesOn S.becomes source.old source.new }
     ensures cause { CountsFault (S.faults source.old) (S.faults source.new) (is_failed result) }
+    ensures memory { is_out_of_memory result ≡ false }
 {
     let at = *place;
     let mark = read_u8(source, place, SHORT)?;
@@ -58,6 +59,7 @@ fn end_of<S: ByteSource>(source: &mut S, place: &mut u64, count: u32) -> Result<
     ensures place { place.new ≤ place.old + 4 }
     ensures becomes { GoesOn S.becomes source.old source.new }
     ensures cause { CountsFault (S.faults source.old) (S.faults source.new) (is_failed result) }
+    ensures memory { is_out_of_memory result ≡ false }
 {
     let at = *place;
     let number = read_u32(source, place, SHORT)?;
@@ -109,6 +111,8 @@ impl ProofReader {
         ensures becomes { GoesOn S.becomes source.old source.new }
         // The error is `Failed` only where a call of the source failed, and each such call is answered by it.
         ensures cause { CountsFault (S.faults source.old) (S.faults source.new) (is_failed result) }
+        // No memory is taken.
+        ensures memory { is_out_of_memory result ≡ false }
     {
         let mut place = 0;
         let format = format_of(source, &mut place)?;

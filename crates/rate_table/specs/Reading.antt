@@ -85,3 +85,8 @@ told_fault faults.NoMemory = None
 abbrev pub is_failed : {X : Type 0} → Result X TableFault → Bool
 is_failed (Err faults.Failed) = true
 is_failed _ = false
+
+-- whether memory ran out
+abbrev pub is_out_of_memory : {X : Type 0} → Result X TableFault → Bool
+is_out_of_memory (Err faults.NoMemory) = true
+is_out_of_memory _ = false

@@ -3,11 +3,11 @@
 //! Each call reads the number that begins at `place` of its file, and moves `place` behind it. The error is `Bad` with
 //! the kind `short` at the number's place where bytes of it are wanting, or `Failed` where a call of the source failed.
 
-ghost use Rattle.std.specs.Prelude.{◌+◌, ◌<◌, ◌≤◌, ◌^◌};
+ghost use Rattle.std.specs.Prelude.{◌≡◌, ◌+◌, ◌<◌, ◌≤◌, ◌^◌, false};
 ghost use Rattle.std.specs.Int.{w8, w16, w32, w64};
 ghost use Rattle.pw_outside.specs.Ports.{CountsFault, GoesOn};
 ghost use Rattle.pw_outside.specs.Reading.{Gives, bytes_at, number_at};
-ghost use Rattle.rate_table.specs.Reading.{told_fault, is_failed};
+ghost use Rattle.rate_table.specs.Reading.{told_fault, is_failed, is_out_of_memory};
 
 use crate::fault::{ProofKind, TableFault, bad};
 use pw_outside::{ByteSource, fill};
@@ -23,6 +23,7 @@ fn field<S: ByteSource, const N: usize>(
     ensures place { place.new ≤ place.old + N }
     ensures becomes { GoesOn S.becomes source.old source.new }
     ensures cause { CountsFault (S.faults source.old) (S.faults source.new) (is_failed result) }
+    ensures memory { is_out_of_memory result ≡ false }
 {
     let mut piece = [0u8; N];
     let count = fill(source, &mut piece)?;
@@ -44,6 +45,8 @@ pub fn read_u8<S: ByteSource>(
     ensures place { place.new ≤ place.old + 1 }
     ensures becomes { GoesOn S.becomes source.old source.new }
     ensures cause { CountsFault (S.faults source.old) (S.faults source.new) (is_failed result) }
+    // No memory is taken.
+    ensures memory { is_out_of_memory result ≡ false }
 {
     let piece = field::<S, 1>(source, place, short)?;
     Ok(u8::from_be_bytes(piece))
@@ -60,6 +63,8 @@ pub fn read_u16<S: ByteSource>(
     ensures place { place.new ≤ place.old + 2 }
     ensures becomes { GoesOn S.becomes source.old source.new }
     ensures cause { CountsFault (S.faults source.old) (S.faults source.new) (is_failed result) }
+    // No memory is taken.
+    ensures memory { is_out_of_memory result ≡ false }
 {
     let piece = field::<S, 2>(source, place, short)?;
     Ok(u16::from_be_bytes(piece))
@@ -76,6 +81,8 @@ pub fn read_u32<S: ByteSource>(
     ensures place { place.new ≤ place.old + 4 }
     ensures becomes { GoesOn S.becomes source.old source.new }
     ensures cause { CountsFault (S.faults source.old) (S.faults source.new) (is_failed result) }
+    // No memory is taken.
+    ensures memory { is_out_of_memory result ≡ false }
 {
     let piece = field::<S, 4>(source, place, short)?;
     Ok(u32::from_be_bytes(piece))
@@ -92,6 +99,8 @@ pub fn read_u64<S: ByteSource>(
     ensures place { place.new ≤ place.old + 8 }
     ensures becomes { GoesOn S.becomes source.old source.new }
     ensures cause { CountsFault (S.faults source.old) (S.faults source.new) (is_failed result) }
+    // No memory is taken.
+    ensures memory { is_out_of_memory result ≡ false }
 {
     let piece = field::<S, 8>(source, place, short)?;
     Ok(u64::from_be_bytes(piece))
