@@ -1,4 +1,4 @@
-//! The program `workshop` once more, for a stored run that writes files: a picture that is encoded.
+//! The program `workshop`, for a stored run that writes files: it encodes a picture.
 #![tactic(auto)]
 
 use std::process::ExitCode;

@@ -1,4 +1,4 @@
-//! The program `workshop` once more, for a stored run over a file that is read by its places: a movie that is listed.
+//! The program `workshop`, for a stored run over a file that is read at offsets: it lists a movie.
 #![tactic(auto)]
 
 use std::process::ExitCode;

@@ -1,4 +1,4 @@
-//! The program `workshop` once more, for a stored run that ends in a refusal: a table file without its last byte.
+//! The program `workshop`, for a stored run that ends in a refusal: a table file without its last byte.
 #![tactic(auto)]
 
 use std::process::ExitCode;

@@ -1,4 +1,4 @@
-//! The program `workshop` once more, for a stored run of a whole round in memory: two pictures of 320x240.
+//! The program `workshop`, for a stored run of a whole round in memory: two pictures of 320x240.
 #![tactic(auto)]
 
 use std::process::ExitCode;

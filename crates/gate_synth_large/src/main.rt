@@ -1,4 +1,4 @@
-//! The program `workshop` once more, for a stored run of a whole round in memory: a picture of 720x576.
+//! The program `workshop`, for a stored run of a whole round in memory: a picture of 720x576.
 #![tactic(auto)]
 
 use std::process::ExitCode;

@@ -1,4 +1,4 @@
-//! Words of cases, for the programs of the gate alone: bytes in hexadecimal, printed texts on one line, and sinks in memory.
+//! Helpers of the gate's programs of cases: bytes in hexadecimal, printed texts on one line, and sinks in memory.
 #![tactic(auto)]
 
 ghost use Rattle.std.specs.Prelude.{◌≤◌};
@@ -7,10 +7,10 @@ use pw_outside::{MemSink, NoMemory};
 use std::alloc::Global;
 use std::io;
 
-/// More bytes than these are told by their number and a hash.
+/// Longer byte strings are printed as their length and a hash.
 const LONG: usize = 600;
 
-/// The bytes that a word in hexadecimal stands for; a lone dash stands for none.
+/// The bytes of a word in hexadecimal; a lone dash is no bytes.
 pub fn bytes_of(alloc: Global, word: &[u8]) -> io::Result<Vec<u8>> {
     if word == b"-".as_slice() {
         return Ok(Vec::new(alloc));
@@ -21,7 +21,7 @@ pub fn bytes_of(alloc: Global, word: &[u8]) -> io::Result<Vec<u8>> {
     }
 }
 
-/// The word that stands for these bytes; a lone dash stands for none.
+/// The bytes in hexadecimal; a lone dash if there are none.
 pub fn word_of(alloc: Global, bytes: &[u8]) -> io::Result<String> {
     if bytes.is_empty() {
         return Ok("-".to_string(alloc)?);
@@ -44,7 +44,7 @@ pub fn put_bytes(text: &mut Vec<u8>, bytes: &[u8]) -> Result<(), NoMemory> {
 /// The hash of no bytes (FNV-1a, 64 bits).
 pub const HASH_OF_NONE: u64 = 0xcbf2_9ce4_8422_2325;
 
-/// A hash, gone on with these bytes.
+/// The hash `hash`, continued over `bytes`.
 pub fn hash_on(hash: u64, bytes: &[u8]) -> u64 {
     let mut hash = hash;
     for byte in bytes {
@@ -58,7 +58,7 @@ pub fn hash_of(bytes: &[u8]) -> u64 {
     hash_on(HASH_OF_NONE, bytes)
 }
 
-/// The word that stands for these bytes; for more than 600 their number and a hash.
+/// The bytes in hexadecimal; for more than 600 their number and a hash.
 pub fn hashed_of(alloc: Global, bytes: &[u8]) -> io::Result<String> {
     if bytes.len() <= LONG {
         return word_of(alloc, bytes);
@@ -67,7 +67,7 @@ pub fn hashed_of(alloc: Global, bytes: &[u8]) -> io::Result<String> {
     Ok(format!(in alloc; "{}:{hash:016x}", bytes.len())?)
 }
 
-/// A printed text on one line, with `\n` for each line feed; a lone dash stands for none.
+/// A printed text on one line, with `\n` for each line feed; a lone dash if it is empty.
 pub fn text_line(alloc: Global, text: &[u8]) -> io::Result<String> {
     if text.is_empty() {
         return Ok("-".to_string(alloc)?);
@@ -80,7 +80,7 @@ pub fn text_line(alloc: Global, text: &[u8]) -> io::Result<String> {
     Ok(line)
 }
 
-/// The list of one call that fails, or of none.
+/// A list with the failing call, or without any.
 pub fn calls_of(alloc: Global, call: Option<u64>) -> io::Result<Vec<u64>> {
     let mut calls = Vec::new(alloc);
     if let Some(call) = call {
@@ -89,7 +89,7 @@ pub fn calls_of(alloc: Global, call: Option<u64>) -> io::Result<Vec<u64>> {
     Ok(calls)
 }
 
-/// A sink that takes so many bytes a call; the call with this number fails.
+/// A sink that takes at most `step` bytes a call; call `call` fails.
 pub fn sink_of(alloc: Global, step: usize, call: Option<u64>) -> io::Result<MemSink>
     requires { 1 ≤ step }
 {

@@ -1,5 +1,5 @@
 -- The counts of runs, added up.
-use Rattle.std.proofs.Common.{◌≡◌, refl, ℕ, suc, ◌+◌, ◌≤◌, arith, List, [], ◌∷◌, length, min, inl, inr}
+use Rattle.std.proofs.Common.{◌≡◌, refl, ℕ, ◌+◌, ◌≤◌, arith, List, [], ◌∷◌, length, min, inl, inr}
 use Rattle.std.specs.Prelude.{Bool, true, false}
 use Rattle.std.specs.List.{filter, prefix_len, sum_by}
 use Rattle.std.proofs.lemmas.Bool.{cases_Bool}
@@ -15,16 +15,13 @@ pictures_of runs = sum_by (λ r. r.count) runs
 abbrev black_of : List PictureFacts → ℕ
 black_of facts = length (filter is_black facts)
 
--- how many of these pictures belong to a run in front of them
+-- how many of these pictures belong to a run that began before them
 abbrev going_on : Bool → List PictureFacts → ℕ
 going_on true facts = prefix_len is_black facts
 going_on false facts = 0
 
 abbrev Counted : Bool → List PictureFacts → Type 0
 Counted black facts = pictures_of (runs_behind black facts) + going_on black facts ≡ black_of facts
-
-uncapped : (more : ℕ) → suc more ≤ last → min (1 + more) last ≡ 1 + more
-uncapped more h = omega (arith, h)
 
 black_behind_black : (f : PictureFacts) (fs : List PictureFacts) → is_black f ≡ true → Counted true fs → Counted true (f ∷ fs)
 black_behind_black f fs h c = rw h (omega (arith, c))

@@ -1,4 +1,4 @@
--- Nothing is a front of every text.
+-- The empty text is a prefix of every text.
 use Rattle.std.proofs.Common.{◌≡◌, ℕ, List, append-nil, sym, ◌∙◌}
 use Rattle.monitors.specs.States.{IsFrontAdded}
 

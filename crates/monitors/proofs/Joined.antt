@@ -1,4 +1,4 @@
--- Extremes of what was seen and of one more picture.
+-- Extremes so far and of one more picture.
 use Rattle.std.proofs.Common.{◌≡◌, refl, ℕ, List, [], Option, Some, None}
 use Rattle.std.specs.Option.{option_map}
 use Rattle.monitors.specs.declared.extremes.Extremes.{Extremes}
@@ -11,7 +11,7 @@ pub next_extremes : (words : List ℕ) (least greatest : PictureFacts → ℕ) (
 next_extremes words least greatest None f = refl
 next_extremes words least greatest (Some e) f = refl
 
--- what is reported now
+-- the report so far
 pub extremes_reported : (words : List ℕ) (least greatest : PictureFacts → ℕ) (seen : Option Extremes)
     → extremes_line words (option_map (λ e. e.least) seen) (option_map (λ e. e.greatest) seen) ≡ extremes_state words least greatest seen []
 extremes_reported words least greatest None = refl

@@ -1,4 +1,4 @@
--- Pictures one after the other.
+-- Pictures in order.
 use Rattle.std.proofs.Common.{refl, [], ◌∷◌, append-nil, ap}
 use Rattle.monitors.specs.States.{behind, StepsInOrder, ReportsAllPictures}
 

@@ -1,4 +1,4 @@
--- Sizes of what was seen and of one more picture.
+-- Sizes so far and of one more picture.
 use Rattle.std.proofs.Common.{◌≡◌, ℕ, ◌+◌, ◌≤◌, [], ◌∷◌, min, max, arith, ap, sym}
 use Rattle.std.specs.List.{fold, sum}
 use Rattle.std.proofs.lemmas.List.Sums.{sum_by-cons}
@@ -23,6 +23,6 @@ next_bytes total greatest f = λ i facts.
 none_behind : (n : ℕ) → n ≤ last → min (n + 0) last ≡ n
 none_behind n h = omega (arith, h)
 
--- what is reported now
+-- the report so far
 pub bytes_reported : (total greatest : ℕ) → total ≤ last → bytes_line total greatest ≡ bytes_state total greatest []
 bytes_reported total greatest h = ap (λ n. bytes_line n greatest) (sym (none_behind total h))

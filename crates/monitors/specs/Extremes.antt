@@ -1,4 +1,5 @@
--- The least and the greatest luma, and the least and the greatest quantisation index, of all pictures. Our own texts.
+-- The minimum and the maximum luma, and the minimum and the maximum quantisation index, of all pictures. Our own
+-- texts.
 use Rattle.std.specs.Prelude.{ℕ, List, ◌∷◌, ◌++◌, map, Option, Some, None, min, max, codes}
 use Rattle.std.specs.Fmt.{decimal}
 use Rattle.std.specs.List.{reduce}
@@ -6,13 +7,13 @@ use Rattle.monitors.specs.declared.facts.PictureFacts.{PictureFacts}
 use Rattle.monitors.specs.declared.extremes.Extremes.{Extremes}
 use Rattle.monitors.specs.States.{State}
 
--- the line of the least and the greatest of some numbers, or of no numbers
+-- the line of the extremes of some numbers, or of no numbers
 unfoldable pub extremes_line : List ℕ → Option ℕ → Option ℕ → List ℕ
 extremes_line words (Some least) (Some greatest) = words ++ codes " " ++ decimal least ++ codes " " ++ decimal greatest ++ codes "\n"
 extremes_line words (Some least) None = words ++ codes " none\n"
 extremes_line words None greatest = words ++ codes " none\n"
 
--- what is reported of pictures, each of which has a least and a greatest number
+-- the report of pictures with a minimum and a maximum each
 abbrev pub extremes_text : List ℕ → (PictureFacts → ℕ) → (PictureFacts → ℕ) → State
 extremes_text words least greatest = λ facts. extremes_line words (reduce min (map least facts)) (reduce max (map greatest facts))
 
@@ -22,7 +23,7 @@ levels_text = extremes_text (codes "levels") (λ f. f.least_luma) (λ f. f.great
 abbrev pub indices_text : State
 indices_text = extremes_text (codes "indices") (λ f. f.least_index) (λ f. f.greatest_index)
 
--- the state behind pictures with this least and this greatest number
+-- the state after pictures with this minimum and this maximum
 abbrev pub extremes_state : List ℕ → (PictureFacts → ℕ) → (PictureFacts → ℕ) → Option Extremes → State
 extremes_state words least greatest None = extremes_text words least greatest
 extremes_state words least greatest (Some e) = λ facts. extremes_line words (reduce min (e.least ∷ map least facts)) (reduce max (e.greatest ∷ map greatest facts))
@@ -33,7 +34,7 @@ levels_state = extremes_state (codes "levels") (λ f. f.least_luma) (λ f. f.gre
 abbrev pub indices_state : Option Extremes → State
 indices_state = extremes_state (codes "indices") (λ f. f.least_index) (λ f. f.greatest_index)
 
--- the least and the greatest of the numbers that were seen and of others
+-- the extremes so far, combined with others
 abbrev pub joined : Option Extremes → Extremes → Extremes
 joined None more = more
 joined (Some e) more = record { least = min e.least more.least; greatest = max e.greatest more.greatest }

@@ -9,14 +9,14 @@ use Rattle.monitors.specs.States.{State}
 abbrev pub sizes : List PictureFacts → List ℕ
 sizes facts = map (λ f. f.bytes) facts
 
--- the line of a sum and a greatest size
+-- the line of a sum and a maximum
 unfoldable pub bytes_line : ℕ → ℕ → List ℕ
 bytes_line total greatest = codes "bytes " ++ decimal total ++ codes " " ++ decimal greatest ++ codes "\n"
 
--- what is reported of these pictures: their sum, which stays at its last value, and the greatest, 0 without pictures
+-- the report of these pictures: the saturating sum and the maximum of their sizes, 0 without pictures
 abbrev pub bytes_text : State
 bytes_text facts = bytes_line (min (sum (sizes facts)) last) (fold max 0 (sizes facts))
 
--- the state behind pictures with this sum and this greatest size
+-- the state after pictures with this sum and this maximum size
 abbrev pub bytes_state : ℕ → ℕ → State
 bytes_state total greatest = λ facts. bytes_line (min (total + sum (sizes facts)) last) (fold max greatest (sizes facts))

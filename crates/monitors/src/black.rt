@@ -1,4 +1,4 @@
-//! The runs of black pictures.
+//! Reports the runs of black pictures.
 
 ghost use Rattle.std.specs.Prelude.{◌≡◌, ◌++◌, [], OnOk, OnErr, IfOk, ◌<◌, length};
 ghost use Rattle.std.specs.Bool.{OnTrue, OnFalse};
@@ -12,16 +12,16 @@ use pw_planes::Depth;
 use pw_text::{put_decimal, put_words};
 use std::alloc::Global;
 
-/// Black pictures one after the other.
+/// A run of consecutive black pictures.
 #[derive(Clone, Copy)]
 pub(crate) struct Run {
-    /// The number of the first of them.
+    /// The number of its first picture.
     pub(crate) first: u32,
-    /// How many there are; it stays at 2^64 − 1 once it is reached.
+    /// Its length; saturates at 2^64 − 1.
     pub(crate) count: u64,
 }
 
-/// The greatest luma of a black picture.
+/// The maximum luma of a black picture.
 fn black_limit(depth: Depth) -> u16
     ensures { result ≡ black_limit depth }
 {
@@ -39,7 +39,7 @@ fn is_black(facts: &PictureFacts) -> bool
     facts.greatest_luma <= black_limit(facts.depth)
 }
 
-/// The run with this picture at its end.
+/// The run with this picture appended.
 fn grown(run: Option<Run>, facts: &PictureFacts) -> Run
     ensures { result ≡ grown run facts.now }
 {
@@ -55,8 +55,7 @@ fn grown(run: Option<Run>, facts: &PictureFacts) -> Run
     }
 }
 
-/// Puts the run that may have gone on, where there is one, behind those that are over. After `NoMemory` they are as they
-/// were.
+/// Appends the open run, if there is one, to the finished runs. After `NoMemory` these are unchanged.
 #[tactic(auto, using(crate::proofs::Runs::one_over))]
 fn close(over: &mut Vec<Run>, going: Option<Run>) -> Result<(), NoMemory>
     ensures ok { OnOk result (over.new.items ≡ over.old.items ++ runs_on going []) }
@@ -92,7 +91,7 @@ fn put_runs(text: &mut Vec<u8>, runs: &[Run]) -> Result<(), NoMemory>
     Ok(())
 }
 
-/// Appends the lines of the runs that are over and of the one that may go on.
+/// Appends the lines of the finished runs and of the open run.
 #[tactic(auto, using(crate::proofs::Runs::lines_of_one_more, crate::proofs::Runs::lines_of_no_more))]
 fn put_all_runs(text: &mut Vec<u8>, over: &[Run], going: Option<Run>) -> Result<(), NoMemory>
     ensures { OnOk result (text.new.items ≡ text.old.items ++ flat_map run_line (over.now ++ runs_on going [])) }
@@ -104,7 +103,7 @@ fn put_all_runs(text: &mut Vec<u8>, over: &[Run], going: Option<Run>) -> Result<
     }
 }
 
-/// Whether there are any.
+/// Whether there are any runs.
 fn has_runs(over: &[Run], going: Option<Run>) -> bool
     ensures some { OnTrue result (0 < length (over.now ++ runs_on going [])) }
     ensures none { OnFalse result (length (over.now ++ runs_on going []) ≡ 0) }
@@ -115,7 +114,7 @@ fn has_runs(over: &[Run], going: Option<Run>) -> bool
     }
 }
 
-/// The lines of the runs that are over and of the one that may go on, or that of none.
+/// The lines of the finished runs and of the open run, or the line for no runs.
 #[tactic(auto, using(crate::proofs::Runs::lines_of_none, crate::proofs::Runs::lines_of_some))]
 fn black_lines(alloc: Global, over: &[Run], going: Option<Run>) -> Result<Vec<u8>, NoMemory>
     ensures { IfOk result (λ text. text.items ≡ black_lines (over.now ++ runs_on going [])) }
@@ -130,9 +129,8 @@ fn black_lines(alloc: Global, over: &[Run], going: Option<Run>) -> Result<Vec<u8
     }
 }
 
-/// Reports the runs of black pictures, `black F C` for each with the number of its first picture and their count, or
-/// `black none`. A picture is black where its greatest luma is at most 2^(b − 4), b being the number of bits of a
-/// sample.
+/// Reports the runs of black pictures, `black F C` for each with the number of its first picture and its length, or
+/// `black none`. A picture is black if its maximum luma is at most 2^(b − 4), with b bits per sample.
 #[derive(Drop)]
 pub struct BlackMonitor {
     over: Vec<Run>,
@@ -140,7 +138,7 @@ pub struct BlackMonitor {
 }
 
 impl BlackMonitor {
-    /// No pictures yet. Takes no memory.
+    /// A monitor without pictures. Takes no memory.
     pub fn new(alloc: Global) -> BlackMonitor
         ensures { ⟦<BlackMonitor as Monitor>⟧.state result ≡ black_text }
     {

@@ -1,4 +1,4 @@
-//! The least and the greatest of numbers that pictures have.
+//! Minima and maxima of numbers of pictures.
 
 ghost use Rattle.std.specs.Prelude.{◌≡◌, IfOk};
 ghost use Rattle.std.specs.Option.{option_map};
@@ -8,14 +8,14 @@ use pw_outside::NoMemory;
 use pw_text::{put_decimal, put_words};
 use std::alloc::Global;
 
-/// The least and the greatest of some numbers.
+/// A minimum and a maximum.
 #[derive(Clone, Copy)]
 pub(crate) struct Extremes {
     pub(crate) least: u16,
     pub(crate) greatest: u16,
 }
 
-/// Those of the numbers that were seen and of others.
+/// The extremes so far, combined with others.
 pub(crate) fn joined(seen: Option<Extremes>, more: Extremes) -> Extremes
     ensures { result ≡ joined seen more }
 {
@@ -28,7 +28,7 @@ pub(crate) fn joined(seen: Option<Extremes>, more: Extremes) -> Extremes
     }
 }
 
-/// The line of these words with the least and the greatest, or with `none`.
+/// A line with these words and the extremes, or `none`.
 #[tactic(auto, unfolding(crate::specs::Extremes::extremes_line))]
 pub(crate) fn extremes_line(
     alloc: Global,

@@ -1,22 +1,22 @@
-//! What a monitor is told of a picture.
+//! The facts of a picture.
 
 use pw_planes::Depth;
 
-/// What a monitor is told of a picture.
+/// The facts of a picture that a monitor receives.
 #[derive(Clone, Copy, Debug, PartialEq, Eq)]
 pub struct PictureFacts {
-    /// The number of its sample, from 0.
+    /// The index of its sample, from 0.
     pub number: u32,
-    /// The number of bytes of its sample.
+    /// The size of its sample in bytes.
     pub bytes: u32,
-    /// The least quantisation index of its slices, from 1 to 224.
+    /// The minimum quantisation index of its slices, from 1 to 224.
     pub least_index: u8,
-    /// The greatest, from 1 to 224.
+    /// The maximum quantisation index of its slices, from 1 to 224.
     pub greatest_index: u8,
-    /// The least sample of luma, as it is shown.
+    /// The minimum luma sample of the output.
     pub least_luma: u16,
-    /// The greatest.
+    /// The maximum luma sample of the output.
     pub greatest_luma: u16,
-    /// The number of bits at which it is shown.
+    /// The bit depth of the output.
     pub depth: Depth,
 }

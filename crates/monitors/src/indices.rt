@@ -1,4 +1,4 @@
-//! The least and the greatest quantisation index of all pictures.
+//! Reports the minimum and the maximum quantisation index.
 
 ghost use Rattle.std.specs.Prelude.{◌≡◌};
 ghost use Rattle.monitors.specs.Extremes.{indices_text};
@@ -8,7 +8,7 @@ use crate::facts::PictureFacts;
 use crate::monitor::{Monitor, append};
 use pw_outside::NoMemory;
 
-/// Reports the least and the greatest quantisation index of all pictures: `indices L G`, or `indices none` without
+/// Reports the minimum and the maximum quantisation index of all pictures: `indices L G`, or `indices none` without
 /// pictures.
 #[derive(Drop)]
 pub struct IndexMonitor {
@@ -16,7 +16,7 @@ pub struct IndexMonitor {
 }
 
 impl IndexMonitor {
-    /// No pictures yet.
+    /// A monitor without pictures.
     pub fn new() -> IndexMonitor
         ensures { ⟦<IndexMonitor as Monitor>⟧.state result ≡ indices_text }
     {

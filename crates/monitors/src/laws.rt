@@ -1,16 +1,15 @@
-//! Laws over the definitions alone. The functions do nothing; their contracts are the laws.
+//! Laws over the definitions alone. The functions have no effect; their contracts are the laws.
 
 ghost use Rattle.monitors.specs.States.{StepsInOrder, ReportsAllPictures};
 ghost use Rattle.monitors.specs.Black.{RunsHaveAllBlack};
 
-/// A monitor that takes pictures one after the other is behind all of them, and reports then what it meant for their
-/// list.
+/// A monitor that received pictures in order reports its initial state's text for their list.
 pub fn pictures_are_taken_in_order()
     ensures steps { StepsInOrder }
     ensures report { ReportsAllPictures }
 {}
 
-/// The runs together have as many pictures as are black, where there are less than 2^64.
+/// The lengths of the runs add up to the number of black pictures, if there are fewer than 2^64 pictures.
 pub fn runs_have_all_black_pictures()
     ensures { RunsHaveAllBlack }
 {}

@@ -1,4 +1,4 @@
-//! The least and the greatest luma of all pictures.
+//! Reports the minimum and the maximum luma.
 
 ghost use Rattle.std.specs.Prelude.{◌≡◌};
 ghost use Rattle.monitors.specs.Extremes.{levels_text};
@@ -8,14 +8,14 @@ use crate::facts::PictureFacts;
 use crate::monitor::{Monitor, append};
 use pw_outside::NoMemory;
 
-/// Reports the least and the greatest luma of all pictures: `levels L G`, or `levels none` without pictures.
+/// Reports the minimum and the maximum luma of all pictures: `levels L G`, or `levels none` without pictures.
 #[derive(Drop)]
 pub struct LevelMonitor {
     seen: Option<Extremes>,
 }
 
 impl LevelMonitor {
-    /// No pictures yet.
+    /// A monitor without pictures.
     pub fn new() -> LevelMonitor
         ensures { ⟦<LevelMonitor as Monitor>⟧.state result ≡ levels_text }
     {

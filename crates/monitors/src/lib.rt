@@ -1,4 +1,4 @@
-//! Monitors, which are told the facts of each picture that is decoded, and report in the end.
+//! Monitors, which receive the facts of each decoded picture, and report at the end.
 #![tactic(auto)]
 
 mod black;
@@ -17,6 +17,3 @@ pub use laws::{pictures_are_taken_in_order, runs_have_all_black_pictures};
 pub use levels::LevelMonitor;
 pub use monitor::Monitor;
 pub use sizes::BytesMonitor;
-
-#[cfg(test)]
-mod tests;

@@ -1,4 +1,4 @@
-//! The bytes of all samples.
+//! Reports the sizes of the samples.
 
 ghost use Rattle.std.specs.Prelude.{◌≡◌, IfOk};
 ghost use Rattle.monitors.specs.Sizes.{bytes_text, bytes_line};
@@ -9,7 +9,7 @@ use pw_outside::NoMemory;
 use pw_text::{put_decimal, put_words};
 use std::alloc::Global;
 
-/// The line of a sum and a greatest size.
+/// The line of a sum and a maximum.
 #[tactic(auto, unfolding(crate::specs::Sizes::bytes_line))]
 fn bytes_line(alloc: Global, total: u64, greatest: u32) -> Result<Vec<u8>, NoMemory>
     ensures { IfOk result (λ line. line.items ≡ bytes_line total greatest) }
@@ -23,8 +23,8 @@ fn bytes_line(alloc: Global, total: u64, greatest: u32) -> Result<Vec<u8>, NoMem
     Ok(line)
 }
 
-/// Reports the sum and the greatest of the samples' sizes, 0 without pictures: `bytes T G`. The sum stays at
-/// 2^64 − 1 once it is reached.
+/// Reports the sum and the maximum of the samples' sizes, 0 without pictures: `bytes T G`. The sum saturates at
+/// 2^64 − 1.
 #[derive(Drop)]
 pub struct BytesMonitor {
     total: u64,
@@ -32,7 +32,7 @@ pub struct BytesMonitor {
 }
 
 impl BytesMonitor {
-    /// No pictures yet.
+    /// A monitor without pictures.
     #[tactic(auto, using(crate::proofs::Sums::no_bytes))]
     pub fn new() -> BytesMonitor
         ensures { ⟦<BytesMonitor as Monitor>⟧.state result ≡ bytes_text }

@@ -1,4 +1,4 @@
--- What a run that puts sound beside pictures comes to.
+-- The outcome of a run that adds sound to pictures.
 use Rattle.std.proofs.Common.{◌≡◌, ℕ, List, ◌++◌, Option, Ok, Err, ap, sym, subst, ◌∙◌}
 use Rattle.std.specs.Prelude.{IsSome}
 use Rattle.pw_outside.specs.Reading.{Fault, Rest, Told, rest_of, bytes_of}
@@ -36,7 +36,7 @@ pub added-text : (file wav : List ℕ) (m : Movie) (p : Pcm) (rest : Rest) → m
 unfolding added
 added-text file wav m p rest e k = sym (ap (λ x. (added_by file wav x).text) e ∙ ap (λ x. (added_with file m x).text) k)
 
--- ---- where the parts were written
+-- ---- once the parts were written
 
 -- what was read: the movie, and the WAV up to its sound
 pub record WasRead (told now wav left : Option (List ℕ)) (m : Movie) (p : Pcm) (place : ℕ) : Type 0 where

@@ -1,4 +1,4 @@
--- How many frames of sound are in front of a time.
+-- The number of frames of sound before a time.
 use Rattle.std.proofs.Common.{◌≡◌, ℕ, ◌+◌, ◌*◌, ◌/◌, ◌%◌, ◌≤◌, min, arith, sym, ap, ◌∙◌}
 use Rattle.std.proofs.Math.Nat.{div-mul-le_self, div-add-mod, mul-add-div_right, add-mul, mul_assoc, mul_comm, min-eq_right, le-mul_of_pos_right}
 use Rattle.std.proofs.lemmas.Nat.{le-div}
@@ -6,7 +6,7 @@ use Rattle.std.proofs.lemmas.Nat.{le-div}
 pub div-up : (a b k : ℕ) → 1 ≤ k → a ≤ b → a / k ≤ b / k
 div-up a b k h le = le-div (a / k) b k (omega (arith, h)) (omega (arith, div-mul-le_self a k, le))
 
--- by whole units and the rest of one
+-- as whole units and a remainder
 pub border_late : (time scale rate : ℕ) → 1 ≤ scale → time * rate / scale ≡ time / scale * rate + time % scale * rate / scale
 border_late time scale rate h =
     let q = time / scale in
@@ -16,7 +16,7 @@ border_late time scale rate h =
     let same : time * rate ≡ q * rate * scale + r * rate = ap (λ n. n * rate) parts ∙ (add-mul (scale * q) r rate ∙ ap (λ n. n + r * rate) swap) in
     ap (λ n. n / scale) same ∙ mul-add-div_right {m = scale} (omega (arith, h)) (q * rate) (r * rate)
 
--- a time behind all sound
+-- a time after all sound
 pub border_early : (time scale rate frames : ℕ) → 1 ≤ scale → 1 ≤ rate → frames ≤ time / scale → min (time * rate / scale) frames ≡ frames
 border_early time scale rate frames h k le =
     let more : time ≤ time * rate = le-mul_of_pos_right time (omega (arith, k)) in

@@ -17,11 +17,11 @@ use Rattle.pcm_track.specs.Sounding.{chunk_bytes, chunk_end, chunks_end}
 use Rattle.pcm_track.specs.Writing.{Copied, CopiedFront, told_from}
 use Rattle.pcm_track.proofs.HeldFrames.{told}
 
--- the chunk that was told, as the definitions have it
+-- a chunk as the definitions have it
 abbrev pub plain : Chunk → track.Chunk
 plain c = record { at = c.at; samples = c.samples; description = 0 }
 
--- chunk i stands in front of the others
+-- chunk i is the first of the rest
 pub record Next (cs : List track.Chunk) (i : ℕ) (c : Chunk) : Type 0 where
   pub chunk : track.Chunk
   pub is : told chunk ≡ c
@@ -50,7 +50,7 @@ next-chunk (x ∷ cs) (suc i) c e =
       ahead = rw k n.ahead;
     }
 
--- ---- how it ends
+-- ---- the outcome
 
 goes-on : (b : Bool) (bad rest : SoundEnd) → is_done bad ≡ false → ends.Done ≡ (if b then bad else ends.Done) → (if b then bad else rest) ≡ rest
 goes-on true bad rest h e = absurd (let one = ap is_done e ∙ h in cc)
@@ -60,7 +60,7 @@ stops : (b : Bool) (bad rest end : SoundEnd) → is_done end ≡ false → end �
 stops true bad rest end h e = e
 stops false bad rest end h e = absurd (let one = sym h ∙ ap is_done e in cc)
 
--- a chunk that the file has is passed
+-- a chunk that the file has
 pub answer-on : (file : List ℕ) (channels : ℕ) (cs : List track.Chunk) (i : ℕ) (c : Chunk) (total : SoundEnd) → Next cs i c → ends.Done ≡ chunk_end file channels (plain c)
     → chunks_end file channels (drop i cs) ≡ total → chunks_end file channels (drop (i + 1) cs) ≡ total
 answer-on file channels cs i c total n e so_far =
@@ -83,7 +83,7 @@ answer-there file channels cs i c total (ends.BadSound kind place) n h e so_far 
     stops (nat_lt (length file) (n.chunk.at + sound_size channels n.chunk.samples)) (ends.BadMovie SampleOutside n.chunk.at) (chunks_end file channels (drop (i + 1) cs)) (ends.BadSound kind place) refl here
     ∙ sym (ap (chunks_end file channels) n.ahead) ∙ so_far
 
--- all chunks were passed
+-- the file has all chunks
 pub answer-all : (file : List ℕ) (channels : ℕ) (cs : List track.Chunk) (i : ℕ) (total : SoundEnd) → length cs ≤ i → chunks_end file channels (drop i cs) ≡ total → ends.Done ≡ total
 answer-all file channels cs i total le so_far =
     let none : drop i cs ≡ [] = nil_from_length (drop i cs) (omega (arith, le, length-drop i cs)) in
@@ -109,7 +109,7 @@ written-on known channels cs i c a b d h n p q =
     let one : Puts b d (chunk_bytes (bytes_of known) channels n.chunk) = subst (Puts b d) (bytes-is (bytes_of known) channels cs i c n) (told-puts known channels c b d h q) in
     subst (Puts a d) (sym (n.more (chunk_bytes (bytes_of known) channels))) (puts_then p one)
 
--- a front of one more chunk was written
+-- a prefix of one more chunk was written
 pub written-front : (known : Option (List ℕ)) (channels : ℕ) (cs : List track.Chunk) (i : ℕ) (c : Chunk) (a b d : SinkState) → IsSome known → Next cs i c → Puts a b (flat_map (chunk_bytes (bytes_of known) channels) (take i cs))
     → CopiedFront (told_from c.at known) (sound_size channels c.samples) b d → PutsFront a d (flat_map (chunk_bytes (bytes_of known) channels) cs)
 written-front known channels cs i c a b d h n p q =

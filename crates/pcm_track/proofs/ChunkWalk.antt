@@ -1,4 +1,4 @@
--- The chunks in front of the sound, one after the other.
+-- The chunks before the sound, one after the other.
 use Rattle.std.proofs.Common.{◌≡◌, refl, ℕ, suc, ◌+◌, ◌-◌, ◌<◌, List, Option, Some, Ok, Err, arith}
 use Rattle.pw_outside.specs.Reading.{Fault, Rest, bind}
 use Rattle.pcm_track.specs.declared.fault.SoundKind.{SoundKind}

@@ -1,4 +1,4 @@
--- Where no port failed, the answer is the defined one, or memory ran out.
+-- If no port failed, the result is the defined one, or memory ran out.
 use Rattle.std.proofs.Common.{◌≡◌, refl, inl, inr, ℕ, Bool, true, false, subst}
 use Rattle.std.specs.Prelude.{◌⊎◌}
 use Rattle.pw_outside.specs.Ports.{Rose, CountsFault, CountsFaults}
@@ -28,13 +28,13 @@ completes end ends.WriteFault h r w = absurd (w refl)
 completes end (ends.BadMovie kind place) h r w = inl h
 completes end (ends.BadSound kind place) h r w = inl h
 
--- two ports that didn't fail since counts that were the first ones
+-- two ports that didn't fail, by their first counts
 pub none-since : (first before now first' before' now' : ℕ) (failed : Bool) → before ≡ first → before' ≡ first' → CountsFaults before now before' now' failed → (Rose first now → ⊥) → (Rose first' now' → ⊥) → failed ≡ true → ⊥
 none-since first before now first' before' now' failed e e' c a b = none-of-two before now before' now' failed c (λ r. a (subst (λ k. Rose k now) e r)) (λ r. b (subst (λ k. Rose k now') e' r))
 
 pub never : (failed : Bool) → failed ≡ false → failed ≡ true → ⊥
 never failed e k = absurd cc
 
--- one port that didn't fail since a count that was the first one
+-- one port that didn't fail, by its first count
 pub none-failed-since : (first before now : ℕ) (failed : Bool) → before ≡ first → CountsFault before now failed → (Rose first now → ⊥) → failed ≡ true → ⊥
 none-failed-since first before now failed e c a = none-failed before now failed c (λ r. a (subst (λ k. Rose k now) e r))

@@ -56,21 +56,7 @@ put-nothing told n a h = record { bytes = frame_head_bytes n ++ first_bytes n (b
 abbrev pub IsPartOf : (movie wav : Option (List ℕ)) (channels : ℕ) → Part → List ℕ → Type 0
 IsPartOf movie wav channels x bytes = BothTold movie wav (λ file sound. bytes ≡ data_atom (part_bytes file channels x sound))
 
-pub picture-part : (movie wav : Option (List ℕ)) (channels : ℕ) (s : Sample) (bytes : List ℕ) → IsAtomOf (told_from s.at movie) s.size bytes → IsPartOf movie wav channels (parts.Picture s) bytes
-picture-part None wav channels s bytes h i j = absurd cc
-picture-part (Some file) wav channels s bytes h i j = h
-
-pub sound-part : (movie wav : Option (List ℕ)) (channels n : ℕ) (bytes : List ℕ) → IsAtomOf wav (sound_size channels n) bytes → IsPartOf movie wav channels (parts.Sound n) bytes
-sound-part movie None channels n bytes h i j = absurd cc
-sound-part movie (Some sound) channels n bytes h i j = h
-
-pub some-other : {P Q : List ℕ → Type 0} {a b : SinkState} → ((bytes : List ℕ) → P bytes → Q bytes) → PutsSome P a b → PutsSome Q a b
-some-other f p = record { bytes = p.bytes; is = f p.bytes p.is; puts = p.puts }
-
-pub some-other-front : {P Q : List ℕ → Type 0} {a b : SinkState} → ((bytes : List ℕ) → P bytes → Q bytes) → PutsSomeFront P a b → PutsSomeFront Q a b
-some-other-front f p = record { bytes = p.bytes; is = f p.bytes p.is; front = p.front }
-
--- ---- how a run goes on behind a part
+-- ---- the outcome after a part
 
 picture-behind-in : (b c : Bool) (x y : SoundEnd) (r r' : Rest) → (if b then Err x else (if c then Err y else Ok r)) ≡ Ok r' → r' ≡ r
 picture-behind-in true c x y r r' e = absurd cc
@@ -89,7 +75,7 @@ pub behind-bytes : (file : List ℕ) (channels : ℕ) (x : Part) (r r' : Rest) �
 behind-bytes file channels (parts.Picture s) r r' e = ap (λ (q : Rest). q.bytes) (picture-behind-in (nat_lt (length file) (s.at + s.size)) (nat_lt 4294967286 s.size) (ends.BadMovie SampleOutside s.at) (ends.BadMovie SampleLarge s.at) r r' e)
 behind-bytes file channels (parts.Sound n) r r' e = ap (λ (q : Rest). q.bytes) (passed-behind (sound_size channels n) r r' (sound-behind-in (passed_over (sound_size channels n) r) r' e))
 
--- a part is passed
+-- a part was written
 pub ends-on : (file : List ℕ) (channels : ℕ) (x : Part) (xs all : List Part) (r r' : Rest) → all ≡ x ∷ xs → behind_part file channels x r ≡ Ok r' → parts_end file channels xs r' ≡ parts_end file channels all r
 ends-on file channels x xs all r r' a e = sym (ap (λ l. parts_end file channels l r) a ∙ ap (λ b. and_then b (λ rest. parts_end file channels xs rest)) e)
 
@@ -101,13 +87,7 @@ stopped ends.WriteFault behind others n h = tt
 stopped (ends.BadMovie kind place) behind others n h = sym (ap (λ b. and_then b others) h)
 stopped (ends.BadSound kind place) behind others n h = sym (ap (λ b. and_then b others) h)
 
--- the run ends at a part
-pub ends-there : (file : List ℕ) (channels : ℕ) (x : Part) (xs all : List Part) (r : Rest) (end total : SoundEnd) → all ≡ x ∷ xs → is_done end ≡ false → Stops end (behind_part file channels x r)
-    → parts_end file channels all r ≡ total → AnswersUnlessOutside end total
-ends-there file channels x xs all r end total a n h e =
-    subst (AnswersUnlessOutside end) (sym (ap (λ l. parts_end file channels l r) a) ∙ e) (stopped end (behind_part file channels x r) (λ rest. parts_end file channels xs rest) n h)
-
--- ---- what is written behind a part
+-- ---- the bytes written after a part
 
 abbrev pub Written : (movie wav : Option (List ℕ)) (channels : ℕ) (ahead all : List Part) (left : Option (List ℕ)) → List ℕ → Type 0
 Written movie wav channels ahead all left bytes = BothTold movie wav (λ file sound. bytes ++ data_atoms file channels ahead (bytes_of left) ≡ data_atoms file channels all sound)
@@ -119,7 +99,7 @@ some-of : (told : Option (List ℕ)) → IsSome told → told ≡ Some (bytes_of
 some-of None h = absurd cc
 some-of (Some x) h = refl
 
--- one part more
+-- one more part
 pub written-on : (movie wav left left' : Option (List ℕ)) (channels place place' : ℕ) (x : Part) (xs ahead all : List Part) (a b c : SinkState)
     → (IsSome wav → IsSome left) → ahead ≡ x ∷ xs
     → BothTold movie left (λ file sound. behind_part file channels x (rest_of place left) ≡ Ok (rest_of place' left'))
@@ -137,7 +117,7 @@ written-on movie wav left left' channels place place' x xs ahead all a b c told 
   puts = puts_then p.puts q.puts;
 }
 
--- a front of one part more
+-- a prefix of one more part
 pub written-front : (movie wav left : Option (List ℕ)) (channels : ℕ) (x : Part) (xs ahead all : List Part) (a b c : SinkState)
     → (IsSome wav → IsSome left) → ahead ≡ x ∷ xs
     → PutsSome (Written movie wav channels ahead all left) a b → PutsSomeFront (IsPartOf movie left channels x) b c → PutsSomeFront (WrittenAll movie wav channels all) a c
@@ -161,21 +141,17 @@ written-all movie wav left channels ahead all a b e p = record {
   puts = p.puts;
 }
 
--- nothing yet
-pub written-none : (movie wav : Option (List ℕ)) (channels : ℕ) (all : List Part) (a : SinkState) → a.taken ≤ last → PutsSome (Written movie wav channels all all wav) a a
-written-none movie wav channels all a h = record { bytes = []; is = λ i j. refl; puts = puts_none a h }
-
 -- ---- a whole movie
 
 -- nothing was written
 pub none-both : (movie wav : Option (List ℕ)) (f : List ℕ → List ℕ → List ℕ) (a : SinkState) → a.taken ≤ last → PutsSomeFront (λ bytes. BothTold movie wav (λ x y. bytes ≡ f x y)) a a
 none-both movie wav f a h = record { bytes = f (bytes_of movie) (bytes_of wav); is = λ i j. refl; front = record { out = 0; front = puts_none a h } }
 
--- a front of the head
+-- a prefix of the head
 pub head-both : (movie wav : Option (List ℕ)) (head : List ℕ) (f : List ℕ → List ℕ → List ℕ) (a b : SinkState) → PutsFront a b head → PutsSomeFront (λ bytes. BothTold movie wav (λ x y. bytes ≡ head ++ f x y)) a b
 head-both movie wav head f a b p = record { bytes = head ++ f (bytes_of movie) (bytes_of wav); is = λ i j. refl; front = front_more (f (bytes_of movie) (bytes_of wav)) p }
 
--- the head, and a front of what is behind it
+-- the head, and a prefix of the rest
 pub middle-both : (movie wav : Option (List ℕ)) (head tail : List ℕ) (f : List ℕ → List ℕ → List ℕ) (a b c : SinkState) → Puts a b head → PutsSomeFront (λ bytes. BothTold movie wav (λ x y. bytes ≡ f x y)) b c
     → PutsSomeFront (λ bytes. BothTold movie wav (λ x y. bytes ≡ head ++ (f x y ++ tail))) a c
 middle-both movie wav head tail f a b c p q = record {
@@ -184,7 +160,7 @@ middle-both movie wav head tail f a b c p q = record {
   front = then_front p (front_more tail q.front);
 }
 
--- all but a front of the tail
+-- all up to the tail, and a prefix of the tail
 pub last-both : (movie wav : Option (List ℕ)) (head tail : List ℕ) (f : List ℕ → List ℕ → List ℕ) (a b c d : SinkState) → Puts a b head → PutsSome (λ bytes. BothTold movie wav (λ x y. bytes ≡ f x y)) b c → PutsFront c d tail
     → PutsSomeFront (λ bytes. BothTold movie wav (λ x y. bytes ≡ head ++ (f x y ++ tail))) a d
 last-both movie wav head tail f a b c d p q r = record {

@@ -1,4 +1,4 @@
--- How many frames the first chunks hold.
+-- The number of frames in the first chunks.
 use Rattle.std.proofs.Common.{◌≡◌, refl, ℕ, suc, ◌+◌, ◌<◌, get_or, List, [], ◌∷◌, Option, None, Some, length, take, map, sym, ap, ◌∙◌}
 use Rattle.std.specs.Prelude.{slice_get}
 use Rattle.std.specs.Option.{option_map}
@@ -33,7 +33,7 @@ held-step cs i c e =
     let d : track.Chunk = record { at = 0; samples = 0; description = 0 } in
     sum_by_more (λ (x : track.Chunk). x.samples) cs i d h.within ∙ ap (λ n. held_by (take i cs) + n) (h.same d)
 
--- there are as many chunks as places
+-- there are as many chunks as offsets
 pub chunks-counted : (runs : List ChunkRun) (number : ℕ) (offsets : List ℕ) → length (track.chunks_from runs number offsets) ≡ length offsets
 chunks-counted runs number [] = refl
 chunks-counted runs number (offset ∷ offsets) = ap suc (chunks-counted runs (number + 1) offsets)

@@ -1,4 +1,4 @@
--- Bytes that are passed over piece by piece.
+-- Bytes that are skipped piece by piece.
 use Rattle.std.proofs.Common.{◌≡◌, refl, ℕ, ◌+◌, ◌-◌, ◌<◌, ◌≤◌, length, drop, Ok, Err, true, false, nat_lt, arith, sym, ap, ◌∙◌, inl, inr}
 use Rattle.std.proofs.lemmas.Bool.{cases_lt, le-ltb, lt-ltb}
 use Rattle.std.proofs.lemmas.List.{drop-drop, length-drop}
@@ -26,7 +26,7 @@ rest_or s (Err f) = s
 abbrev pub cut : Rest → Fault SoundKind
 cut s = record { kind = Truncated; place = s.place + length s.bytes }
 
--- enough bytes are passed over
+-- enough bytes are skipped
 pub passed-ok : (n : ℕ) (s : Rest) → n ≤ length s.bytes → passed_over n s ≡ Ok (tt, behind n s)
 unfolding passed_over bind
 passed-ok n s h = let e : nat_lt (length s.bytes) n ≡ false = le-ltb _ _ h in rw e refl
@@ -36,7 +36,7 @@ pub passed-cut : (n : ℕ) (s : Rest) → length s.bytes < n → passed_over n s
 unfolding passed_over bind
 passed-cut n s h = let e : nat_lt (length s.bytes) n ≡ true = lt-ltb _ _ h in rw e refl
 
--- what was passed over was there
+-- the skipped bytes existed
 pub passed-there : (n : ℕ) (s t : Rest) → passed_over n s ≡ Ok (tt, t) → n ≤ length s.bytes
 passed-there n s t e = elim (cases_lt (length s.bytes) n) [
   | inl lt ↦ absurd (not-both (sym (passed-cut n s lt) ∙ e))
@@ -46,11 +46,11 @@ passed-there n s t e = elim (cases_lt (length s.bytes) n) [
     not-both : {f : Fault SoundKind} {x : Unit {0} × Rest} → err f ≡ Ok x → ⊥
     not-both e = absurd cc
 
--- what is behind the bytes that were passed over
+-- the rest after the skipped bytes
 pub passed-behind : (n : ℕ) (s t : Rest) → passed_over n s ≡ Ok (tt, t) → t ≡ behind n s
 passed-behind n s t e = ap (rest_or s) (sym e ∙ passed-ok n s (passed-there n s t e))
 
--- some are passed over, and then the others
+-- some bytes are skipped, then the others
 pub passed-step : (a n : ℕ) (s t : Rest) → a ≤ n → passed_over a s ≡ Ok (tt, t) → passed_over n s ≡ passed_over (n - a) t
 passed-step a n s t le e =
     let there = passed-there a s t e in
@@ -69,7 +69,7 @@ passed-step a n s t le e =
         let place : s.place + n ≡ (s.place + a) + (n - a) = omega (arith, le) in
         rw (bytes, place) refl
 
--- where some can't be passed over, more can't
+-- if some bytes can't be skipped, more can't either
 pub passed-err : (a n : ℕ) (s : Rest) (f : Fault SoundKind) → a ≤ n → passed_over a s ≡ Err f → passed_over n s ≡ Err f
 passed-err a n s f le e = elim (cases_lt (length s.bytes) a) [
   | inl lt ↦ passed-cut n s (omega (arith, lt, le)) ∙ sym (passed-cut a s lt) ∙ e
@@ -79,7 +79,7 @@ passed-err a n s f le e = elim (cases_lt (length s.bytes) a) [
     not-both : {f : Fault SoundKind} {x : Unit {0} × Rest} → ok x ≡ Err f → ⊥
     not-both e = absurd cc
 
--- no bytes are passed over
+-- no bytes are skipped
 pub passed-none : (s : Rest) → passed_over 0 s ≡ Ok (tt, s)
 passed-none s = passed-ok 0 s (omega arith) ∙ ap (λ r. Ok (tt, r)) (none s)
   where

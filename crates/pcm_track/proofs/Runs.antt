@@ -4,7 +4,7 @@ use Rattle.std.specs.List.{sum_by}
 use Rattle.std.proofs.lemmas.List.Sums.{sum_by-cons}
 use Rattle.pcm_track.specs.Adding.{joined, runs_of, chunk_runs, where_some}
 
--- a run of so many, and other runs behind it, the first of which may go on with it
+-- a run, before other runs, the first of which may have the same value
 abbrev pub run_then : (count value : ℕ) → List (ℕ × ℕ) → List (ℕ × ℕ)
 run_then count value [] = (count, value) ∷ []
 run_then count value (r ∷ rs) = if r.1 == value then (r.0 + count, value) ∷ rs else (count, value) ∷ r ∷ rs
@@ -26,17 +26,7 @@ pub run-more : (count y : ℕ) (rs : List (ℕ × ℕ)) → run_then count y (jo
 run-more count y [] = let n : 1 + count ≡ count + 1 = omega arith in rw (same y) (ap (λ n. (n, y) ∷ []) n)
 run-more count y (r ∷ rs) = more-in (r.1 == y) count y r rs
 
--- another value
-other-in : (b : Bool) (count value y : ℕ) (r : ℕ × ℕ) (rs : List (ℕ × ℕ)) → (y == value) ≡ false
-    → run_then count value (if b then (r.0 + 1, y) ∷ rs else (1, y) ∷ r ∷ rs) ≡ (count, value) ∷ (if b then (r.0 + 1, y) ∷ rs else (1, y) ∷ r ∷ rs)
-other-in true count value y r rs e = rw e refl
-other-in false count value y r rs e = rw e refl
-
-pub run-other : (count value y : ℕ) (rs : List (ℕ × ℕ)) → (y == value) ≡ false → run_then count value (joined y rs) ≡ (count, value) ∷ joined y rs
-run-other count value y [] e = rw e refl
-run-other count value y (r ∷ rs) e = other-in (r.1 == y) count value y r rs e
-
--- ---- how many there are
+-- ---- the number of values
 
 where-in : {A : Type 0} (b : Bool) (x : A) → length (if b then [] else x ∷ []) ≤ 1
 where-in true x = omega arith
@@ -56,7 +46,7 @@ counted-joined : (x : ℕ) (rs : List (ℕ × ℕ)) → counted (joined x rs) �
 counted-joined x [] = refl
 counted-joined x (r ∷ rs) = counted-in (r.1 == x) x r rs
 
--- the runs have as many as the list
+-- the runs have as many values as the list
 pub runs-counted : (xs : List ℕ) → counted (runs_of xs) ≡ length xs
 runs-counted [] = refl
 runs-counted (x ∷ xs) = counted-joined x (runs_of xs) ∙ ap suc (runs-counted xs)

@@ -8,6 +8,7 @@ use borrow.Author.Tests.{eqb-true}
 use Rattle.std.proofs.Math.Nat.{min-le_right, mul-le-mul_right}
 use Rattle.std.proofs.lemmas.List.Sums.{sum_by-cons}
 use Rattle.std.proofs.lemmas.List.Elements.{All-nil, All-cons, All-head, All-tail}
+use Rattle.qt_tables.specs.declared.tables.TheConstants.{MAX_SAMPLES}
 use Rattle.qt_tables.specs.declared.runs.Sample.{Sample}
 use Rattle.pcm_track.specs.declared.form.Pcm.{Pcm}
 use Rattle.pcm_track.specs.declared.parts.Part.{Part}
@@ -15,7 +16,7 @@ use Rattle.pcm_track.specs.declared.parts.Part.TheVariants as parts
 use Rattle.pcm_track.specs.Adding.{border, sound_end, with_sound, parts_from, parts_of, part_frames, chunk_frames, picture_places, sound_places, part_size, IsNear, IsPartNear}
 use Rattle.pcm_track.proofs.Borders.{div-up}
 
--- sound in front of other parts
+-- sound before other parts
 sound-in : (b : Bool) (n : ℕ) (others : List Part) → (if b then [] else parts.Sound n ∷ []) ++ others ≡ (if b then others else parts.Sound n ∷ others)
 sound-in true n others = refl
 sound-in false n others = refl
@@ -31,7 +32,7 @@ beside-more found total rest s n e =
     ∙ append_assoc found (parts.Picture s ∷ []) (with_sound n rest)
     ∙ e
 
--- one sample more, as the loop has it
+-- one more sample, in the form of the loop
 pub beside-step : (timescale : ℕ) (p : Pcm) (ahead xs : List Sample) (s : Sample) (time time' n start end : ℕ) (found pushed found' total : List Part)
     → ahead ≡ s ∷ xs → time' ≡ time + s.duration → start ≡ border timescale p time → end ≡ sound_end timescale p time' xs → n ≡ end - start
     → pushed ≡ found ++ parts.Picture s ∷ [] → found' ≡ pushed ++ with_sound n [] → found ++ parts_from timescale p time ahead ≡ total → found' ++ parts_from timescale p time' xs ≡ total
@@ -86,7 +87,7 @@ pub frames-of : (timescale : ℕ) (p : Pcm) (ss : List Sample) → 1 ≤ timesca
 frames-of timescale p [] h = omega (arith, frames-sound p.frames [])
 frames-of timescale p (s ∷ ss) h = omega (arith, frames-from timescale p 0 s ss h)
 
--- ---- how many parts there are
+-- ---- the number of parts
 
 length-sound-in : (b : Bool) (n : ℕ) (others : List Part) → length (if b then others else parts.Sound n ∷ others) ≤ suc (length others)
 length-sound-in true n others = omega arith
@@ -99,7 +100,7 @@ parts-few timescale p time (s ∷ ss) =
     let rest = parts_from timescale p (time + s.duration) ss in
     omega (arith, length-sound-in (n == 0) n rest, parts-few timescale p (time + s.duration) ss)
 
-pub parts-of-few : (timescale : ℕ) (p : Pcm) (ss : List Sample) → length ss ≤ 1000000 → length (parts_of timescale p ss) ≤ 2000001
+pub parts-of-few : (timescale : ℕ) (p : Pcm) (ss : List Sample) → length ss ≤ MAX_SAMPLES → length (parts_of timescale p ss) ≤ 2000001
 parts-of-few timescale p [] h = omega (arith, length-sound-in (p.frames == 0) p.frames [])
 parts-of-few timescale p (s ∷ ss) h = omega (arith, parts-few timescale p 0 (s ∷ ss))
 
@@ -114,11 +115,11 @@ chunks-few timescale p time (s ∷ ss) =
     let rest = parts_from timescale p (time + s.duration) ss in
     omega (arith, chunks-sound-in (n == 0) n rest, chunks-few timescale p (time + s.duration) ss)
 
-pub chunks-of-few : (timescale : ℕ) (p : Pcm) (ss : List Sample) → length ss ≤ 1000000 → length (chunk_frames (parts_of timescale p ss)) ≤ 1000000
+pub chunks-of-few : (timescale : ℕ) (p : Pcm) (ss : List Sample) → length ss ≤ MAX_SAMPLES → length (chunk_frames (parts_of timescale p ss)) ≤ MAX_SAMPLES
 chunks-of-few timescale p [] h = omega (arith, chunks-sound-in (p.frames == 0) p.frames [])
 chunks-of-few timescale p (s ∷ ss) h = omega (arith, chunks-few timescale p 0 (s ∷ ss))
 
--- as many places as chunks
+-- as many offsets as chunks
 pub sounds-many : (channels place : ℕ) (xs : List Part) → length (sound_places channels place xs) ≡ length (chunk_frames xs)
 sounds-many channels place [] = refl
 sounds-many channels place (parts.Picture s ∷ xs) = sounds-many channels (place + (8 + s.size)) xs
@@ -138,7 +139,7 @@ pub pictures-of : (timescale : ℕ) (p : Pcm) (ss : List Sample) (channels place
 pictures-of timescale p [] channels place = pictures-in (p.frames == 0) channels place p.frames [] 0 (λ at. refl)
 pictures-of timescale p (s ∷ ss) channels place = pictures-from timescale p 0 (s ∷ ss) channels place
 
--- ---- where samples lie
+-- ---- the offsets of samples
 
 near-in : (b : Bool) (n : ℕ) (others : List Part) → All IsPartNear others → All IsPartNear (if b then others else parts.Sound n ∷ others)
 near-in true n others h = h

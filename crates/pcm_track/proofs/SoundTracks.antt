@@ -1,4 +1,4 @@
--- Looking at tracks, descriptions and chunks one after the other, as a loop does.
+-- Tracks, descriptions and chunks, one after the other, as a loop reads them.
 use Rattle.std.proofs.Common.{◌≡◌, ℕ, suc, ◌-◌, ◌+◌, ◌≤◌, ◌<◌, Bool, true, false, List, Option, None, Some, Ok, refl, sym, ap, ◌∙◌, arith}
 use Rattle.std.specs.List.{filter}
 use Rattle.pw_outside.specs.Reading.{bind, ◌>>=◌, Fails}
@@ -18,7 +18,7 @@ use Rattle.pcm_track.specs.Track.{sound_track_in, first_sound, readable_at, read
 
 -- ---- tracks
 
--- the first track of sound from a place of a `moov` on
+-- the first sound track of a `moov` from an offset on
 abbrev pub sound_from : List ℕ → (place end : ℕ) → Found (Option Parts)
 sound_from file place end = first_sound file (filter is_trak (walk file place end false).atoms)
 
@@ -33,7 +33,7 @@ sounds-end file place end total lt h so_far = sym so_far ∙ ap (λ w. first_sou
 some-not-none : (place : ℕ) → (let x : Option ℕ = Some place in x) ≡ None → ⊥
 some-not-none place h = grind arith
 
--- a bad size is none of a `moov` that has none
+-- a `moov` without a bad size has none at any offset
 pub sounds-fail : (e : AtomFault) (file : List ℕ) (place end : ℕ) (total : Found (Option Parts)) → place < end → Fails atoms_told e (atom_at file place end false) → (walk file place end false).bad ≡ None
     → Fails told_fault (lifted e) total
 sounds-fail (atoms.Size at) file place end total lt h whole = absurd (some-not-none at (sym (ap (λ w. w.bad) (walk_bad file place end false at lt h)) ∙ whole))
@@ -42,7 +42,7 @@ sounds-fail atoms.Failed file place end total lt h whole = tt
 pub whole-on : (file : List ℕ) (place end : ℕ) (a : Atom) → place < end → atom_at file place end false ≡ Ok (steps.Atom a) → StartsAt place end (steps.Atom a) → (walk file place end false).bad ≡ None → (walk file a.end end false).bad ≡ None
 whole-on file place end a lt h s whole = sym (ap (λ w. w.bad) (walk_atom file place end false a lt h s)) ∙ whole
 
--- an atom that is no track is passed over
+-- an atom that is no track is skipped
 pub sounds-passed : (file : List ℕ) (place end : ℕ) (a : Atom) (total : Found (Option Parts)) → place < end → atom_at file place end false ≡ Ok (steps.Atom a) → StartsAt place end (steps.Atom a) → is_trak a ≡ false
     → sound_from file place end ≡ total → sound_from file a.end end ≡ total
 sounds-passed file place end a total lt h s t so_far =
@@ -94,10 +94,3 @@ readable-more refs file stsd count i place d total lt h e so_far =
     let k : count - i ≡ suc (count - (i + 1)) = omega arith in
     let one : is_external refs (readable file stsd (count - i) place) ≡ is_external refs (readable file stsd (count - (i + 1)) (place + d.size)) = rw (k, h, e) refl in
     sym one ∙ so_far
-
-pub readable-none : (refs : List Bool) (file : List ℕ) (stsd : Atom) (count i place : ℕ) (total : Bool) → count ≤ i
-    → is_external refs (readable file stsd (count - i) place) ≡ total → total ≡ false
-readable-none refs file stsd count i place total le so_far =
-    let k : count - i ≡ 0 = omega arith in
-    let one : is_external refs (readable file stsd (count - i) place) ≡ false = rw k refl in
-    sym so_far ∙ one

@@ -1,4 +1,4 @@
--- What a run that takes the sound out of a movie comes to.
+-- The outcome of a run that extracts the sound of a movie.
 use Rattle.std.proofs.Common.{◌≡◌, ℕ, List, ◌++◌, Ok, Err, ap, sym, ◌∙◌}
 use Rattle.std.specs.List.{flat_map}
 use Rattle.pw_outside.specs.Reading.{Fault}

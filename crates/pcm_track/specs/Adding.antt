@@ -1,5 +1,5 @@
--- Putting sound beside the pictures of a movie: how it ends, and what is written. Atoms by the QuickTime File Format; which sound lies beside which
--- picture, and the order of the atoms, are our own.
+-- Adding sound to the pictures of a movie: its outcome, and what is written. Atoms by the QuickTime File Format;
+-- which sound lies beside which picture, and the order of the atoms, are our own.
 use Rattle.std.specs.Prelude.{◌≡◌, ◌<◌, ◌^◌, ℕ, ◌+◌, ◌-◌, ◌*◌, ◌/◌, ◌==◌, nat_lt, if◌then◌else◌, min, max, List, [], ◌∷◌, ◌++◌, length, drop, map, codes, sum_by, Option, IfSome, Result, Ok, Err}
 use Rattle.std.specs.Fmt.{decimal}
 use Rattle.std.specs.List.{flat_map}
@@ -25,43 +25,44 @@ use Rattle.pcm_track.specs.Ends.{Outcome}
 
 -- ---- which sound lies beside which sample
 
--- how many frames of sound are in front of a time of the movie, of those that there are
+-- the number of frames of sound before `time` of the movie, at most all frames
 abbrev pub border : (timescale : ℕ) → Pcm → (time : ℕ) → ℕ
 border timescale p time = min (time * p.rate / timescale) p.frames
 
--- Where the sound beside a sample ends that ends at a time: where the next sample begins; beside the last, at the end of all sound.
+-- The number of frames up to the end of the sound beside a sample that ends at `time`: where the next sample
+-- begins; for the last sample, all frames.
 abbrev pub sound_end : (timescale : ℕ) → Pcm → (time : ℕ) → (others : List Sample) → ℕ
 sound_end timescale p time [] = p.frames
 sound_end timescale p time (s ∷ ss) = border timescale p time
 
--- so many frames of sound in front of other parts, where there are any
+-- `frames` frames of sound before other parts, if there are any
 abbrev pub with_sound : (frames : ℕ) → List Part → List Part
 with_sound frames others = if frames == 0 then others else parts.Sound frames ∷ others
 
--- the samples, the first of which begins at a time, each with its sound behind it
+-- the samples, the first beginning at `time`, each followed by its sound
 abbrev pub parts_from : (timescale : ℕ) → Pcm → (time : ℕ) → List Sample → List Part
 parts_from timescale p time [] = []
 parts_from timescale p time (s ∷ ss) =
     parts.Picture s ∷ with_sound (sound_end timescale p (time + s.duration) ss - border timescale p time) (parts_from timescale p (time + s.duration) ss)
 
--- what the data atoms hold: the samples with their sound; where there is no sample, all sound
+-- the contents of the data atoms: the samples with their sound; without a sample, all sound
 abbrev pub parts_of : (timescale : ℕ) → Pcm → List Sample → List Part
 parts_of timescale p [] = with_sound p.frames []
 parts_of timescale p (s ∷ ss) = parts_from timescale p 0 (s ∷ ss)
 
 -- ---- the data atoms
 
--- how many bytes a part has
+-- the number of bytes of a part
 abbrev pub part_size : (channels : ℕ) → Part → ℕ
 part_size channels (parts.Picture s) = s.size
 part_size channels (parts.Sound n) = sound_size channels n
 
--- how many of them are sound
+-- the number of bytes of sound in a part
 abbrev pub sound_in_part : (channels : ℕ) → Part → ℕ
 sound_in_part channels (parts.Picture s) = 0
 sound_in_part channels (parts.Sound n) = sound_size channels n
 
--- the bytes of a part, whose sound stands at the front of this sound; one that the file or the sound doesn't have counts as 0
+-- the bytes of a part; its sound is a prefix of `sound`. Bytes missing from the file or the sound are taken as 0.
 abbrev pub part_bytes : (file : List ℕ) → (channels : ℕ) → Part → (sound : List ℕ) → List ℕ
 part_bytes file channels (parts.Picture s) sound = first_bytes s.size (drop s.at file)
 part_bytes file channels (parts.Sound n) sound = first_bytes (sound_size channels n) sound
@@ -74,7 +75,7 @@ abbrev pub data_atoms : (file : List ℕ) → (channels : ℕ) → List Part →
 data_atoms file channels [] sound = []
 data_atoms file channels (x ∷ others) sound = data_atom (part_bytes file channels x sound) ++ data_atoms file channels others (drop (sound_in_part channels x) sound)
 
--- where a sample lies, and where a chunk of sound does, in a data atom at a place: behind the 8 bytes of its head
+-- the offset of a sample, and of a chunk of sound, in a data atom at `place`: after the 8 bytes of its header
 abbrev pub picture_at : (place : ℕ) → Part → List ℕ
 picture_at place (parts.Picture s) = (place + 8) ∷ []
 picture_at place (parts.Sound n) = []
@@ -83,47 +84,47 @@ abbrev pub sound_at : (place : ℕ) → Part → List ℕ
 sound_at place (parts.Picture s) = []
 sound_at place (parts.Sound n) = (place + 8) ∷ []
 
--- where the samples lie, the first data atom at a place
+-- the offsets of the samples, with the first data atom at `place`
 abbrev pub picture_places : (channels place : ℕ) → List Part → List ℕ
 picture_places channels place [] = []
 picture_places channels place (x ∷ others) = picture_at place x ++ picture_places channels (place + (8 + part_size channels x)) others
 
--- where the chunks of sound lie
+-- the offsets of the chunks of sound
 abbrev pub sound_places : (channels place : ℕ) → List Part → List ℕ
 sound_places channels place [] = []
 sound_places channels place (x ∷ others) = sound_at place x ++ sound_places channels (place + (8 + part_size channels x)) others
 
--- how many frames a part has, where it is a chunk of sound
+-- the number of frames of a part, if it is a chunk of sound
 abbrev pub frames_in : Part → List ℕ
 frames_in (parts.Picture s) = []
 frames_in (parts.Sound n) = n ∷ []
 
--- how many each chunk of sound has
+-- the number of frames of each chunk of sound
 abbrev pub chunk_frames : List Part → List ℕ
 chunk_frames xs = flat_map frames_in xs
 
 -- ---- the tables
 
--- a value in front of runs of equal values
+-- a value before runs of equal values
 abbrev pub joined : ℕ → List (ℕ × ℕ) → List (ℕ × ℕ)
 joined x [] = (1, x) ∷ []
 joined x (r ∷ rs) = if r.1 == x then (r.0 + 1, x) ∷ rs else (1, x) ∷ r ∷ rs
 
--- the runs of equal values of a list: how many, and the value
+-- the runs of equal values of a list: count and value
 abbrev pub runs_of : List ℕ → List (ℕ × ℕ)
 runs_of [] = []
 runs_of (x ∷ xs) = joined x (runs_of xs)
 
--- runs of chunks, the first of which has this number: the first chunk, its samples, the first description
+-- runs of chunks, the first with this number: first chunk, samples per chunk, first description
 abbrev pub chunk_runs : (number : ℕ) → List (ℕ × ℕ) → List (ℕ × ℕ × ℕ)
 chunk_runs number [] = []
 chunk_runs number (r ∷ rs) = (number, r.1, 1) ∷ chunk_runs (number + r.0) rs
 
--- one run, where it is one of something
+-- one run, if its count isn't 0
 abbrev pub where_some : {A : Type 0} → ℕ → A → List A
 where_some n run = if n == 0 then [] else run ∷ []
 
--- a duration as a field of 32 bits holds it
+-- a duration, saturated to a field of 32 bits
 abbrev pub duration_field : ℕ → ℕ
 duration_field n = min n 4294967295
 
@@ -131,11 +132,11 @@ duration_field n = min n 4294967295
 abbrev pub picture_duration : Movie → ℕ
 picture_duration m = sum_by (λ s. s.duration) (samples m.tables)
 
--- the duration of the sound in the units of the movie
+-- the duration of the sound in units of the movie's time scale
 abbrev pub sound_duration : Movie → Pcm → ℕ
 sound_duration m p = p.frames * m.tables.timescale / p.rate
 
--- the place behind the file type
+-- the offset after the file type
 abbrev pub first_place : ℕ
 first_place = 20
 
@@ -143,7 +144,7 @@ first_place = 20
 abbrev pub parts_in : Movie → Pcm → List Part
 parts_in m p = parts_of m.tables.timescale p (samples m.tables)
 
--- the track of pictures
+-- the picture track
 abbrev pub picture_values : Movie → Pcm → TrakValues
 picture_values m p = record {
   number = 1;
@@ -159,7 +160,7 @@ picture_values m p = record {
   offsets = picture_places p.channels first_place (parts_in m p);
 }
 
--- the track of sound
+-- the sound track
 abbrev pub sound_values : Movie → Pcm → TrakValues
 sound_values m p = record {
   number = 2;
@@ -185,13 +186,13 @@ two_tracks_bytes m p = moov_of_traks m.tables.timescale (duration_field (max (pi
 abbrev pub movie_with_sound : (file : List ℕ) → Movie → Pcm → (sound : List ℕ) → List ℕ
 movie_with_sound file m p sound = ftyp_bytes ++ (data_atoms file p.channels (parts_in m p) sound ++ two_tracks_bytes m p)
 
--- how many samples and how many frames of sound were written
+-- the line of text: the number of samples and of frames of sound written
 unfoldable pub added_line : Movie → Pcm → List ℕ
 added_line m p = codes "frames " ++ decimal (length (samples m.tables)) ++ codes " sound " ++ decimal p.frames ++ codes "\n"
 
--- ---- the end
+-- ---- the outcome
 
--- the sound behind a part that is there whole and fits a data atom, or how the run ends there
+-- the sound after a part that exists whole and fits a data atom, or how the run ends there
 abbrev pub behind_sound : Read SoundKind (Unit {0}) → Result Rest SoundEnd
 behind_sound (Ok x) = Ok x.1
 behind_sound (Err f) = Err (ends.BadSound f.kind f.place)
@@ -209,7 +210,7 @@ abbrev pub and_then : Result Rest SoundEnd → (Rest → SoundEnd) → SoundEnd
 and_then (Ok rest) others = others rest
 and_then (Err end) others = end
 
--- the end at the first part that isn't so, if there is one
+-- the outcome at the first part that doesn't, if there is one
 abbrev pub parts_end : (file : List ℕ) → (channels : ℕ) → List Part → (sound : Rest) → SoundEnd
 parts_end file channels [] sound = ends.Done
 parts_end file channels (x ∷ others) sound = and_then (behind_part file channels x sound) (λ rest. parts_end file channels others rest)
@@ -228,7 +229,8 @@ abbrev pub added_by : (file wav : List ℕ) → Result Movie (Fault MovieKind) �
 added_by file wav (Err f) = record { end = ends.BadMovie f.kind f.place; out = []; text = [] }
 added_by file wav (Ok m) = added_with file m (form_at (record { place = 0; bytes = wav }))
 
--- Putting the sound of a WAV beside the pictures of a movie: the movie is read first, then the WAV up to its sound, then each sample and its sound.
+-- Adding the sound of a WAV to the pictures of a movie: the movie is read first, then the WAV up to its sound, then
+-- each sample followed by its sound.
 unfoldable pub added : (file wav : List ℕ) → Outcome
 added file wav = added_by file wav (movie_in file)
 
@@ -241,11 +243,11 @@ Stops ends.ReadFault behind = Unit {0}
 Stops ends.WriteFault behind = Unit {0}
 Stops end behind = behind ≡ Err end
 
--- a data atom with so many of these bytes, where they are told
+-- a data atom whose body is the first n of these bytes, if they are visible
 abbrev pub IsAtomOf : Option (List ℕ) → ℕ → List ℕ → Type 0
 IsAtomOf told n bytes = IfSome told (λ there. bytes ≡ data_atom (first_bytes n there))
 
--- a sample lies at a place that leaves room for its bytes
+-- a sample's offset leaves room for its bytes
 abbrev pub IsNear : Sample → Type 0
 IsNear s = s.at < 2 ^ 63
 
@@ -253,7 +255,7 @@ abbrev pub IsPartNear : Part → Type 0
 IsPartNear (parts.Picture s) = IsNear s
 IsPartNear (parts.Sound n) = Unit {0}
 
--- how many frames of sound a part has
+-- the number of frames of sound of a part
 abbrev pub part_frames : Part → ℕ
 part_frames (parts.Picture s) = 0
 part_frames (parts.Sound n) = n

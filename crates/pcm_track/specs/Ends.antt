@@ -1,4 +1,4 @@
--- How runs end that put sound beside pictures, or take it out. Our own definitions.
+-- Outcomes of runs that add sound to a movie, or extract it. Our own definitions.
 use Rattle.std.specs.Prelude.{◌≡◌, ◌≤◌, ◌⊎◌, ℕ, Bool, true, false, List, Result, Ok, Err}
 use Rattle.std.specs.Bool.{OnTrue, OnFalse}
 use Rattle.pw_outside.specs.Ports.{Rose}
@@ -18,14 +18,14 @@ abbrev pub is_write_fault : SoundEnd → Bool
 is_write_fault ends.WriteFault = true
 is_write_fault _ = false
 
--- The answer is this one, unless a port failed or memory ran out.
+-- The result is this one, unless a port failed or memory ran out.
 abbrev pub AnswersUnlessOutside : SoundEnd → SoundEnd → Type 0
 AnswersUnlessOutside ends.NoMemory end = Unit {0}
 AnswersUnlessOutside ends.ReadFault end = Unit {0}
 AnswersUnlessOutside ends.WriteFault end = Unit {0}
 AnswersUnlessOutside answer end = answer ≡ end
 
--- The answer is this one, or memory ran out.
+-- The result is this one, or memory ran out.
 abbrev pub Completes : SoundEnd → SoundEnd → Type 0
 Completes end answer = (answer ≡ end) ⊎ (answer ≡ ends.NoMemory)
 
@@ -34,13 +34,13 @@ abbrev pub end_of : {X : Type 0} → Result X SoundEnd → SoundEnd
 end_of (Ok x) = ends.Done
 end_of (Err end) = end
 
--- how a run ends where no port fails and memory lasts, and what it writes where it is done
+-- the outcome of a run if no port fails and memory lasts, and what it writes if it is done
 pub record Outcome : Type 0 where
   pub end : SoundEnd
   pub out : List ℕ
   pub text : List ℕ
 
--- After Done all of these bytes were appended, and after every other answer a front of them.
+-- At Done all of these bytes were appended, and after any other result a prefix of them.
 abbrev pub PutsUntil : SoundEnd → List ℕ → SinkState → SinkState → Type 0
 PutsUntil ends.Done bytes before after = Puts before after bytes
 PutsUntil _ bytes before after = PutsFront before after bytes

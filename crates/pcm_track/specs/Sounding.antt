@@ -1,4 +1,4 @@
--- Taking the sound out of a movie: how it ends, and what is written. Our own definitions.
+-- Extracting the sound of a movie: its outcome, and what is written. Our own definitions.
 use Rattle.std.specs.Prelude.{ℕ, ◌+◌, List, [], ◌∷◌, ◌++◌, length, drop, nat_lt, if◌then◌else◌, Result, Ok, Err}
 use Rattle.std.specs.List.{flat_map}
 use Rattle.pw_outside.specs.Reading.{Fault}
@@ -12,15 +12,15 @@ use Rattle.pcm_track.specs.Track.{Sound, sound_in, chunks_of, frames_of}
 use Rattle.pcm_track.specs.Writing.{first_bytes, wav_head, sound_line}
 use Rattle.pcm_track.specs.Ends.{Outcome}
 
--- the bytes of a chunk; one that the file doesn't have counts as 0
+-- the bytes of a chunk, with bytes missing from the file taken as 0
 abbrev pub chunk_bytes : List ℕ → (channels : ℕ) → Chunk → List ℕ
 chunk_bytes file channels c = first_bytes (sound_size channels c.samples) (drop c.at file)
 
--- the end at a chunk: it is passed, unless it passes the end of the file
+-- the outcome at a chunk: BadMovie if it reaches past the end of the file, else Done
 abbrev pub chunk_end : List ℕ → (channels : ℕ) → Chunk → SoundEnd
 chunk_end file channels c = if nat_lt (length file) (c.at + sound_size channels c.samples) then ends.BadMovie SampleOutside c.at else ends.Done
 
--- the end at the first chunk that passes the end of the file, if one does
+-- the outcome at the first chunk that reaches past the end of the file, if there is one
 abbrev pub chunks_end : List ℕ → (channels : ℕ) → List Chunk → SoundEnd
 chunks_end file channels [] = ends.Done
 chunks_end file channels (c ∷ cs) = if nat_lt (length file) (c.at + sound_size channels c.samples) then ends.BadMovie SampleOutside c.at else chunks_end file channels cs
@@ -33,6 +33,6 @@ sounded_by file (Ok s) = record {
   text = sound_line s.format (frames_of s);
 }
 
--- Taking the sound out of the movie that these bytes are: a WAV of one head and the bytes of the chunks, and a line.
+-- Extracting the sound of the movie with these bytes: a WAV of one header and the bytes of the chunks, and a line.
 unfoldable pub sounded : List ℕ → Outcome
 sounded file = sounded_by file (sound_in file)

@@ -1,5 +1,6 @@
--- What a QuickTime file says of its sound: the first track of plain PCM, or the first fault in the order of reading.
--- Atoms and fields by the QuickTime File Format ("Sound Sample Description (Version 0)"); which track is taken, and the order of faults, are our own.
+-- The sound of a QuickTime file: the first plain PCM track, or the first fault in the order of reading. Atoms and
+-- fields by the QuickTime File Format ("Sound Sample Description (Version 0)"); which track is taken, and the order
+-- of faults, are our own.
 use Rattle.std.specs.Prelude.{ℕ, zero, suc, ◌+◌, ◌-◌, Bool, not, List, [], ◌∷◌, Option, Some, None, Ok, nat_lt, nat_le, ◌==◌, ◌&&◌, ◌||◌, if◌then◌else◌, codes}
 use Rattle.std.specs.Str.{bytes_eq}
 use Rattle.std.specs.Int.{w16, w32}
@@ -18,27 +19,27 @@ use Rattle.pcm_track.specs.Wav.{sound_size}
 
 -- ---- the track
 
--- whether the handler is that of sound: its subtype, 8 bytes into the body
+-- whether the handler is that of sound: its subtype, at offset 8 of the body
 abbrev pub is_sound : List ℕ → Atom → Bool
 is_sound file hdlr = nat_le 12 (body_length hdlr) && bytes_eq (bytes_in 4 file (hdlr.body + 8)) (codes "soun")
 
--- whether there is a description, and the first one is that of plain PCM, the most significant byte behind the other
+-- whether the first description exists and is plain little-endian PCM
 abbrev pub is_plain : List ℕ → Atom → Bool
 is_plain file stsd = nat_le 16 (body_length stsd) && nat_lt 0 (number_in w32 file (stsd.body + 4)) && bytes_eq (kind_in file (stsd.body + 8)) (codes "sowt")
 
--- a track, where it is one of plain sound
+-- a track, if it is plain PCM sound
 unfoldable pub sound_track_in : List ℕ → Atom → Found (Option Parts)
 sound_track_in file trak = parts_in file trak >>= λ found. or_none found (λ parts.
     Ok (if is_sound file parts.hdlr && is_plain file parts.stsd then Some parts else None))
 
--- the first track of plain sound
+-- the first plain PCM sound track
 unfoldable pub first_sound : List ℕ → (traks : List Atom) → Found (Option Parts)
 first_sound file [] = Ok None
 first_sound file (trak ∷ traks) = sound_track_in file trak >>= λ here. or_else here (first_sound file traks)
 
 -- ---- its descriptions
 
--- the description at a place of an `stsd`, where it has at least 16 bytes and doesn't pass its atom
+-- the description at offset `place` of an `stsd`, if it has at least 16 bytes and lies within its atom
 unfoldable pub readable_at : List ℕ → (stsd : Atom) → (place : ℕ) → Option Description
 readable_at file stsd place =
     let size = number_in w32 file place in
@@ -49,7 +50,7 @@ abbrev pub and_later : Option Description → (Description → List Description)
 and_later None later = []
 and_later (Some d) later = d ∷ later d
 
--- of so many descriptions from a place on, those in front of the first that can't be read
+-- of `count` descriptions from `place` on, those before the first unreadable one
 abbrev pub readable : List ℕ → (stsd : Atom) → (count place : ℕ) → List Description
 readable file stsd zero place = []
 readable file stsd (suc count) place = and_later (readable_at file stsd place) (λ d. readable file stsd count (place + d.size))
@@ -58,7 +59,8 @@ readable file stsd (suc count) place = and_later (readable_at file stsd place) (
 abbrev pub readable_of : List ℕ → (stsd : Atom) → List Description
 readable_of file stsd = readable file stsd (number_in w32 file (stsd.body + 4)) (stsd.body + 8)
 
--- the form by the first description: 36 bytes, of which channels, bits of a sample and the rate, with 16 bits behind the point, are asked
+-- the format in the first description, of at least 36 bytes: channels, bits per sample, and the rate, a number with
+-- 16 fractional bits
 unfoldable pub format_in : List ℕ → (stsd : Atom) → Found Format
 format_in file stsd = do
   let at = stsd.body + 8
@@ -72,7 +74,7 @@ format_in file stsd = do
 
 -- ---- the sound
 
--- the form of a track's sound, and its chunks
+-- the format of a track's sound, and its chunks
 pub record Sound : Type 0 where
   pub format : Format
   pub tables : ChunkLists
@@ -80,12 +82,12 @@ pub record Sound : Type 0 where
 abbrev pub chunks_of : Sound → List Chunk
 chunks_of s = chunks s.tables.runs s.tables.offsets
 
--- how many frames of sound there are
+-- the number of frames of sound
 abbrev pub frames_of : Sound → ℕ
 frames_of s = held_by (chunks_of s)
 
--- The first track of plain sound, or the first fault: the top level, the children of the `moov`, the tracks, where the data lies, the first description,
--- the tables of chunks, and the size of all.
+-- The first plain PCM sound track, or the first fault, in this order: the top level, the children of the `moov`,
+-- the tracks, where the data lies, the first description, the tables of chunks, and the total size.
 unfoldable pub sound_in : List ℕ → Found Sound
 sound_in file = do
   moov ← moov_in file

@@ -1,6 +1,7 @@
--- A WAV of plain PCM sound: its form and its sound, or the first fault in the order of the file.
--- Chunks and fields by Microsoft's Multimedia Programming Interface and Data Specifications ("RIFF" and "Waveform Audio File Format"), all numbers little-endian.
--- Which sound is taken, that the `data` ends the reading, and where a fault stands, are our own.
+-- A WAV of plain PCM sound: its form and its sound, or the first fault in file order. Chunks and fields by
+-- Microsoft's Multimedia Programming Interface and Data Specifications ("RIFF" and "Waveform Audio File Format");
+-- all numbers are little-endian. Our own are: which sound is taken, that reading ends at the `data`, and the
+-- offsets of faults.
 use Rattle.std.specs.Prelude.{ℕ, zero, suc, ◌+◌, ◌-◌, ◌*◌, ◌/◌, ◌%◌, ◌≤◌, not, List, length, take, drop, Option, Some, None, Result, Ok, Err, nat_lt, ◌==◌, ◌||◌, if◌then◌else◌, codes}
 use Rattle.std.specs.Str.{bytes_eq}
 use Rattle.std.specs.Int.{Width, w16, w32, byte_len, from_le_bytes}
@@ -12,14 +13,14 @@ use Rattle.pcm_track.specs.declared.form.Pcm.{Pcm}
 use Rattle.pcm_track.specs.declared.form.Met.{Met}
 use Rattle.pcm_track.specs.declared.form.Met.TheVariants as met
 
--- ---- fields. A field is judged when it was read whole; one that is cut is Truncated, at the end of the input.
+-- ---- fields. A field is validated after it was read whole; one that is cut is Truncated, at the end of the input.
 
 -- the next n bytes
 abbrev pub next_bytes : ℕ → Rest → Read SoundKind (List ℕ)
 next_bytes n s = if nat_lt (length s.bytes) n then bad Truncated (s.place + length s.bytes)
     else Ok (take n s.bytes, record { place = s.place + n; bytes = drop n s.bytes })
 
--- the next number of this width, the least significant byte first
+-- the next number of this width, little-endian
 unfoldable pub next_number : Width → Rest → Read SoundKind ℕ
 next_number w s = do
   bytes ← next_bytes (byte_len w) s
@@ -31,13 +32,14 @@ passed_over n s = do
   bytes ← next_bytes n s
   Ok (tt, bytes.1)
 
--- the bytes of a body of this size: one more where the size is odd
+-- the number of bytes of a body of `size` bytes with its padding: one more if the size is odd
 abbrev pub padded_size : ℕ → ℕ
 padded_size size = size + size % 2
 
 -- ---- chunks
 
--- The body of a `fmt `, in a chunk at this place: format 1, channels, rate, bytes a second, bytes a frame, bits a sample. Bytes behind these are passed over.
+-- The body of a `fmt ` in the chunk at offset `chunk`: format 1, channels, frame rate, bytes per second, bytes per
+-- frame, bits per sample. Bytes after these are skipped.
 unfoldable pub format_at : (chunk size : ℕ) → Rest → Read SoundKind Format
 format_at chunk size s = do
   _ ← refuse (nat_lt size 16) Form chunk
@@ -55,11 +57,11 @@ format_at chunk size s = do
   rest ← passed_over (padded_size size - 16) bits.1
   Ok (record { channels = channels.0; rate = rate.0 }, rest.1)
 
--- the bytes of a frame: two for each channel
+-- the number of bytes of a frame: two per channel
 abbrev pub frame_size : (channels : ℕ) → ℕ
 frame_size channels = 2 * channels
 
--- a `fmt `, the kind of which was read: the only one
+-- a `fmt ` whose kind was read: the only one
 unfoldable pub format_chunk_at : (chunk : ℕ) → Option Format → Rest → Read SoundKind Met
 format_chunk_at chunk (Some f) s = bad Form chunk
 format_chunk_at chunk None s = do
@@ -67,7 +69,7 @@ format_chunk_at chunk None s = do
   format ← format_at chunk size.0 size.1
   Ok (met.Format format.0, format.1)
 
--- the head of a `data`, the kind of which was read: behind a `fmt `, and of whole frames
+-- the header of a `data` whose kind was read: after a `fmt `, and of whole frames
 unfoldable pub data_chunk_at : (chunk : ℕ) → Option Format → Rest → Read SoundKind Met
 data_chunk_at chunk None s = bad Form chunk
 data_chunk_at chunk (Some f) s = do
@@ -75,14 +77,14 @@ data_chunk_at chunk (Some f) s = do
   _ ← refuse (not (size.0 % frame_size f.channels == 0) || nat_lt 4294967250 size.0) Form chunk
   Ok (met.Data (record { channels = f.channels; rate = f.rate; frames = size.0 / frame_size f.channels }), size.1)
 
--- any other chunk, the kind of which was read
+-- any other chunk whose kind was read
 unfoldable pub other_chunk_at : Rest → Read SoundKind Met
 other_chunk_at s = do
   size ← next_number w32 s
   rest ← passed_over (padded_size size.0) size.1
   Ok (met.Other, rest.1)
 
--- a chunk of this kind, which was read; of the `data` the head alone
+-- a chunk of this kind, which was read; of the `data` only the header
 abbrev pub kind_chunk_at : (kind : List ℕ) → (chunk : ℕ) → Option Format → Rest → Read SoundKind Met
 kind_chunk_at kind chunk form s =
     if bytes_eq kind (codes "fmt ") then format_chunk_at chunk form s
@@ -94,13 +96,14 @@ chunk_at form s = do
   kind ← next_bytes 4 s
   kind_chunk_at kind.0 s.place form kind.1
 
--- goes on behind a chunk, up to the sound
+-- continues after a chunk, up to the sound
 abbrev pub going_on : Option Format → Met × Rest → (Option Format → Rest → Read SoundKind Pcm) → Read SoundKind Pcm
 going_on form (met.Format f, rest) others = others (Some f) rest
 going_on form (met.Other, rest) others = others form rest
 going_on form (met.Data p, rest) others = Ok (p, rest)
 
--- The form by the chunks up to the sound, where so many more may stand in front of it and this is known of the format. A chunk behind these is a fault.
+-- The form in the chunks up to the sound. At most this number of further chunks may come before it; one more is a
+-- fault. The option is the format read so far.
 unfoldable pub form_from : ℕ → Option Format → Rest → Read SoundKind Pcm
 form_from zero form s = do
   kind ← next_bytes 4 s
@@ -109,7 +112,7 @@ form_from (suc more) form s = chunk_at form s >>= λ x. going_on form x (λ next
 
 -- ---- the whole WAV
 
--- the form, with the sound behind it
+-- the form, followed by the sound
 unfoldable pub form_at : Rest → Read SoundKind Pcm
 form_at s = do
   riff ← next_bytes 4 s
@@ -119,7 +122,7 @@ form_at s = do
   _ ← refuse (not (bytes_eq wave.0 (codes "WAVE"))) Magic size.1.place
   form_from 1000 None wave.1
 
--- the bytes of so many frames
+-- the number of bytes of `frames` frames
 abbrev pub sound_size : (channels frames : ℕ) → ℕ
 sound_size channels frames = frame_size channels * frames
 
@@ -145,21 +148,21 @@ pub record IsPcm (p : Pcm) : Type 0 where
   pub rate : (1 ≤ p.rate) × (p.rate ≤ 65535)
   pub size : sound_size p.channels p.frames ≤ 4294967250
 
--- what was met is within these ranges
+-- the values of a chunk that was read are within these ranges
 abbrev pub IsMet : Met → Type 0
 IsMet (met.Format f) = IsFormat f
 IsMet met.Other = Unit {0}
 IsMet (met.Data p) = IsPcm p
 
--- ---- a WAV that is read
+-- ---- a WAV that is being read
 
--- its form, how many frames of its sound weren't copied yet, and the place of the next
+-- its form, the number of frames not copied yet, and the offset of the next
 pub record Reader : Type 0 where
   pub form : Pcm
   pub left : ℕ
   pub place : ℕ
 
--- the place behind what was read, where something was
+-- the offset after what was read, if something was
 abbrev pub place_of : {E : Type 0} → Result Reader E → ℕ
 place_of (Ok r) = r.place
 place_of (Err e) = 0

@@ -31,7 +31,7 @@ use std::alloc::Global;
 /// The file type: QuickTime.
 const FTYP: [u8; 20] = *b"\x00\x00\x00\x14ftypqt  \x00\x00\x00\x00qt  ";
 
-/// The most bytes that a data atom holds.
+/// The greatest size of a data atom's body.
 const MOST_BYTES: u32 = 4_294_967_286;
 
 /// Appends these bytes. The error is `WriteFault`.
@@ -47,7 +47,7 @@ fn put_bytes<K: ByteSink>(out: &mut K, bytes: &[u8]) -> Result<(), SoundEnd>
     }
 }
 
-/// Appends the head of a data atom of so many bytes. The error is `WriteFault`.
+/// Appends the head of a data atom with a body of `size` bytes. The error is `WriteFault`.
 fn put_head<K: ByteSink>(out: &mut K, size: u32) -> Result<(), SoundEnd>
     requires { size ≤ 4294967286 }
     ensures ok { OnOk result (Puts (sink_state (K.held out.old) (K.taken out.old)) (sink_state (K.held out.new) (K.taken out.new)) (frame_head_bytes size)) }
@@ -62,7 +62,7 @@ fn put_head<K: ByteSink>(out: &mut K, size: u32) -> Result<(), SoundEnd>
     put_bytes(out, &head)
 }
 
-/// Appends the data atom of a sample of a file of so many bytes.
+/// Appends the data atom of a sample; `size` is the file's size.
 ///
 /// The error is how the run ends there.
 fn write_picture<M: ByteStore, K: ByteSink>(
@@ -110,7 +110,7 @@ fn write_picture<M: ByteStore, K: ByteSink>(
     }
 }
 
-/// Appends the data atom of the next frames of sound.
+/// Appends the data atom of the next `frames` frames of sound.
 ///
 /// The error is how the run ends there.
 fn write_sound<S: ByteSource, K: ByteSink>(
@@ -217,7 +217,7 @@ fn write_parts<M: ByteStore, S: ByteSource, K: ByteSink>(
     Ok(())
 }
 
-/// What the run writes: the parts of the data atoms, the movie atom and the line of text.
+/// The run's output: the parts of the data atoms, the movie atom and the line of text.
 #[derive(Drop)]
 struct Plan {
     parts: Vec<Part>,
@@ -225,7 +225,7 @@ struct Plan {
     line: Vec<u8>,
 }
 
-/// What the run writes of a movie and of sound of this form.
+/// The run's output for a movie and sound of this form.
 fn plan_of(alloc: Global, movie: &MovieReader, pcm: Pcm) -> Result<Plan, NoMemory>
     requires tables { AreTables movie.now.tables }
     requires pcm { IsPcm pcm }
@@ -282,9 +282,9 @@ fn write_movie<M: ByteStore, S: ByteSource, K: ByteSink>(
     put_bytes(out, plan.moov.held())
 }
 
-/// Reads a QuickTime movie with pictures in ProRes and a WAV, and writes a movie of the same pictures with the sound beside them, and a line of text.
-/// Neither the pictures nor the sound are held in memory.
-#[tactic(auto, using(crate::proofs::Sinks::none_until, crate::proofs::Sinks::none_extends))]
+/// Reads a QuickTime movie with pictures in ProRes and a WAV. Writes a movie of the same pictures with the sound
+/// added, and a line of text. Holds neither the pictures nor the sound in memory.
+#[tactic(auto, using(crate::proofs::Sinks::none_until, pw_outside::proofs::Puts::none_extends))]
 pub fn add_run<M: ByteStore, S: ByteSource, K: ByteSink>(
     alloc: Global,
     movie: &mut M,
@@ -292,25 +292,27 @@ pub fn add_run<M: ByteStore, S: ByteSource, K: ByteSink>(
     out: &mut K,
     text: &mut K,
 ) -> SoundEnd
-    // Where the bytes of the movie and of the WAV are told, they decide the answer: BadMovie and BadSound come with the first fault in the order of reading
-    // and writing, exactly where there is one: the movie, the WAV up to its sound, and then for each sample the sample and its sound.
+    // If the bytes of the movie and of the WAV are visible, they determine the result: BadMovie and BadSound are
+    // the first fault in the order of reading and writing, and come only if there is one. The order: the movie, the
+    // WAV up to its sound, then each sample followed by its sound.
     ensures answer { Told (M.bytes movie.old) (λ file. Told (S.left wav.old) (λ bytes. AnswersUnlessOutside result (added file bytes).end)) }
-    // Where no port failed, the answer is this one, unless memory runs out.
+    // If no port failed and memory lasted, the result is this one.
     ensures complete { Told (M.bytes movie.old) (λ file. Told (S.left wav.old) (λ bytes.
         (Rose (M.faults movie.old) (M.faults movie.new) → ⊥) → (Rose (S.faults wav.old) (S.faults wav.new) → ⊥)
         → (Rose (K.faults out.old) (K.faults out.new) → ⊥) → (Rose (K.faults text.old) (K.faults text.new) → ⊥) → Completes (added file bytes).end result)) }
-    // After Done the movie with sound was appended, and the line of text; after every other answer a front of these, a byte that is wanting in an
-    // input counted as 0.
+    // At Done the movie with sound and the line of text were appended. After any other result a prefix of them was,
+    // with bytes missing from an input taken as 0.
     ensures out { Told (M.bytes movie.old) (λ file. Told (S.left wav.old) (λ bytes. PutsUntil result (added file bytes).out
         (sink_state (K.held out.old) (K.taken out.old)) (sink_state (K.held out.new) (K.taken out.new)))) }
     ensures text { Told (M.bytes movie.old) (λ file. Told (S.left wav.old) (λ bytes. PutsUntil result (added file bytes).text
         (sink_state (K.held text.old) (K.taken text.old)) (sink_state (K.held text.new) (K.taken text.new)))) }
-    // Whether bytes are told or not, both outputs extend what was held.
+    // Visible or opaque, both outputs extend what was held.
     ensures out_extends { Extends (sink_state (K.held out.old) (K.taken out.old)) (sink_state (K.held out.new) (K.taken out.new)) }
     ensures text_extends { Extends (sink_state (K.held text.old) (K.taken text.old)) (sink_state (K.held text.new) (K.taken text.new)) }
     ensures settled { OnTrue (is_done result) ((K.settled out.new ≡ K.taken out.new) × (K.settled text.new ≡ K.taken text.new)) }
     ensures bytes { M.bytes movie.new ≡ M.bytes movie.old }
-    // A fault of a port is answered only where the count of one of the two that are read, or written, rose; every other answer leaves all counts as they were.
+    // A port fault is returned only if the counter of one of the two ports that are read, or written, rose; every
+    // other result leaves all counters unchanged.
     ensures read { CountsFaults (M.faults movie.old) (M.faults movie.new) (S.faults wav.old) (S.faults wav.new) (is_read_fault result) }
     ensures write { CountsFaults (K.faults out.old) (K.faults out.new) (K.faults text.old) (K.faults text.new) (is_write_fault result) }
 {

@@ -1,4 +1,4 @@
-//! Bytes of a store, copied to a sink.
+//! Copying bytes of a store to a sink.
 
 ghost use Rattle.std.specs.Prelude.{◌≡◌, ◌+◌, ◌<◌, ◌≤◌, ◌^◌, length, OnOk, OnErr, IsSome, false};
 ghost use Rattle.pw_outside.specs.Ports.{CountsFault};
@@ -16,11 +16,11 @@ pub(crate) enum Stop {
     Store,
     /// A call of the sink failed.
     Sink,
-    /// The store has fewer bytes than it said.
+    /// The store has fewer bytes than its reported length.
     Short,
 }
 
-/// Copies as many bytes of a store from a place on as the piece has.
+/// Copies bytes of a store from offset `place` on, as many as the piece holds.
 #[tactic(auto, using(crate::proofs::Pieces::front_none))]
 fn copy_some<M: ByteStore, K: ByteSink>(
     store: &mut M,
@@ -52,7 +52,7 @@ fn copy_some<M: ByteStore, K: ByteSink>(
     }
 }
 
-/// Copies so many bytes of a store from a place on, through a piece of memory.
+/// Copies `count` bytes of a store from offset `place` on, a piece at a time.
 pub(crate) fn copy_stored<M: ByteStore, K: ByteSink>(
     store: &mut M,
     place: u64,

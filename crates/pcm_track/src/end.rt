@@ -1,21 +1,21 @@
-//! How a run that puts sound beside pictures, or takes it out, ended.
+//! The outcome of a run that adds sound to a movie, or extracts it.
 
 use crate::fault::SoundKind;
 use qt_tables::MovieKind;
 
-/// How a run ended.
+/// The outcome of a run.
 #[derive(Clone, Copy, Debug, PartialEq, Eq)]
 pub enum SoundEnd {
-    /// The whole run was done.
+    /// The run is complete.
     Done,
     /// Memory ran out.
     NoMemory,
-    /// A port that the run reads failed.
+    /// A port that the run reads from failed.
     ReadFault,
-    /// A port that the run writes failed.
+    /// A port that the run writes to failed.
     WriteFault,
-    /// The movie has this first fault, at this byte.
+    /// The movie's first fault, and its offset.
     BadMovie { kind: MovieKind, place: u64 },
-    /// The WAV has this first fault, at this byte.
+    /// The WAV's first fault, and its offset.
     BadSound { kind: SoundKind, place: u64 },
 }

@@ -9,18 +9,18 @@ use thiserror::Error;
 /// What is wrong with a WAV.
 #[derive(Clone, Copy, Debug, PartialEq, Eq)]
 pub enum SoundKind {
-    /// The words `RIFF` and `WAVE` don't stand at the head.
+    /// The file doesn't begin with `RIFF`, a size and `WAVE`.
     Magic,
-    /// A chunk says another form than plain sound of 16 bits, or stands where it can't.
+    /// A chunk is out of order, or its format isn't plain PCM of 16 bits.
     Form,
-    /// The input ends in front of the end of the sound.
+    /// The input ends before the end of the sound.
     Truncated,
 }
 
-/// Why a call has nothing of a WAV to give.
+/// Why reading a WAV failed.
 #[derive(Clone, Copy, Debug, PartialEq, Eq, Error)]
 pub enum SoundFault {
-    /// The bytes are no WAV that can be read; `place` counts from the first byte of the input.
+    /// The bytes are no readable WAV; `place` is the offset of the fault in the input.
     #[error("Bad")]
     Bad { kind: SoundKind, place: u64 },
     /// A call of the source failed.

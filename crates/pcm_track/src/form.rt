@@ -1,6 +1,6 @@
-//! The form of sound.
+//! The format of sound.
 
-/// Plain PCM sound, 16 bits a sample: the number of channels, and how many frames there are in a second.
+/// Plain PCM sound, 16 bits a sample: the number of channels, and the frame rate.
 #[derive(Clone, Copy, Debug, PartialEq, Eq)]
 pub struct Format {
     /// 1 or 2.
@@ -9,14 +9,14 @@ pub struct Format {
     pub rate: u16,
 }
 
-/// The form of a WAV: its format, and the number of its frames.
+/// The form of a WAV: its format and its number of frames.
 #[derive(Clone, Copy, Debug, PartialEq, Eq)]
 pub struct Pcm {
     /// 1 or 2.
     pub channels: u8,
-    /// Frames in a second, from 1 to 65,535.
+    /// Frames per second, from 1 to 65,535.
     pub rate: u16,
-    /// A frame has a sample for each channel. All of them have at most 4,294,967,250 bytes.
+    /// A frame has one sample per channel. All frames together have at most 4,294,967,250 bytes.
     pub frames: u32,
 }
 
@@ -25,8 +25,8 @@ pub struct Pcm {
 pub enum Met {
     /// A format.
     Format(Format),
-    /// A chunk that is passed over.
+    /// A chunk that is skipped.
     Other,
-    /// The head of the sound.
+    /// The header of the sound.
     Data(Pcm),
 }

@@ -1,4 +1,4 @@
-//! Sound in plain PCM beside the pictures of a movie: WAVs read, sound put into a movie, and taken out of one.
+//! Plain PCM sound beside the pictures of a movie: reads WAVs, adds sound to a movie, and extracts it from one.
 #![tactic(auto)]
 
 mod adding;
@@ -10,8 +10,6 @@ mod parts;
 mod plan;
 mod reader;
 mod sounding;
-#[cfg(test)]
-mod tests;
 mod track;
 mod wav;
 

@@ -1,7 +1,8 @@
-//! What stands in the data atoms of a movie with sound.
+//! The contents of the data atoms of a movie with sound.
 
 ghost use Rattle.std.specs.Prelude.{◌≡◌, ◌≤◌, ◌+◌, ◌*◌, ◌++◌, [], length, IfOk, OnOk};
 ghost use Rattle.std.specs.List.{All};
+ghost use Rattle.qt_tables.specs.declared.tables.TheConstants.{MAX_SAMPLES};
 ghost use Rattle.qt_tables.specs.Samples.{samples};
 ghost use Rattle.qt_tables.specs.Tables.{AreTables};
 ghost use Rattle.pcm_track.specs.Wav.{sound_size, IsPcm};
@@ -12,27 +13,27 @@ use qt_movie::MovieReader;
 use qt_tables::Sample;
 use std::alloc::{AllocError, Global};
 
-/// What a data atom of the movie that is written holds.
+/// The contents of one data atom of the movie that is written.
 #[derive(Clone, Copy, Debug, PartialEq, Eq)]
 pub enum Part {
-    /// A sample of pictures of the movie that is read.
+    /// A picture sample of the movie that is read.
     Picture(Sample),
-    /// So many frames of sound, at least 1.
+    /// This number of frames of sound, at least 1.
     Sound(u32),
 }
 
-/// How many bytes so many frames of sound have.
+/// The number of bytes of `frames` frames of sound.
 pub(crate) fn sound_bytes(channels: u8, frames: u32) -> u64
     ensures { result ≡ sound_size channels frames }
 {
     2 * u64::from(channels) * u64::from(frames)
 }
 
-/// The samples of a movie, as many as its tables have sizes.
+/// The samples of a movie, one per size of its tables.
 pub(crate) fn samples_of(alloc: Global, movie: &MovieReader) -> Result<Vec<Sample>, AllocError>
     requires { AreTables movie.now.tables }
     ensures value { IfOk result (λ found. found.items ≡ samples movie.now.tables) }
-    ensures few { IfOk result (λ found. length found.items ≤ 1000000) }
+    ensures few { IfOk result (λ found. length found.items ≤ MAX_SAMPLES) }
     ensures near { IfOk result (λ found. All IsNear found.items) }
 {
     let count = movie.track().samples;
@@ -43,7 +44,7 @@ pub(crate) fn samples_of(alloc: Global, movie: &MovieReader) -> Result<Vec<Sampl
     Ok(found)
 }
 
-/// How many frames of sound are in front of a time of a movie with this time scale, of those that there are.
+/// The number of frames of sound before `time` of a movie with this time scale, at most all frames.
 #[tactic(auto, using(crate::proofs::Borders::border_early, crate::proofs::Borders::border_late))]
 fn border(timescale: u32, pcm: Pcm, time: u64) -> u32
     requires some { 1 ≤ timescale }
@@ -60,7 +61,8 @@ fn border(timescale: u32, pcm: Pcm, time: u64) -> u32
     frames.min(u64::from(pcm.frames)) as u32
 }
 
-/// Where the sound beside a sample ends that ends at a time, with so many samples behind it.
+/// The number of frames up to the end of the sound beside a sample that ends at `time`; `others` are the samples
+/// after it.
 fn sound_end(timescale: u32, pcm: Pcm, time: u64, others: &[Sample]) -> u32
     requires some { 1 ≤ timescale }
     requires pcm { IsPcm pcm }
@@ -73,7 +75,7 @@ fn sound_end(timescale: u32, pcm: Pcm, time: u64, others: &[Sample]) -> u32
     }
 }
 
-/// Appends so many frames of sound, where there are any.
+/// Appends `frames` frames of sound, if there are any.
 fn push_sound(parts: &mut Vec<Part>, frames: u32) -> Result<(), AllocError>
     ensures { OnOk result (parts.new.items ≡ parts.old.items ++ with_sound frames []) }
 {
@@ -83,7 +85,7 @@ fn push_sound(parts: &mut Vec<Part>, frames: u32) -> Result<(), AllocError>
     Ok(())
 }
 
-/// How long a sample is shown.
+/// The duration of a sample.
 fn duration_of(sample: Sample) -> u64
     ensures value { result ≡ sample.duration }
     ensures small { result ≤ 4294967295 }
@@ -91,7 +93,7 @@ fn duration_of(sample: Sample) -> u64
     u64::from(sample.duration)
 }
 
-/// The samples, each with its sound behind it.
+/// The samples, each followed by its sound.
 fn parts_beside(
     alloc: Global,
     timescale: u32,
@@ -100,7 +102,7 @@ fn parts_beside(
 ) -> Result<Vec<Part>, AllocError>
     requires some { 1 ≤ timescale }
     requires pcm { IsPcm pcm }
-    requires few { length samples.now ≤ 1000000 }
+    requires few { length samples.now ≤ MAX_SAMPLES }
     ensures { IfOk result (λ parts. parts.items ≡ parts_from timescale pcm 0 samples.now) }
 {
     let mut parts = Vec::new(alloc);
@@ -116,7 +118,7 @@ fn parts_beside(
     Ok(parts)
 }
 
-/// What the data atoms hold: the samples with their sound; where there is no sample, all sound.
+/// The contents of the data atoms: the samples with their sound; without a sample, all sound.
 pub(crate) fn parts_of(
     alloc: Global,
     timescale: u32,
@@ -125,7 +127,7 @@ pub(crate) fn parts_of(
 ) -> Result<Vec<Part>, AllocError>
     requires some { 1 ≤ timescale }
     requires pcm { IsPcm pcm }
-    requires few { length samples.now ≤ 1000000 }
+    requires few { length samples.now ≤ MAX_SAMPLES }
     ensures { IfOk result (λ parts. parts.items ≡ parts_of timescale pcm samples.now) }
 {
     if samples.is_empty() {

@@ -2,6 +2,7 @@
 
 ghost use Rattle.std.specs.Prelude.{◌/◌, ◌≡◌, ◌≤◌, ◌<◌, ◌+◌, ◌*◌, ◌^◌, ◌++◌, length, map, sum_by, min, IfOk, OnOk};
 ghost use Rattle.std.specs.List.{All};
+ghost use Rattle.qt_tables.specs.declared.tables.TheConstants.{MAX_SAMPLES};
 ghost use Rattle.qt_tables.specs.Samples as track;
 ghost use Rattle.qt_tables.specs.Tables.{AreTables};
 ghost use Rattle.qt_movie.specs.Trak.{IsTrak};
@@ -17,7 +18,7 @@ use qt_movie::{Media, MovieReader, Trak, write_moov};
 use qt_tables::Sample;
 use std::alloc::{AllocError, Global};
 
-/// The place behind the file type.
+/// The offset after the file type.
 const FIRST_PLACE: u64 = 20;
 
 // ---- lists
@@ -44,7 +45,7 @@ fn durations_of(alloc: Global, samples: &[Sample]) -> Result<Vec<u32>, AllocErro
 
 /// The duration of all samples.
 fn duration_of(samples: &[Sample]) -> u64
-    requires { length samples.now ≤ 1000000 }
+    requires { length samples.now ≤ MAX_SAMPLES }
     ensures { result ≡ sum_by (λ s. s.duration) samples.now }
 {
     let mut duration: u64 = 0;
@@ -54,7 +55,7 @@ fn duration_of(samples: &[Sample]) -> u64
     duration
 }
 
-/// Appends how many frames a part has, where it is a chunk of sound.
+/// Appends a part's number of frames, if it is a chunk of sound.
 fn push_frames(frames: &mut Vec<u32>, part: Part) -> Result<(), AllocError>
     ensures { OnOk result (frames.new.items ≡ frames.old.items ++ frames_in part) }
 {
@@ -64,7 +65,7 @@ fn push_frames(frames: &mut Vec<u32>, part: Part) -> Result<(), AllocError>
     Ok(())
 }
 
-/// How many frames each chunk of sound has.
+/// The number of frames of each chunk of sound.
 fn chunk_frames(alloc: Global, parts: &[Part]) -> Result<Vec<u32>, AllocError>
     ensures { IfOk result (λ frames. frames.items ≡ chunk_frames parts.now) }
 {
@@ -77,7 +78,7 @@ fn chunk_frames(alloc: Global, parts: &[Part]) -> Result<Vec<u32>, AllocError>
 
 // ---- runs
 
-/// The runs of equal values: how many, and the value.
+/// The runs of equal values: count and value.
 fn runs_of(alloc: Global, values: &[u32]) -> Result<Vec<(u32, u32)>, AllocError>
     requires { length values.now ≤ 1000001 }
     ensures { IfOk result (λ runs. runs.items ≡ runs_of values.now) }
@@ -101,7 +102,7 @@ fn runs_of(alloc: Global, values: &[u32]) -> Result<Vec<(u32, u32)>, AllocError>
     Ok(runs)
 }
 
-/// The runs of chunks: the first chunk, its samples, the first description.
+/// The runs of chunks: first chunk, samples per chunk, first description.
 fn chunk_runs(alloc: Global, runs: &[(u32, u32)]) -> Result<Vec<(u32, u32, u32)>, AllocError>
     requires { sum_by (λ r. r.0) runs.now ≤ 1000001 }
     ensures { IfOk result (λ chunks. chunks.items ≡ chunk_runs 1 runs.now) }
@@ -115,7 +116,7 @@ fn chunk_runs(alloc: Global, runs: &[(u32, u32)]) -> Result<Vec<(u32, u32, u32)>
     Ok(chunks)
 }
 
-/// One run, where it is one of something.
+/// One run, if its count isn't 0.
 fn where_some<T: Drop>(alloc: Global, count: u32, run: T) -> Result<Vec<T>, AllocError>
     ensures { IfOk result (λ runs. runs.items ≡ where_some count run) }
 {
@@ -128,7 +129,7 @@ fn where_some<T: Drop>(alloc: Global, count: u32, run: T) -> Result<Vec<T>, Allo
 
 // ---- places
 
-/// How many bytes a part has.
+/// The number of bytes of a part.
 fn size_of(channels: u8, part: Part) -> u64
     requires { channels ≤ 2 }
     ensures value { result ≡ part_size channels part }
@@ -140,7 +141,7 @@ fn size_of(channels: u8, part: Part) -> u64
     }
 }
 
-/// Appends where a sample lies, in a data atom at a place.
+/// Appends the offset of a sample's bytes, if the part is a sample, in a data atom at `place`.
 fn push_picture(places: &mut Vec<u64>, place: u64, part: Part) -> Result<(), AllocError>
     requires { place ≤ 2 ^ 62 }
     ensures { OnOk result (places.new.items ≡ places.old.items ++ picture_at place part) }
@@ -151,7 +152,7 @@ fn push_picture(places: &mut Vec<u64>, place: u64, part: Part) -> Result<(), All
     Ok(())
 }
 
-/// Appends where a chunk of sound lies, in a data atom at a place.
+/// Appends the offset of a chunk of sound, if the part is one, in a data atom at `place`.
 fn push_chunk(places: &mut Vec<u64>, place: u64, part: Part) -> Result<(), AllocError>
     requires { place ≤ 2 ^ 62 }
     ensures { OnOk result (places.new.items ≡ places.old.items ++ sound_at place part) }
@@ -162,7 +163,7 @@ fn push_chunk(places: &mut Vec<u64>, place: u64, part: Part) -> Result<(), Alloc
     Ok(())
 }
 
-/// Where the samples lie.
+/// The offsets of the samples.
 fn picture_places(alloc: Global, channels: u8, parts: &[Part]) -> Result<Vec<u64>, AllocError>
     requires channels { channels ≤ 2 }
     requires few { length parts.now ≤ 2000001 }
@@ -177,7 +178,7 @@ fn picture_places(alloc: Global, channels: u8, parts: &[Part]) -> Result<Vec<u64
     Ok(places)
 }
 
-/// Where the chunks of sound lie.
+/// The offsets of the chunks of sound.
 fn sound_places(alloc: Global, channels: u8, parts: &[Part]) -> Result<Vec<u64>, AllocError>
     requires channels { channels ≤ 2 }
     requires few { length parts.now ≤ 2000001 }
@@ -194,14 +195,14 @@ fn sound_places(alloc: Global, channels: u8, parts: &[Part]) -> Result<Vec<u64>,
 
 // ---- the tracks
 
-/// A duration as a field of 32 bits holds it.
+/// A duration, saturated to a field of 32 bits.
 fn duration_field(duration: u64) -> u32
     ensures { result ≡ duration_field duration }
 {
     duration.min(4_294_967_295) as u32
 }
 
-/// The duration of the sound in the units of a movie with this time scale.
+/// The duration of the sound in units of a movie with this time scale.
 fn sound_duration(timescale: u32, pcm: Pcm) -> u64
     requires { IsPcm pcm }
     ensures { result ≡ pcm.frames * timescale / pcm.rate }
@@ -209,7 +210,7 @@ fn sound_duration(timescale: u32, pcm: Pcm) -> u64
     u64::from(pcm.frames) * u64::from(timescale) / u64::from(pcm.rate)
 }
 
-/// The track of pictures.
+/// The picture track.
 fn picture_track(
     alloc: Global,
     movie: &MovieReader,
@@ -220,7 +221,7 @@ fn picture_track(
     requires tables { AreTables movie.now.tables }
     requires pcm { IsPcm pcm }
     requires samples { samples.now ≡ track.samples movie.now.tables }
-    requires few { length samples.now ≤ 1000000 }
+    requires few { length samples.now ≤ MAX_SAMPLES }
     requires parts { parts.now ≡ parts_in movie.now pcm }
     ensures value { IfOk result (λ trak. trak ≡ picture_values movie.now pcm) }
     ensures fits { IfOk result IsTrak }
@@ -249,7 +250,7 @@ fn picture_track(
     })
 }
 
-/// The track of sound.
+/// The sound track.
 fn sound_track(
     alloc: Global,
     movie: &MovieReader,
@@ -293,7 +294,7 @@ pub(crate) fn movie_atom(
     requires tables { AreTables movie.now.tables }
     requires pcm { IsPcm pcm }
     requires samples { samples.now ≡ track.samples movie.now.tables }
-    requires few { length samples.now ≤ 1000000 }
+    requires few { length samples.now ≤ MAX_SAMPLES }
     requires parts { parts.now ≡ parts_in movie.now pcm }
     ensures { IfOk result (λ atom. atom ≡ two_tracks_bytes movie.now pcm) }
 {

@@ -14,7 +14,7 @@ use crate::wav::read_form;
 use pw_outside::{ByteSink, ByteSource, Failed, fill, put_all};
 use std::marker::Model;
 
-/// The number of bytes that are copied at a time.
+/// The size of a piece that is copied.
 const PIECE: u64 = 4096;
 
 impl From<Failed> for CopyFault {
@@ -60,7 +60,7 @@ fn copy_piece<S: ByteSource, K: ByteSink>(
     Ok(())
 }
 
-/// Copies so many bytes.
+/// Copies `count` bytes.
 fn copy_bytes<S: ByteSource, K: ByteSink>(
     source: &mut S,
     place: &mut u64,
@@ -85,7 +85,7 @@ fn copy_bytes<S: ByteSource, K: ByteSink>(
     Ok(())
 }
 
-/// A WAV that was read up to its sound, which is then copied piece by piece.
+/// A WAV that was read up to its sound. The sound is then copied piece by piece.
 #[derive(Drop)]
 pub struct WavReader {
     form: Pcm,
@@ -115,13 +115,13 @@ impl WavReader {
 
     /// Reads a WAV up to its sound. Takes no memory.
     ///
-    /// `SoundFault::Bad` is the first fault in the order of the file: `Magic` at 0 or 8, `Form` at a chunk's place, `Truncated` at the end of
-    /// an input that ends in front of the sound.
+    /// `SoundFault::Bad` is the first fault in file order: `Magic` at 0 or 8, `Form` at a chunk's offset,
+    /// `Truncated` at the end of an input that ends before the sound.
     pub fn start<S: ByteSource>(source: &mut S) -> Result<WavReader, SoundFault>
         ensures bytes { Gives told_fault (λ r. r.form) (S.left source.old) (S.left source.new) 0 (place_of result) result form_at }
         ensures form { IfOk result (λ r. IsPcm r.form) }
         ensures whole { IfOk result (λ r. r.left ≡ r.form.frames) }
-        // The error is `Failed` only where a call of the source failed, and each such call is answered by it.
+        // The error is `Failed` exactly if a call of the source failed.
         ensures cause { CountsFault (S.faults source.old) (S.faults source.new) (is_failed result) }
     {
         let mut place = 0;
@@ -133,17 +133,17 @@ impl WavReader {
         })
     }
 
-    /// The form of the sound.
+    /// The format of the sound.
     pub fn form(&self) -> Pcm
         ensures { result ≡ self.now.form }
     {
         self.form
     }
 
-    /// Copies so many frames of the sound to a sink, those behind what was copied before. Takes no memory.
+    /// Copies the next `frames` frames of the sound to a sink. Takes no memory.
     ///
-    /// The error is `Truncated`, at the end of the input, where bytes of them are wanting; or tells which port failed. The sink has then taken a
-    /// front of the frames.
+    /// If bytes of them are missing, the error is `Truncated` at the end of the input; otherwise it says which port
+    /// failed. After an error the sink holds a prefix of the frames.
     pub fn copy<S: ByteSource, K: ByteSink>(
         &mut self,
         source: &mut S,
@@ -157,7 +157,7 @@ impl WavReader {
         ensures form { self.new.form ≡ self.old.form }
         ensures left { OnOk result (self.new.left + frames ≡ self.old.left) }
         ensures settled { K.settled sink.old ≤ K.settled sink.new }
-        // The error tells that a port failed only where a call of it did, and each such call is answered by it.
+        // The error says that a port failed exactly if a call of that port failed.
         ensures read { CountsFault (S.faults source.old) (S.faults source.new) (is_source_failed result) }
         ensures write { CountsFault (K.faults sink.old) (K.faults sink.new) (is_sink_failed result) }
     {

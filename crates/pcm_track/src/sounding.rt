@@ -1,4 +1,4 @@
-//! Taking the sound out of a movie.
+//! Extracting the sound of a movie.
 
 ghost use Rattle.std.specs.Prelude.{◌≡◌, ◌+◌, ◌≤◌, ◌^◌, ◌++◌, length, OnOk, OnErr, IfOk, IfErr, is_err, map, [], Some, false};
 ghost use Rattle.std.specs.Bool.{OnTrue};
@@ -24,10 +24,10 @@ use qt_atoms::AtomWriter;
 use qt_tables::{Chunk, ChunkTables, MovieFault, MovieKind};
 use std::alloc::Global;
 
-/// The number of bytes that are copied at a time.
+/// The size of a piece that is copied.
 pub(crate) const PIECE: usize = 65536;
 
-/// The head of a WAV of so many frames.
+/// The header of a WAV of `frames` frames.
 #[tactic(auto, unfolding(crate::specs::Writing::wav_head))]
 fn wav_head(alloc: Global, format: Format, frames: u32) -> Result<AtomWriter, NoMemory>
     requires format { IsFormat format }
@@ -53,7 +53,7 @@ fn wav_head(alloc: Global, format: Format, frames: u32) -> Result<AtomWriter, No
     Ok(head)
 }
 
-/// Writes the bytes of a chunk of a file of so many bytes.
+/// Writes the bytes of a chunk; `size` is the file's size.
 ///
 /// The error is how the run ends there.
 #[tactic(auto, using(crate::proofs::Pieces::front_none))]
@@ -96,7 +96,7 @@ fn write_chunk<M: ByteStore, K: ByteSink>(
     }
 }
 
-/// Writes the bytes of all chunks of a file of so many bytes.
+/// Writes the bytes of all chunks; `size` is the file's size.
 ///
 /// The error is how the run ends.
 fn write_chunks<M: ByteStore, K: ByteSink>(
@@ -142,8 +142,8 @@ fn sound_line(alloc: Global, format: Format, frames: u32) -> Result<Vec<u8>, NoM
     Ok(line)
 }
 
-/// Writes a line, and settles it and the other output.
-#[tactic(auto, using(crate::proofs::Sinks::none_front))]
+/// Writes a line, and flushes it and the other output.
+#[tactic(auto, using(pw_outside::proofs::Puts::front_none))]
 pub(crate) fn finish<K: ByteSink>(line: &[u8], out: &mut K, text: &mut K) -> SoundEnd
     ensures answer { AnswersUnlessOutside result ends.Done }
     ensures reads { is_read_fault result ≡ false }
@@ -158,7 +158,7 @@ pub(crate) fn finish<K: ByteSink>(line: &[u8], out: &mut K, text: &mut K) -> Sou
     }
 }
 
-/// Writes a line, and settles it and the other output.
+/// Writes a line, and flushes it and the other output.
 fn settle<K: ByteSink>(line: &[u8], out: &mut K, text: &mut K) -> Result<(), Failed>
     ensures ok { OnOk result (Puts (sink_state (K.held text.old) (K.taken text.old)) (sink_state (K.held text.new) (K.taken text.new)) line.now) }
     ensures err { OnErr result (PutsFront (sink_state (K.held text.old) (K.taken text.old)) (sink_state (K.held text.new) (K.taken text.new)) line.now) }
@@ -171,7 +171,7 @@ fn settle<K: ByteSink>(line: &[u8], out: &mut K, text: &mut K) -> Result<(), Fai
     text.flush()
 }
 
-/// Writes the head of a WAV and the sound behind it.
+/// Writes the header of a WAV, then the sound.
 ///
 /// The error is how the run ends.
 fn write_wav<M: ByteStore, K: ByteSink>(
@@ -216,31 +216,33 @@ fn write_wav<M: ByteStore, K: ByteSink>(
     }
 }
 
-/// Reads a QuickTime movie, and writes its first track of plain PCM sound as a WAV, with a line of text. The sound isn't held in memory.
-#[tactic(auto, using(crate::proofs::Sinks::none_until, crate::proofs::Sinks::none_extends))]
+/// Reads a QuickTime movie, and writes its first plain PCM sound track as a WAV, with a line of text. Doesn't hold
+/// the sound in memory.
+#[tactic(auto, using(crate::proofs::Sinks::none_until, pw_outside::proofs::Puts::none_extends))]
 pub fn sound_run<M: ByteStore, K: ByteSink>(
     alloc: Global,
     movie: &mut M,
     out: &mut K,
     text: &mut K,
 ) -> SoundEnd
-    // Where the movie's bytes are told, they decide the answer: BadMovie comes with their first fault in the order of reading, exactly where they have one.
+    // If the movie's bytes are visible, they determine the result: BadMovie is their first fault in the order of
+    // reading, and comes only if there is one.
     ensures answer { Told (M.bytes movie.old) (λ file. AnswersUnlessOutside result (sounded file).end) }
-    // Where no port failed, the answer is this one, unless memory runs out.
+    // If no port failed and memory lasted, the result is this one.
     ensures complete { Told (M.bytes movie.old) (λ file. (Rose (M.faults movie.old) (M.faults movie.new) → ⊥)
         → (Rose (K.faults out.old) (K.faults out.new) → ⊥) → (Rose (K.faults text.old) (K.faults text.new) → ⊥) → Completes (sounded file).end result) }
-    // After Done the head of a WAV and the bytes of the chunks were appended, and the line of text; after every other answer a front of these, a
-    // byte that the file doesn't have counted as 0.
+    // At Done the header of a WAV, the bytes of the chunks and the line of text were appended. After any other
+    // result a prefix of them was, with bytes missing from the file taken as 0.
     ensures out { Told (M.bytes movie.old) (λ file. PutsUntil result (sounded file).out
         (sink_state (K.held out.old) (K.taken out.old)) (sink_state (K.held out.new) (K.taken out.new))) }
     ensures text { Told (M.bytes movie.old) (λ file. PutsUntil result (sounded file).text
         (sink_state (K.held text.old) (K.taken text.old)) (sink_state (K.held text.new) (K.taken text.new))) }
-    // Whether the movie's bytes are told or not, both outputs extend what was held.
+    // Visible or opaque, both outputs extend what was held.
     ensures out_extends { Extends (sink_state (K.held out.old) (K.taken out.old)) (sink_state (K.held out.new) (K.taken out.new)) }
     ensures text_extends { Extends (sink_state (K.held text.old) (K.taken text.old)) (sink_state (K.held text.new) (K.taken text.new)) }
     ensures settled { OnTrue (is_done result) ((K.settled out.new ≡ K.taken out.new) × (K.settled text.new ≡ K.taken text.new)) }
     ensures bytes { M.bytes movie.new ≡ M.bytes movie.old }
-    // A fault of a port is answered only where that port's count rose, and every other answer leaves the counts as they were.
+    // A port fault is returned only if that port's counter rose; every other result leaves the counters unchanged.
     ensures read { CountsFault (M.faults movie.old) (M.faults movie.new) (is_read_fault result) }
     ensures write { CountsFaults (K.faults out.old) (K.faults out.new) (K.faults text.old) (K.faults text.new) (is_write_fault result) }
 {

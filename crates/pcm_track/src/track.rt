@@ -1,9 +1,10 @@
-//! The track of sound of a movie.
+//! The sound track of a movie.
 
 ghost use Rattle.std.specs.Prelude.{◌≡◌, ◌≤◌, ◌<◌, ◌+◌, ◌*◌, ◌^◌, length, IfOk, IfSome, None, Ok, codes, true};
 ghost use Rattle.pw_outside.specs.Ports.{CountsFault};
 ghost use Rattle.pw_outside.specs.Reading.{Answers, Told};
 ghost use Rattle.qt_atoms.specs.Atoms.{children};
+ghost use Rattle.qt_tables.specs.declared.tables.TheConstants.{MAX_SAMPLES};
 ghost use Rattle.qt_tables.specs.declared.fault.MovieFault.TheVariants as faults;
 ghost use Rattle.qt_tables.specs.Faults.{told_fault, is_failed};
 ghost use Rattle.qt_tables.specs.Samples.{chunks, held_by};
@@ -23,7 +24,7 @@ use qt_movie::{
 use qt_tables::{ChunkTables, MovieFault, MovieKind};
 use std::alloc::Global;
 
-/// The most bytes of sound: with the head of a WAV they have 32 bits.
+/// The greatest size of the sound: with the header of a WAV it fits 32 bits.
 const MOST_BYTES: u64 = 4_294_967_250;
 
 fn bad(kind: MovieKind, place: u64) -> MovieFault
@@ -47,7 +48,7 @@ fn is_sound<M: ByteStore>(store: &mut M, hdlr: &Atom) -> Result<bool, MovieFault
     Ok(subtype == *b"soun")
 }
 
-/// Whether there is a description, and the first one is that of plain sound.
+/// Whether the first description exists and is plain PCM.
 fn is_plain<M: ByteStore>(store: &mut M, stsd: &Atom) -> Result<bool, MovieFault>
     requires order { stsd.now.body ≤ stsd.now.end }
     requires inside { Told (M.bytes store.old) (λ file. stsd.now.end ≤ length file) }
@@ -64,7 +65,7 @@ fn is_plain<M: ByteStore>(store: &mut M, stsd: &Atom) -> Result<bool, MovieFault
     Ok(0 < count && kind == *b"sowt")
 }
 
-/// The track of a `trak`, where it is one of plain sound.
+/// The track of a `trak`, if it is plain PCM sound.
 #[tactic(auto, unfolding(crate::specs::Track::sound_track_in, pw_outside::specs::Reading::bind))]
 fn sound_track_of<M: ByteStore>(store: &mut M, trak: &Atom) -> Result<Option<Parts>, MovieFault>
     requires order { trak.now.body ≤ trak.now.end }
@@ -95,7 +96,7 @@ fn is_trak(atom: &Atom) -> bool
     atom.kind == *b"trak"
 }
 
-/// The first track of plain sound.
+/// The first plain PCM sound track.
 fn first_sound_of<M: ByteStore>(store: &mut M, moov: &Atom) -> Result<Option<Parts>, MovieFault>
     requires order { moov.now.body ≤ moov.now.end }
     requires inside { Told (M.bytes store.old) (λ file. moov.now.end ≤ length file) }
@@ -124,7 +125,7 @@ fn first_sound_of<M: ByteStore>(store: &mut M, moov: &Atom) -> Result<Option<Par
     Ok(None)
 }
 
-/// The description at a place of an `stsd`, where it can be read.
+/// The description at offset `place` of an `stsd`, if it is readable.
 #[tactic(auto, unfolding(crate::specs::Track::readable_at))]
 fn readable_of<M: ByteStore>(
     store: &mut M,
@@ -156,7 +157,8 @@ fn readable_of<M: ByteStore>(
     }))
 }
 
-/// Whether the data of one of so many descriptions of an `stsd`, from a place on and up to the first that can't be read, lies elsewhere, or nowhere.
+/// Whether one of the readable descriptions of an `stsd` refers to data in another file, or to no data reference.
+/// Reads `count` descriptions from `place` on, and stops at the first unreadable one.
 fn has_external<M: ByteStore>(
     store: &mut M,
     references: &[bool],
@@ -185,7 +187,7 @@ fn has_external<M: ByteStore>(
     Ok(false)
 }
 
-/// Judges where the data of a track of sound lies: all of it in the same file.
+/// Validates where the data of a sound track lies: all of it in the same file.
 #[tactic(auto, unfolding(qt_movie::specs::Movie::data_in, pw_outside::specs::Reading::bind))]
 fn judge_sound_data<M: ByteStore>(
     alloc: Global,
@@ -214,7 +216,7 @@ fn judge_sound_data<M: ByteStore>(
     Ok(())
 }
 
-/// The form by the first description of an `stsd`.
+/// The format in the first description of an `stsd`.
 #[tactic(auto, unfolding(crate::specs::Track::format_in, pw_outside::specs::Reading::bind))]
 fn format_of<M: ByteStore>(store: &mut M, stsd: &Atom) -> Result<Format, MovieFault>
     requires order { stsd.now.body + 16 ≤ stsd.now.end }
@@ -241,11 +243,11 @@ fn format_of<M: ByteStore>(store: &mut M, stsd: &Atom) -> Result<Format, MovieFa
     })
 }
 
-/// How many frames the chunks hold.
+/// The number of frames in the chunks.
 fn frames_of(tables: &ChunkTables) -> u64
     requires { AreChunkLists tables.now }
     ensures value { result ≡ held_by (chunks tables.now.runs tables.now.offsets) }
-    ensures small { result ≤ 4294967295 * 1000000 }
+    ensures small { result ≤ 4294967295 * MAX_SAMPLES }
 {
     let mut frames = 0;
     for i in 0..tables.count() {
@@ -262,7 +264,7 @@ pub(crate) struct SoundTrack {
     pub(crate) frames: u32,
 }
 
-/// The sound of a file of so many bytes.
+/// The sound of a movie; `size` is the file's size.
 #[tactic(auto, unfolding(crate::specs::Track::sound_in, pw_outside::specs::Reading::bind))]
 pub(crate) fn sound_of<M: ByteStore>(
     alloc: Global,

@@ -12,13 +12,13 @@ use crate::fault::{SoundFault, SoundKind, bad};
 use crate::form::{Format, Met, Pcm};
 use pw_outside::{ByteSource, fill};
 
-/// The most bytes of sound: with the head of a WAV, and with that of a data atom, they have 32 bits.
+/// The greatest size of the sound: with the header of a WAV, or of a data atom, it fits 32 bits.
 const MOST_BYTES: u32 = 4_294_967_250;
 
-/// So many chunks may stand in front of the sound.
+/// The greatest number of chunks before the sound.
 const MOST_CHUNKS: u32 = 1000;
 
-/// The number of bytes that are passed over at a time.
+/// The size of a piece that is skipped.
 const PIECE: u64 = 4096;
 
 /// The next `N` bytes.
@@ -40,7 +40,7 @@ fn next_bytes<S: ByteSource, const N: usize>(
     Ok(piece)
 }
 
-/// The next number of two bytes.
+/// The next number of two bytes, little-endian.
 #[tactic(auto, unfolding(crate::specs::Wav::next_number, pw_outside::specs::Reading::bind))]
 fn next_u16<S: ByteSource>(source: &mut S, place: &mut u64) -> Result<u16, SoundFault>
     requires { place.old + 2 < 2 ^ 64 }
@@ -52,7 +52,7 @@ fn next_u16<S: ByteSource>(source: &mut S, place: &mut u64) -> Result<u16, Sound
     Ok(u16::from_le_bytes(piece))
 }
 
-/// The next number of four bytes.
+/// The next number of four bytes, little-endian.
 #[tactic(auto, unfolding(crate::specs::Wav::next_number, pw_outside::specs::Reading::bind))]
 fn next_u32<S: ByteSource>(source: &mut S, place: &mut u64) -> Result<u32, SoundFault>
     requires { place.old + 4 < 2 ^ 64 }
@@ -64,7 +64,7 @@ fn next_u32<S: ByteSource>(source: &mut S, place: &mut u64) -> Result<u32, Sound
     Ok(u32::from_le_bytes(piece))
 }
 
-/// Passes over at most `PIECE` bytes.
+/// Skips at most `PIECE` bytes.
 #[tactic(auto, unfolding(crate::specs::Wav::passed_over, pw_outside::specs::Reading::bind))]
 fn pass_piece<S: ByteSource>(source: &mut S, place: &mut u64, count: u64) -> Result<(), SoundFault>
     requires few { count ≤ PIECE }
@@ -82,7 +82,7 @@ fn pass_piece<S: ByteSource>(source: &mut S, place: &mut u64, count: u64) -> Res
     Ok(())
 }
 
-/// Passes over so many bytes.
+/// Skips `count` bytes.
 fn pass_over<S: ByteSource>(source: &mut S, place: &mut u64, count: u64) -> Result<(), SoundFault>
     requires { place.old + count < 2 ^ 64 }
     ensures bytes { Gives told_fault (λ x. tt) (S.left source.old) (S.left source.new) place.old place.new result (passed_over count) }
@@ -98,7 +98,7 @@ fn pass_over<S: ByteSource>(source: &mut S, place: &mut u64, count: u64) -> Resu
     Ok(())
 }
 
-/// Reads the body of a `fmt ` of this size, in a chunk at this place.
+/// Reads the body of a `fmt ` of `size` bytes, in the chunk at offset `chunk`.
 #[tactic(auto, unfolding(crate::specs::Wav::format_at, pw_outside::specs::Reading::bind))]
 fn read_format<S: ByteSource>(
     source: &mut S,
@@ -144,7 +144,7 @@ fn read_format<S: ByteSource>(
     })
 }
 
-/// Reads a `fmt ` behind its kind, where this is known of the format before it.
+/// Reads a `fmt ` after its kind; `known` is the format read before it.
 #[tactic(auto, unfolding(crate::specs::Wav::format_chunk_at, pw_outside::specs::Reading::bind))]
 fn read_format_chunk<S: ByteSource>(
     source: &mut S,
@@ -166,7 +166,7 @@ fn read_format_chunk<S: ByteSource>(
     Ok(Met::Format(format))
 }
 
-/// Reads the head of a `data` behind its kind, where this is known of the format.
+/// Reads the header of a `data` after its kind; `known` is the format read before it.
 #[tactic(auto, unfolding(crate::specs::Wav::data_chunk_at, pw_outside::specs::Reading::bind))]
 fn read_data_chunk<S: ByteSource>(
     source: &mut S,
@@ -197,7 +197,7 @@ fn read_data_chunk<S: ByteSource>(
     }))
 }
 
-/// Reads any other chunk behind its kind.
+/// Reads any other chunk after its kind.
 #[tactic(auto, unfolding(crate::specs::Wav::other_chunk_at, pw_outside::specs::Reading::bind))]
 fn read_other_chunk<S: ByteSource>(source: &mut S, place: &mut u64) -> Result<Met, SoundFault>
     requires { place.old + 2 ^ 34 < 2 ^ 64 }
@@ -211,7 +211,7 @@ fn read_other_chunk<S: ByteSource>(source: &mut S, place: &mut u64) -> Result<Me
     Ok(Met::Other)
 }
 
-/// Reads the next chunk; of the `data` the head alone.
+/// Reads the next chunk; of the `data` only the header.
 #[tactic(auto, unfolding(crate::specs::Wav::chunk_at, pw_outside::specs::Reading::bind))]
 fn read_chunk<S: ByteSource>(
     source: &mut S,

@@ -1,6 +1,6 @@
--- What was written is read again.
-use Rattle.std.proofs.Common.{◌≡◌, ℕ, zero, suc, ◌+◌, ◌-◌, ◌*◌, ◌^◌, ◌<◌, ◌≤◌, Bool, true, false, eqb, List, [], ◌∷◌, ◌++◌, length, Option, Some, None, Ok, refl, sym, ap, ◌∙◌, arith, ⊎_elim, length-append, append_assoc}
-use Rattle.std.proofs.lemmas.Bool.{cases_Bool, eqb-true}
+-- What was written is read back.
+use Rattle.std.proofs.Common.{◌≡◌, ℕ, zero, suc, ◌+◌, ◌-◌, ◌*◌, ◌^◌, ◌<◌, ◌≤◌, Bool, true, false, eqb, List, [], ◌∷◌, ◌++◌, length, Option, Some, None, Ok, refl, sym, ap, ◌∙◌, arith, ⊎_elim, length-append}
+use Rattle.std.proofs.lemmas.Bool.{cases_Bool}
 use Rattle.std.specs.Prelude.{IfSome, is_some}
 use Rattle.std.specs.List.{All}
 use Rattle.std.specs.Option.{option_map}
@@ -15,7 +15,8 @@ use Rattle.pic_y4m.specs.declared.samples.SampleSize.TheVariants.{Pair}
 use Rattle.pic_y4m.specs.Samples.{some_samples_at, plane_bytes}
 use Rattle.pic_y4m.specs.Frames.{has_alpha}
 use Rattle.pic_y4m.proofs.SamplesAgain.{plane-length, plane-again, range-again}
-use Rattle.pic_y4m.proofs.Again.{same-raster, plane-count, eqb-less}
+use Rattle.pic_y4m.proofs.Lines.{eqb-some}
+use Rattle.pic_y4m.proofs.Again.{same-raster, plane-count, eqb-less, frame-parts, frame-length}
 use Rattle.pic_raw.specs.Raw.{State, alpha_limit, alpha_at, alpha_in_range, plane_of, picture_of, picture_behind, frame_at, advanced, next_at, pictures_in, pictures_left, luma_count, chroma_count}
 use Rattle.pic_raw.specs.Writing.{alpha_bytes, raw_bytes, frames_bytes, IsWhole, AreWhole}
 
@@ -80,23 +81,14 @@ behind-again h p rest first place end w behind =
     let r4 = alpha-good h.alpha p.alpha alpha_place w.picture.alpha in
     rw (cb, cr, alpha, r1, r2, r3, r4, behind) (ap (λ (q : Picture). Ok (q, record { place = alpha_place + length (alpha_bytes p.alpha); bytes = rest })) (same-picture h p w))
 
--- luma stands next, and has a sample
+-- luma comes next, and has a sample
 some-again : (ys rest : List ℕ) (count place : ℕ) → 1 ≤ count → length ys ≡ count
     → some_samples_at Pair count (record { place = place; bytes = plane_bytes Pair ys ++ rest }) ≡ Ok (Some ys, record { place = place + length (plane_bytes Pair ys); bytes = rest })
 unfolding some_samples_at bind
 some-again ys rest count place some len =
     let much : length (plane_bytes Pair ys ++ rest) ≡ length ys * 2 + length rest = length-append (plane_bytes Pair ys) rest ∙ ap (λ n. n + length rest) (plane-length Pair ys) in
-    let there : eqb (length (plane_bytes Pair ys ++ rest)) 0 ≡ false = not-zero (length (plane_bytes Pair ys ++ rest)) (omega (arith, much, len, some)) in
+    let there : eqb (length (plane_bytes Pair ys ++ rest)) 0 ≡ false = eqb-some (length (plane_bytes Pair ys ++ rest)) (omega (arith, much, len, some)) in
     rw (there, plane-again Pair ys rest count place len) refl
-  where
-    not-zero : (n : ℕ) → 1 ≤ n → eqb n 0 ≡ false
-    not-zero n h = ⊎_elim (λ t. let e : n ≡ 0 = eqb-true n 0 t in absurd (omega arith)) (λ f. f) (cases_Bool (eqb n 0))
-
-parts : (y cb cr a rest : List ℕ) → y ++ cb ++ cr ++ a ++ rest ≡ y ++ (cb ++ (cr ++ (a ++ rest)))
-parts y cb cr a rest = simp append_assoc
-
-parts-length : (y cb cr a : List ℕ) → length (y ++ cb ++ cr ++ a) ≡ length y + length cb + length cr + length a
-parts-length y cb cr a = simp length-append
 
 some-luma : (h : Head) (p : Picture) → IsWhole h p → 1 ≤ luma_count h
 some-luma h p w =
@@ -117,10 +109,10 @@ picture-again r p rest few w =
     let a = alpha_bytes p.alpha in
     let more : eqb r.frames MAX_FRAMES ≡ false = eqb-less r.frames MAX_FRAMES few in
     let luma = some-again p.y.samples (cb ++ (cr ++ (a ++ rest))) (luma_count r.head) r.place (some-luma r.head p w) (luma-many r.head p w) in
-    let behind = behind-again r.head p rest r.place (r.place + length y) (r.place + length (y ++ cb ++ cr ++ a)) w (omega (arith, parts-length y cb cr a)) in
-    rw (more, parts y cb cr a rest, luma, behind) refl
+    let behind = behind-again r.head p rest r.place (r.place + length y) (r.place + length (y ++ cb ++ cr ++ a)) w (omega (arith, frame-length y cb cr a)) in
+    rw (more, frame-parts y cb cr a rest, luma, behind) refl
 
--- nothing stands behind the last frame
+-- nothing follows the last frame
 end-again : (r : State) → next_at r (record { place = r.place; bytes = [] }) ≡ Ok (None, record { place = r.place; bytes = [] })
 unfolding next_at frame_at some_samples_at bind
 end-again r = ⊎_elim (λ t. rw t refl) (λ f. rw f refl) (cases_Bool (eqb r.frames MAX_FRAMES))

@@ -1,4 +1,4 @@
--- Raw planar pictures that are read have the head's form, and are 1,000,000 at most.
+-- Raw planar pictures that are read have the head's form, and are at most `MAX_FRAMES`.
 use Rattle.std.proofs.Common.{◌≡◌, ◌≢◌, ℕ, zero, suc, ◌+◌, ◌^◌, ◌<◌, ◌≤◌, Bool, true, false, eqb, if◌then◌else◌, ◌==◌, List, length, Option, Some, None, Ok, Err, refl, sym, ap, ◌∙◌, subst, arith}
 use Rattle.std.specs.Prelude.{IfSome, is_some}
 use Rattle.std.specs.List.{All}
@@ -29,7 +29,7 @@ pub mapped-if : {X Y : Type 0} (f : X → Y) (P : Y → Type 0) (a : Option X) �
 mapped-if f P None h = tt
 mapped-if f P (Some x) h = h
 
--- the picture of planes whose samples are within their bits has the form
+-- a picture whose samples are within their bit depths has the form
 pub picture_form : (h : Head) (y cb cr : List ℕ) (alpha : Option (List ℕ)) → is_some alpha ≡ has_alpha h.alpha → AreBelow h.depth y → AreBelow h.depth cb → AreBelow h.depth cr
     → IfSome alpha (All (λ s. s < alpha_limit h.alpha)) → IsPicture h (picture_of h y cb cr alpha)
 picture_form h y cb cr alpha there luma blue red within = record {
@@ -49,13 +49,13 @@ picture_form h y cb cr alpha there luma blue red within = record {
     sized None = tt
     sized (Some a) = (refl, refl)
 
--- the same of samples that a call gave
+-- the same for samples that a call returned
 pub given_form : {X : Type 0} (view : X → List ℕ) (h : Head) (y cb cr : List ℕ) (alpha : Option X) (there : Bool) → is_some alpha ≡ there → there ≡ has_alpha h.alpha → AreBelow h.depth y → AreBelow h.depth cb → AreBelow h.depth cr
     → IfSome alpha (λ v. All (λ s. s < alpha_limit h.alpha) (view v)) → IsPicture h (picture_of h y cb cr (option_map view alpha))
 given_form view h y cb cr alpha there given same luma blue red within =
     picture_form h y cb cr (option_map view alpha) (mapped-some view alpha ∙ given ∙ same) luma blue red (mapped-if view (All (λ s. s < alpha_limit h.alpha)) alpha within)
 
--- a picture of Y4M has no alpha
+-- a Y4M picture has no alpha
 pub y4m-picture : (h : Head) (p : Picture) → h.alpha ≡ Absent → HasForm h p → IsPicture h p
 y4m-picture h p alpha form = record { form = form; alpha = none (λ a. All (λ s. s < alpha_limit h.alpha) a.samples) p.alpha (form.alpha ∙ ap has_alpha alpha) }
   where

@@ -1,4 +1,4 @@
--- Readers of any form.
+-- Readers of any format.
 use Rattle.std.proofs.Common.{◌≡◌, suc, ◌+◌, ◌-◌, ◌≤◌, length, Option, None, Some, Result, Ok, Err, refl, subst, arith}
 use Rattle.std.specs.List.{All}
 use Rattle.pw_outside.specs.Reading.{Fault, Rest, bind}
@@ -32,7 +32,7 @@ left-has-form (Y4m r) s is =
     (λ k d lt. y4m-picture r.form.head _ is.form.alpha (left.0 k d lt), left.1)
 left-has-form (Raw r) s is = left-form (MAX_FRAMES + 1 - r.frames) r s is.few
 
--- the reader that an input begins with
+-- the initial reader of an input
 started-left : (form : Option Head) (s after : Rest) (r : AnyReader) → start_of form s ≡ Ok (r, after) → All (IsPicture (head_of r)) (left_of r after).pictures × (length (left_of r after).pictures ≤ MAX_FRAMES)
 unfolding y4m.pictures_left raw.pictures_left
 started-left (Some head) s after r e =

@@ -1,4 +1,4 @@
--- A reader of pictures in any form, and what an input means in a form.
+-- A reader of pictures of any format, and the meaning of an input.
 use Rattle.std.specs.Prelude.{◌≡◌, ℕ, ◌+◌, ◌≤◌, List, length, Option, None, Some, Result, Ok, Err}
 use Rattle.std.specs.List.{All}
 use Rattle.pw_outside.specs.Reading.{Fault, Rest, Read, ◌>>=◌}
@@ -19,80 +19,80 @@ abbrev pub head_of : AnyReader → Head
 head_of (Y4m r) = r.form.head
 head_of (Raw r) = r.head
 
--- how many frames were read
+-- the number of frames read so far
 abbrev pub frames_of : AnyReader → ℕ
 frames_of (Y4m r) = r.frames
 frames_of (Raw r) = r.frames
 
--- the place behind them
+-- the offset after them
 abbrev pub place_of : AnyReader → ℕ
 place_of (Y4m r) = r.place
 place_of (Raw r) = r.place
 
--- a reader at any time
+-- the reader's invariant
 abbrev pub IsReader : AnyReader → Type 0
 IsReader (Y4m r) = y4m.IsState r
 IsReader (Raw r) = raw.IsState r
 
--- one frame more, which ends at this place
+-- after one more frame, which ends at this offset
 abbrev pub advanced : AnyReader → ℕ → AnyReader
 advanced (Y4m r) place = Y4m (y4m.advanced r place)
 advanced (Raw r) place = Raw (raw.advanced r place)
 
--- the next picture, or none at the end of the input
+-- the next picture, or `None` at the end of the input
 abbrev pub next_of : AnyReader → Rest → Read PictureKind (Option Picture)
 next_of (Y4m r) s = y4m.next_at r s
 next_of (Raw r) s = raw.next_at r s
 
--- all pictures that a reader has left, and the fault behind them, if one ends them
+-- all pictures that remain for a reader, and the fault that ends them, if there is one
 abbrev pub left_of : AnyReader → Rest → Pictures
 left_of (Y4m r) s = y4m.pictures_left r s
 left_of (Raw r) s = raw.pictures_left r s
 
--- The reader of an input: of raw planar pictures where their form is said, and else of Y4M.
+-- The reader of an input: of raw planar pictures if their form is given, otherwise of Y4M.
 abbrev pub start_of : Option Head → Rest → Read PictureKind AnyReader
 start_of (Some head) s = Ok (Raw (raw.started head), s)
 start_of None s = do
   r ← y4m.start_at s
   Ok (Y4m r.0, r.1)
 
--- What an input means: the form and the pictures up to the end or to the first fault; or the first fault of the head line.
--- The form of raw planar pictures is said; without it the input is Y4M.
+-- The meaning of an input: the form and the pictures up to the end or the first fault; or the first fault of the
+-- head line. The form of raw planar pictures is given; without one the input is Y4M.
 unfoldable pub pictures_of : Option Head → List ℕ → Result (Head × Pictures) (Fault PictureKind)
 pictures_of form bytes = do
   start ← start_of form (record { place = 0; bytes = bytes })
   Ok (head_of start.0, left_of start.0 start.1)
 
--- The reader after a call: one frame more behind a picture, and else as it was.
+-- The reader after a call: one more frame after a picture, and otherwise unchanged.
 abbrev pub IsAfter : {E : Type 0} → AnyReader → AnyReader → Result (Option Picture) E → Type 0
 IsAfter old new (Ok (Some _)) = new ≡ advanced old (place_of new)
 IsAfter old new (Ok None) = new ≡ old
 IsAfter old new (Err _) = new ≡ old
 
--- the place behind what was read, where something was
+-- the offset after what was read, if something was
 abbrev pub place_after : {E : Type 0} → Result AnyReader E → ℕ
 place_after (Ok r) = place_of r
 place_after (Err _) = 0
 
 -- ---- laws
 
--- The law that what is left is the next picture and what is then left.
+-- The pictures that remain are the next picture and those that remain after it.
 abbrev pub NextIsFirst : Type 0
 NextIsFirst = (r : AnyReader) (s : Rest) → frames_of r ≤ MAX_FRAMES → left_of r s ≡ first_and (next_of r s) (λ rest. left_of (advanced r rest.place) rest)
 
--- The law that the pictures that a reader has left have its head's form, and are with those that were read 1,000,000 at most.
+-- The pictures that remain for a reader have its head's form; with those read before they are at most `MAX_FRAMES`.
 abbrev pub LeftHaveForm : Type 0
 LeftHaveForm = (r : AnyReader) (s : Rest) → IsReader r → All (IsPicture (head_of r)) (left_of r s).pictures × (frames_of r + length (left_of r s).pictures ≤ MAX_FRAMES)
 
--- The law that the pictures of an input have its head's form, and are 1,000,000 at most.
+-- The pictures of an input have its head's form, and are at most `MAX_FRAMES`.
 abbrev pub PicturesHaveForm : Type 0
 PicturesHaveForm = (form : Option Head) (bytes : List ℕ) (head : Head) (ps : Pictures) → pictures_of form bytes ≡ Ok (head, ps) → All (IsPicture head) ps.pictures × (length ps.pictures ≤ MAX_FRAMES)
 
--- The law that without a form an input means what it means as Y4M.
+-- Without a form, an input has its meaning as Y4M.
 abbrev pub Y4mIsMeant : Type 0
 Y4mIsMeant = (bytes : List ℕ) → pictures_of None bytes ≡ pictured bytes
 
--- The law that raw planar pictures that were written mean exactly the pictures that were written.
+-- Written raw planar pictures mean exactly the pictures that were written.
 abbrev pub WrittenIsMeant : Type 0
 WrittenIsMeant = (h : Head) (pictures : List Picture) → length pictures ≤ MAX_FRAMES → AreWhole h pictures
     → pictures_of (Some h) (frames_bytes pictures) ≡ Ok (h, record { pictures = pictures; fault = None })

@@ -1,5 +1,5 @@
--- Raw planar pictures (our own): of each frame the planes Y, Cb, Cr and alpha, each sample two bytes of which the low one
--- comes first. There are no heads; the form is said beside the input.
+-- Raw planar pictures (our own): for each frame the planes Y, Cb, Cr and alpha, with two-byte little-endian
+-- samples. There are no heads; the form is given separately.
 use Rattle.std.specs.Prelude.{◌≡◌, ℕ, zero, suc, ◌+◌, ◌-◌, ◌*◌, ◌<◌, ◌≤◌, ◌^◌, ◌==◌, if◌then◌else◌, Bool, true, false, List, [], length, Option, None, Some, Result, Ok, Err, IfSome}
 use Rattle.std.specs.List.{All}
 use Rattle.std.specs.Option.{option_map}
@@ -20,24 +20,24 @@ use Rattle.pic_y4m.specs.Frames.{HasForm, has_alpha, Pictures, first_and}
 
 -- ---- frames
 
--- the number of samples of luma and of alpha, and of each plane of chroma
+-- the number of samples of luma and of alpha, and of each chroma plane
 abbrev pub luma_count : Head → ℕ
 luma_count h = h.height * h.width
 
 abbrev pub chroma_count : Head → ℕ
 chroma_count h = h.height * chroma_width h.chroma h.width
 
--- one more than the largest sample of alpha
+-- 2 to alpha's bit depth: one more than the largest sample
 abbrev pub alpha_limit : AlphaKind → ℕ
 alpha_limit Absent = 65536
 alpha_limit Eight = 256
 alpha_limit Sixteen = 65536
 
--- a plane of these samples
+-- a plane with these samples
 abbrev pub plane_of : ℕ → ℕ → List ℕ → Raster
 plane_of width height samples = record { width = width; height = height; samples = samples }
 
--- the picture of its planes
+-- the picture with these planes
 abbrev pub picture_of : Head → List ℕ → List ℕ → List ℕ → Option (List ℕ) → Picture
 picture_of h y cb cr alpha = record {
   y = plane_of h.width h.height y;
@@ -48,7 +48,7 @@ picture_of h y cb cr alpha = record {
   depth = h.depth;
 }
 
--- the samples of alpha, where the form has alpha
+-- the samples of alpha, if the form has alpha
 abbrev pub alpha_at : Bool → ℕ → Rest → Read PictureKind (Option (List ℕ))
 alpha_at false count s = Ok (None, s)
 alpha_at true count s = do
@@ -60,7 +60,7 @@ abbrev pub alpha_in_range : AlphaKind → Option (List ℕ) → ℕ → Result (
 alpha_in_range kind None place = Ok tt
 alpha_in_range kind (Some samples) place = in_range Pair (alpha_limit kind) samples place
 
--- The picture behind its luma, which begins at this place; its samples are judged once all are read.
+-- The picture after its luma, which begins at this offset; its samples are validated after all are read.
 unfoldable pub picture_behind : Head → ℕ → List ℕ → Rest → Read PictureKind Picture
 picture_behind h place y s = do
   cb ← samples_at Pair (chroma_count h) s
@@ -72,27 +72,27 @@ picture_behind h place y s = do
   _ ← alpha_in_range h.alpha alpha.0 cr.1.place
   Ok (picture_of h y cb.0 cr.0 alpha.0, alpha.1)
 
--- the frame behind its luma; none where there is no luma
+-- the frame after its luma; `None` if there is no luma
 abbrev pub frame_behind : Head → ℕ → Option (List ℕ) → Rest → Read PictureKind (Option Picture)
 frame_behind h place None s = Ok (None, s)
 frame_behind h place (Some y) s = do
   picture ← picture_behind h place y s
   Ok (Some picture.0, picture.1)
 
--- the next frame, or none at the end of the input
+-- the next frame, or `None` at the end of the input
 unfoldable pub frame_at : Head → Rest → Read PictureKind (Option Picture)
 frame_at h s = do
   y ← some_samples_at Pair (luma_count h) s
   frame_behind h s.place y.0 y.1
 
--- a picture of a form, and its samples of alpha are within their bits
+-- a picture of a form, with samples of alpha within their bit depth
 pub record IsPicture (h : Head) (p : Picture) : Type 0 where
   pub form : HasForm h p
   pub alpha : IfSome p.alpha (λ a. All (λ s. s < alpha_limit h.alpha) a.samples)
 
--- ---- what a reader has left
+-- ---- the pictures that remain for a reader
 
--- the form of all pictures, the number of frames that were read, and the place behind them
+-- the form of all pictures, the number of frames read so far, and the offset after them
 pub record State : Type 0 where
   pub head : Head
   pub frames : ℕ
@@ -102,30 +102,31 @@ pub record State : Type 0 where
 abbrev pub started : Head → State
 started head = record { head = head; frames = 0; place = 0 }
 
--- one frame more, which ends at this place
+-- after one more frame, which ends at this offset
 abbrev pub advanced : State → ℕ → State
 advanced r place = record r { frames = r.frames + 1; place = place }
 
--- the next picture, or none at the end of the input; behind the last frame that may be there, a byte is one too many
+-- the next picture, or `None` at the end of the input; after `MAX_FRAMES` frames a further byte is a fault
 unfoldable pub next_at : State → Rest → Read PictureKind (Option Picture)
 next_at r s = if r.frames == MAX_FRAMES then (if length s.bytes == 0 then Ok (None, s) else bad kinds.TooManyFrames s.place) else frame_at r.head s
 
--- at most so many of the pictures that a reader has left
+-- at most `n` of the pictures that remain for a reader
 unfoldable pub pictures_in : ℕ → State → Rest → Pictures
 pictures_in zero r s = record { pictures = []; fault = None }
 pictures_in (suc n) r s = first_and (next_at r s) (λ rest. pictures_in n (advanced r rest.place) rest)
 
--- All pictures that a reader has left. One call more than there may be frames meets their end, or the fault behind them.
+-- All pictures that remain for a reader. One call more than the maximum number of frames reaches the end, or the
+-- fault.
 unfoldable pub pictures_left : State → Rest → Pictures
 pictures_left r s = pictures_in (MAX_FRAMES + 1 - r.frames) r s
 
--- a reader at any time
+-- the reader's invariant
 pub record IsState (r : State) : Type 0 where
   pub head : IsHead r.head
   pub few : r.frames ≤ MAX_FRAMES
   pub place : r.place ≤ r.frames * 2 ^ 29
 
--- The reader after a call: one frame more behind a picture, and else as it was.
+-- The reader after a call: one more frame after a picture, and otherwise unchanged.
 abbrev pub IsAfter : {E : Type 0} → State → State → Result (Option Picture) E → Type 0
 IsAfter old new (Ok (Some _)) = new ≡ advanced old new.place
 IsAfter old new (Ok None) = new ≡ old

@@ -1,4 +1,4 @@
--- What is written of raw planar pictures (our own).
+-- Written raw planar pictures (our own).
 use Rattle.std.specs.Prelude.{◌≡◌, ℕ, ◌+◌, ◌<◌, ◌≤◌, List, [], ◌∷◌, ◌++◌, length, Option, None, Some, Ok, IfSome}
 use Rattle.std.specs.List.{flat_map}
 use Rattle.pw_planes.specs.declared.picture.Picture.{Picture}
@@ -9,7 +9,7 @@ use Rattle.pic_y4m.specs.declared.samples.SampleSize.TheVariants.{Pair}
 use Rattle.pic_y4m.specs.Samples.{plane_bytes}
 use Rattle.pic_raw.specs.Raw.{State, IsPicture, next_at, pictures_left}
 
--- the plane of alpha, where there is one
+-- the alpha plane, if there is one
 abbrev pub alpha_bytes : Option Raster → List ℕ
 alpha_bytes None = []
 alpha_bytes (Some a) = plane_bytes Pair a.samples
@@ -18,11 +18,11 @@ alpha_bytes (Some a) = plane_bytes Pair a.samples
 unfoldable pub raw_bytes : Picture → List ℕ
 raw_bytes p = plane_bytes Pair p.y.samples ++ plane_bytes Pair p.cb.samples ++ plane_bytes Pair p.cr.samples ++ alpha_bytes p.alpha
 
--- pictures, one behind the other
+-- the bytes of these pictures
 abbrev pub frames_bytes : List Picture → List ℕ
 frames_bytes pictures = flat_map raw_bytes pictures
 
--- a picture of a form with planes as planes are
+-- a picture of a form with well-formed planes
 pub record IsWhole (h : Head) (p : Picture) : Type 0 where
   pub picture : IsPicture h p
   pub luma : IsPlane p.y
@@ -35,12 +35,12 @@ abbrev pub AreWhole : Head → List Picture → Type 0
 AreWhole h [] = Unit {0}
 AreWhole h (p ∷ ps) = IsWhole h p × AreWhole h ps
 
--- The law that a written picture is read: where it stands next, a reader of its form gives it, and goes on behind it.
+-- A written picture is read back: a reader of its form returns it, and continues after it.
 abbrev pub WrittenIsRead : Type 0
 WrittenIsRead = (r : State) (p : Picture) (rest : List ℕ) → r.frames < MAX_FRAMES → IsWhole r.head p
     → next_at r (record { place = r.place; bytes = raw_bytes p ++ rest }) ≡ Ok (Some p, record { place = r.place + length (raw_bytes p); bytes = rest })
 
--- The law that a reader gives exactly the pictures that were written, and then the end.
+-- A reader returns exactly the written pictures, and then the end.
 abbrev pub PicturesAreRead : Type 0
 PicturesAreRead = (r : State) (pictures : List Picture) → r.frames + length pictures ≤ MAX_FRAMES → AreWhole r.head pictures
     → pictures_left r (record { place = r.place; bytes = frames_bytes pictures }) ≡ record { pictures = pictures; fault = None }

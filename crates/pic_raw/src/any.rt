@@ -14,12 +14,12 @@ use pw_outside::ByteSource;
 use pw_planes::Picture;
 use std::alloc::Global;
 
-/// Reads the pictures of an input one after the other, in the form that the input has.
+/// Reads the pictures of an input in order, in the input's format.
 #[derive(Drop)]
 pub enum AnyReader {
-    /// An input of Y4M.
+    /// A Y4M input.
     Y4m(Y4mReader),
-    /// An input of raw planar pictures.
+    /// A raw planar input.
     Raw(RawReader),
 }
 
@@ -27,25 +27,26 @@ impl AnyReader {
     ghost use Rattle.pic_raw.specs.Raw.{IsPicture};
     ghost use Rattle.pic_raw.specs.Any.{IsReader, IsAfter, head_of, frames_of, place_of, place_after, start_of, next_of};
 
-    /// A reader of an input: of raw planar pictures where their form is said, which has to be within the limits, and else
-    /// of Y4M, whose head line is read.
+    /// A reader of an input: of raw planar pictures if their form is given, which must be within the limits;
+    /// otherwise of Y4M, whose head line is read.
     ///
-    /// The errors are those of [`Y4mReader::start`]; there is none where the form is said. No memory is taken.
+    /// The errors are those of [`Y4mReader::start`]; there is none if the form is given. Takes no memory.
     #[tactic(auto, unfolding(pw_outside::specs::Reading::bind))]
     pub fn start<S: ByteSource>(
         source: &mut S,
         form: Option<Head>,
     ) -> Result<AnyReader, PictureFault>
         requires { IfSome form IsHead }
-        // Where the source tells its bytes, the answer is the reader of their form, or the first fault of the head line.
+        // If the source's bytes are visible, the result is the reader of their form, or the first fault of the head
+        // line.
         ensures bytes { Gives told_fault (λ r. r) (S.left source.old) (S.left source.new) 0 (place_after result) result (start_of form) }
         ensures reader { IfOk result IsReader }
-        // No picture was read yet.
+        // No picture is read yet.
         ensures fresh { IfOk result (λ r. frames_of r ≡ 0) }
         ensures becomes { GoesOn S.becomes source.old source.new }
-        // The error is `Failed` only where a call of the source failed, and each such call is answered by it.
+        // The error is `Failed` exactly if a call of the source failed.
         ensures cause { CountsFault (S.faults source.old) (S.faults source.new) (is_failed result) }
-        // No memory is taken.
+        // Takes no memory.
         ensures memory { is_out_of_memory result ≡ false }
     {
         match form {
@@ -57,7 +58,7 @@ impl AnyReader {
         }
     }
 
-    /// The form that all pictures have.
+    /// The form of all pictures.
     pub fn head(&self) -> Head
         ensures head { result ≡ head_of self.now }
         ensures limits { IsHead result }
@@ -68,25 +69,25 @@ impl AnyReader {
         }
     }
 
-    /// Reads the next picture, or tells that the input ends in front of one.
+    /// Reads the next picture; `None` at the end of the input.
     ///
-    /// The errors are those of the reader inside. After an error the reader isn't used again.
+    /// The errors are those of the inner reader. After an error the reader isn't used again.
     pub fn next<S: ByteSource>(
         &mut self,
         alloc: Global,
         source: &mut S,
     ) -> Result<Option<Picture>, PictureFault>
-        // Where the source tells its bytes, the answer is the picture that stands next, their end, or the first fault.
+        // If the source's bytes are visible, the result is the next picture, the end, or the first fault.
         ensures bytes { Gives told_fault (λ p. p) (S.left source.old) (S.left source.new) (place_of self.old) (place_of self.new) result (next_of self.old) }
-        // A picture has the form of the head, and samples below 2 to the number of their bits.
+        // A picture has the head's form, and samples within their bit depths.
         ensures picture { IfOk result (λ picture. IfSome picture (IsPicture (head_of self.old))) }
-        // A picture is counted, and there are 1,000,000 at most.
+        // Each picture is counted, at most `MAX_FRAMES`.
         ensures after { IsAfter self.old self.new result }
         ensures reader { IsReader self.new }
-        // There is none only where all bytes of the source were read.
+        // `None` only after all bytes of the source were read.
         ensures end { IfOk result (λ picture. IfNone picture (IsAtEnd (S.left source.new))) }
         ensures becomes { GoesOn S.becomes source.old source.new }
-        // The error is `Failed` only where a call of the source failed, and each such call is answered by it.
+        // The error is `Failed` exactly if a call of the source failed.
         ensures cause { CountsFault (S.faults source.old) (S.faults source.new) (is_failed result) }
     {
         match self {

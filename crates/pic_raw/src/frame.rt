@@ -1,4 +1,4 @@
-//! The planes of a frame.
+//! Reads the planes of a frame.
 
 ghost use Rattle.std.specs.Prelude.{◌≡◌, ◌+◌, ◌*◌, ◌≤◌, ◌<◌, ◌^◌, false, IfOk, IfSome, OnOk, is_some, length};
 ghost use Rattle.std.specs.Io.KnownBytes.{IsAtEnd};
@@ -16,7 +16,7 @@ use pw_outside::ByteSource;
 use pw_planes::{AlphaKind, Picture, Plane};
 use std::alloc::Global;
 
-/// The number of samples of luma and of alpha.
+/// The number of samples of luma, and of alpha.
 fn luma_count(head: &Head) -> usize
     requires { IsHead head.now }
     ensures value { result ≡ luma_count head.now }
@@ -26,7 +26,7 @@ fn luma_count(head: &Head) -> usize
     usize::from(head.height) * usize::from(head.width)
 }
 
-/// The number of samples of a plane of chroma.
+/// The number of samples of a chroma plane.
 fn chroma_count(head: &Head) -> usize
     requires { IsHead head.now }
     ensures value { result ≡ chroma_count head.now }
@@ -37,7 +37,7 @@ fn chroma_count(head: &Head) -> usize
     usize::from(head.height) * width as usize
 }
 
-/// One more than the largest sample of alpha.
+/// 2 to alpha's bit depth: one more than the largest sample.
 fn alpha_limit(kind: AlphaKind) -> u32
     ensures { result ≡ alpha_limit kind }
 {
@@ -57,7 +57,7 @@ fn has_alpha(kind: AlphaKind) -> bool
     }
 }
 
-/// Reads the samples of alpha, where there is alpha.
+/// Reads the samples of alpha, if there is alpha.
 #[tactic(auto, unfolding(pw_outside::specs::Reading::bind))]
 fn alpha_of<S: ByteSource>(
     alloc: Global,
@@ -83,7 +83,7 @@ fn alpha_of<S: ByteSource>(
     Ok(Some(samples))
 }
 
-/// Refuses samples of alpha that have more bits than their kind says. The plane begins at this place.
+/// Refuses samples of alpha that exceed its bit depth. The plane begins at offset `place`.
 fn check_alpha(kind: AlphaKind, samples: &Option<Vec<u16>>, place: u64) -> Result<(), PictureFault>
     requires few { IfSome samples.now (λ v. length v.items ≤ 2 ^ 26) }
     requires room { place < 2 ^ 62 }
@@ -113,7 +113,7 @@ fn alpha_plane(head: &Head, samples: Option<Vec<u16>>) -> Option<Plane>
     }
 }
 
-/// The picture of its planes.
+/// The picture with these planes.
 fn picture_of(
     head: &Head,
     y: Vec<u16>,
@@ -141,7 +141,7 @@ fn picture_of(
     }
 }
 
-/// Reads the planes behind luma, which begins at this place.
+/// Reads the planes after luma, which begins at this offset.
 #[tactic(auto, unfolding(crate::specs::Raw::picture_behind, pw_outside::specs::Reading::bind))]
 fn picture_behind<S: ByteSource>(
     alloc: Global,
@@ -176,7 +176,7 @@ fn picture_behind<S: ByteSource>(
     Ok(picture_of(head, y, cb, cr, alpha))
 }
 
-/// The next frame, or none at the end of the input.
+/// Reads the next frame; `None` at the end of the input.
 #[tactic(auto, unfolding(crate::specs::Raw::frame_at, pw_outside::specs::Reading::bind))]
 pub(crate) fn frame_of<S: ByteSource>(
     alloc: Global,

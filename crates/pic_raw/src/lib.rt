@@ -1,4 +1,4 @@
-//! Raw planar pictures, read and written, and any reader of pictures.
+//! Reads and writes raw planar pictures, and reads pictures of any format.
 #![tactic(auto)]
 
 mod any;
@@ -14,6 +14,3 @@ pub use laws::{
 };
 pub use reader::RawReader;
 pub use writer::RawWriter;
-
-#[cfg(test)]
-mod tests;

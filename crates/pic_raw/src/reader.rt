@@ -1,4 +1,4 @@
-//! Reading raw planar pictures one after the other.
+//! Reads raw planar pictures in order.
 
 ghost use Rattle.std.specs.Prelude.{◌≡◌, IfOk, IfSome};
 ghost use Rattle.std.specs.Io.KnownBytes.{IsAtEnd};
@@ -15,7 +15,7 @@ use pw_planes::Picture;
 use std::alloc::Global;
 use std::marker::Model;
 
-/// Reads raw planar pictures of one form one after the other.
+/// Reads raw planar pictures of one form in order.
 #[derive(Drop)]
 pub struct RawReader {
     head: Head,
@@ -36,7 +36,7 @@ impl Model for RawReader {
 impl RawReader {
     ghost use Rattle.pic_raw.specs.Raw.{IsState, IsAfter, IsPicture, started, next_at};
 
-    /// A reader of an input of this form, which stands at the input's first byte. The head has to be within the limits.
+    /// A reader of an input of this form, at its first byte. The head must be within the limits.
     pub fn new(head: Head) -> RawReader
         requires { IsHead head }
         ensures reader { result ≡ started head }
@@ -49,7 +49,7 @@ impl RawReader {
         }
     }
 
-    /// The form that all pictures have.
+    /// The form of all pictures.
     pub fn head(&self) -> Head
         ensures head { result ≡ self.now.head }
         ensures limits { IsHead result }
@@ -57,27 +57,28 @@ impl RawReader {
         self.head
     }
 
-    /// Reads the next picture, or tells that the input ends in front of one.
+    /// Reads the next picture; `None` at the end of the input.
     ///
-    /// The errors are `Bad` with the first fault and its place, `Failed` where a call of the source failed, and `NoMemory`.
-    /// The faults are Truncated, SampleRange and TooManyFrames. After an error the reader isn't used again.
+    /// The errors are `Bad` with the first fault and its offset, `Failed` if a call of the source failed, and
+    /// `NoMemory`. The faults are Truncated, SampleRange and TooManyFrames. After an error the reader isn't used
+    /// again.
     #[tactic(auto, unfolding(crate::specs::Raw::next_at, pw_outside::specs::Reading::bind))]
     pub fn next<S: ByteSource>(
         &mut self,
         alloc: Global,
         source: &mut S,
     ) -> Result<Option<Picture>, PictureFault>
-        // Where the source tells its bytes, the answer is the picture that stands next, their end, or the first fault.
+        // If the source's bytes are visible, the result is the next picture, the end, or the first fault.
         ensures bytes { Gives told_fault (λ p. p) (S.left source.old) (S.left source.new) self.old.place self.new.place result (next_at self.old) }
-        // A picture has the form of the head, and samples below 2 to the number of their bits.
+        // A picture has the head's form, and samples within their bit depths.
         ensures picture { IfOk result (λ picture. IfSome picture (IsPicture self.old.head)) }
-        // A picture is counted, and there are 1,000,000 at most.
+        // Each picture is counted, at most `MAX_FRAMES`.
         ensures after { IsAfter self.old self.new result }
         ensures reader { IsState self.new }
-        // There is none only where all bytes of the source were read.
+        // `None` only after all bytes of the source were read.
         ensures end { IfOk result (λ picture. IfNone picture (IsAtEnd (S.left source.new))) }
         ensures becomes { GoesOn S.becomes source.old source.new }
-        // The error is `Failed` only where a call of the source failed, and each such call is answered by it.
+        // The error is `Failed` exactly if a call of the source failed.
         ensures cause { CountsFault (S.faults source.old) (S.faults source.new) (is_failed result) }
     {
         if self.frames == MAX_FRAMES {

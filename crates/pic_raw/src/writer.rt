@@ -1,4 +1,4 @@
-//! Writing raw planar pictures one after the other.
+//! Writes raw planar pictures in order.
 
 ghost use Rattle.std.specs.Prelude.{◌≡◌, ◌≤◌, OnOk, OnErr, is_err};
 ghost use Rattle.pw_outside.specs.Ports.{CountsFault};
@@ -10,7 +10,7 @@ use pic_y4m::{SampleSize, WriteEnd, put_samples};
 use pw_outside::{ByteSink, Failed};
 use pw_planes::{Picture, Plane};
 
-/// Writes the plane of alpha, where there is one.
+/// Writes the alpha plane, if there is one.
 fn put_alpha<K: ByteSink>(sink: &mut K, alpha: &Option<Plane>) -> Result<(), Failed>
     ensures ok { OnOk result (Puts (sink_state (K.held sink.old) (K.taken sink.old)) (sink_state (K.held sink.new) (K.taken sink.new)) (alpha_bytes alpha.now)) }
     ensures err { OnErr result (PutsPart (sink_state (K.held sink.old) (K.taken sink.old)) (sink_state (K.held sink.new) (K.taken sink.new)) (alpha_bytes alpha.now)) }
@@ -36,24 +36,24 @@ fn put_picture<K: ByteSink>(sink: &mut K, picture: &Picture) -> Result<(), Faile
     put_alpha(sink, &picture.alpha)
 }
 
-/// Writes raw planar pictures one after the other.
+/// Writes raw planar pictures in order.
 #[derive(Clone, Copy, Debug, PartialEq, Eq)]
 pub struct RawWriter;
 
 impl RawWriter {
-    /// A writer, which has written nothing.
+    /// A writer that has written nothing.
     pub fn new() -> RawWriter {
         RawWriter
     }
 
-    /// Writes a picture, with its alpha if it has any. No memory is taken.
+    /// Writes a picture, with its alpha if it has any. Takes no memory.
     ///
-    /// The error is `Failed` where a call of the sink failed.
+    /// The error is `Failed` if a call of the sink failed.
     pub fn picture<K: ByteSink>(&mut self, sink: &mut K, picture: &Picture) -> Result<(), WriteEnd>
-        // The planes are appended: all of them, or after `Failed` a part from their front.
+        // The planes are appended: all of them, or after `Failed` a prefix.
         ensures bytes { Writes result (sink_state (K.held sink.old) (K.taken sink.old)) (sink_state (K.held sink.new) (K.taken sink.new)) (raw_bytes picture.now) }
         ensures settled { K.settled sink.old ≤ K.settled sink.new }
-        // An error is `Failed`, only where a call of the sink failed, and each such call is answered by it.
+        // The only error is `Failed`, exactly if a call of the sink failed.
         ensures failed { write_failed result ≡ is_err result }
         ensures cause { CountsFault (K.faults sink.old) (K.faults sink.new) (write_failed result) }
     {

@@ -1,4 +1,4 @@
--- The bytes of the pictures by their places.
+-- The bytes of the pictures by index.
 use Rattle.std.proofs.Common.{◌≡◌, ℕ, zero, suc, ◌+◌, ◌*◌, ◌/◌, ◌%◌, ◌<◌, ◌≤◌, eqb, if◌then◌else◌, List, [], ◌∷◌, length, get_or, map, drop, refl, sym, ap, ◌∙◌, arith, ⊎_elim}
 use Rattle.std.proofs.lemmas.Bool.{cases_Bool, eqb-true, eqb-false}
 use Rattle.pic_synth.specs.Pictures.{next_state, state_after}
@@ -12,7 +12,7 @@ use Rattle.pic_synth.specs.declared.synthetic.Synthetic.{Synthetic}
 use Rattle.pic_synth.specs.Numbered.{sample_of, sample_count, synthetic_bytes, byte_of, byte_at}
 use Rattle.pic_synth.proofs.Samples.{bytes-run}
 
--- byte p of samples of two bytes
+-- byte p of two-byte samples
 pair-byte : (ys : List ℕ) (p : ℕ) → p < 2 * length ys → get_or (plane_bytes Pair ys) p 0 ≡ byte_of (eqb (p % 2) 0) (get_or ys (p / 2) 0)
 pair-byte [] p lt = absurd (omega (arith, lt))
 pair-byte (y ∷ ys) zero lt = refl
@@ -35,7 +35,7 @@ module _ (s : Synthetic) where
       ∙ pair-byte (map (sample_of s) (range_with_len 0 (sample_count s))) p (omega (arith, len, lt))
       ∙ ap (byte_of (eqb (p % 2) 0)) (get_or-map-range_with_len (sample_of s) 0 (sample_count s) (p / 2) (p / 2) 0 (omega (arith, lt)) (omega arith))
 
-  -- a byte stands next
+  -- the next byte
   pub next-byte : (p : ℕ) → p < 2 * sample_count s → drop p (synthetic_bytes s) ≡ byte_at s p ∷ drop (p + 1) (synthetic_bytes s)
   next-byte p lt =
       drop_more (synthetic_bytes s) p 0 (omega (arith, bytes-length, lt)) ∙ ap (λ b. b ∷ drop (p + 1) (synthetic_bytes s)) (byte-there p lt)
@@ -44,7 +44,7 @@ module _ (s : Synthetic) where
   pub no-byte : (p : ℕ) → 2 * sample_count s ≤ p → drop p (synthetic_bytes s) ≡ []
   no-byte p le = nil_from_length (drop p (synthetic_bytes s)) (length-drop p (synthetic_bytes s) ∙ omega (arith, bytes-length, le))
 
--- the state behind the sample whose byte stands next, from the state behind the bytes before
+-- the state after the sample of the next byte, from the state after the bytes before
 pub state-there : (seed p state : ℕ) → state ≡ state_after seed ((p + 1) / 2) → (if eqb (p % 2) 0 then next_state state else state) ≡ state_after seed (p / 2 + 1)
 unfolding state_after
 state-there seed p state e = ⊎_elim

@@ -1,6 +1,6 @@
--- The samples of the pictures, in order, by their numbers.
+-- The samples of the pictures, in order, by index.
 use Rattle.std.proofs.Common.{◌≡◌, ℕ, zero, suc, ◌+◌, ◌*◌, ◌/◌, ◌%◌, ◌<◌, ltb, List, [], ◌∷◌, ◌++◌, map, refl, sym, ap, ◌∙◌, arith, append_assoc}
-use Rattle.std.proofs.lemmas.List.{append-nil}
+use Rattle.std.proofs.lemmas.List.{append-nil, map-append}
 use Rattle.std.specs.List.{range_with_len, flat_map}
 use Rattle.std.proofs.lemmas.Bool.{lt-ltb, le-ltb, cond-true, cond-false}
 use Rattle.std.proofs.lemmas.Grind.{flat_map-append}
@@ -27,16 +27,12 @@ range-parts (suc m) a n =
     let next : a + 1 + m ≡ a + suc m = omega arith in
     ap (range_with_len a) more ∙ ap (λ l. a ∷ l) (range-parts m (a + 1) n ∙ ap (λ b. range_with_len (a + 1) m ++ range_with_len b n) next)
 
-map-parts : {X Y : Type 0} (f : X → Y) (xs ys : List X) → map f (xs ++ ys) ≡ map f xs ++ map f ys
-map-parts f [] ys = refl
-map-parts f (x ∷ xs) ys = ap (λ l. f x ∷ l) (map-parts f xs ys)
-
--- so many samples from a number on
+-- `n` samples from an index on
 abbrev run : Synthetic → (at count : ℕ) → List ℕ
 run s at count = map (sample_of s) (range_with_len at count)
 
 run-parts : (s : Synthetic) (m at n : ℕ) → run s at (m + n) ≡ run s at m ++ run s (at + m) n
-run-parts s m at n = ap (map (sample_of s)) (range-parts m at n) ∙ map-parts (sample_of s) (range_with_len at m) (range_with_len (at + m) n)
+run-parts s m at n = ap (map (sample_of s)) (range-parts m at n) ∙ map-append (sample_of s) (range_with_len at m) (range_with_len (at + m) n)
 
 -- ---- a plane
 

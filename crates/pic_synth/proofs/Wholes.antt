@@ -1,4 +1,4 @@
--- The pictures have planes as planes are, and samples of ten bits.
+-- The pictures have well-formed planes and 10-bit samples.
 use Rattle.std.proofs.Common.{◌≡◌, ℕ, zero, suc, ◌+◌, ◌*◌, ◌<◌, ◌≤◌, ◌^◌, length, map, refl, arith, subst}
 use Rattle.std.specs.List.{range_with_len, All}
 use Rattle.std.proofs.lemmas.List.FromFn.{length-map-range_with_len}
@@ -7,6 +7,7 @@ use Rattle.pw_planes.proofs.RowLemmas.{length-raster, All-raster}
 use Rattle.pic_raw.specs.Writing.{IsWhole, AreWhole}
 use Rattle.pic_synth.specs.declared.synthetic.Synthetic.{Synthetic}
 use Rattle.pic_synth.specs.Pictures.{IsSynthetic, synthetic_head, state_after, next_state, noise_of, noise_behind, noisy_samples, noisy_plane, luma_level, chroma_level, synthetic_picture, synthetic_pictures}
+use Rattle.pic_y4m.specs.declared.head.TheConstants.{MAX_FRAMES}
 
 next-small : (state : ℕ) → noise_of (next_state state) < 8
 next-small state = omega arith
@@ -64,5 +65,5 @@ pictures-whole s ok = all s.frames 0
     all zero frame = tt
     all (suc n) frame = (picture-whole s frame ok, all n (frame + 1))
 
-pub pictures-few : (s : Synthetic) → IsSynthetic s → length (synthetic_pictures s) ≤ 1000000
+pub pictures-few : (s : Synthetic) → IsSynthetic s → length (synthetic_pictures s) ≤ MAX_FRAMES
 pictures-few s ok = let e = length-map-range_with_len (synthetic_picture s) 0 s.frames in omega (arith, e, ok.frames)

@@ -1,4 +1,5 @@
--- Pictures that are made up: a staircase of levels that moves from frame to frame, with three bits of noise. Our own definitions.
+-- Synthetic pictures: a staircase of levels that moves from frame to frame, plus three bits of noise. Our own
+-- definitions.
 use Rattle.std.specs.Prelude.{◌≡◌, ℕ, zero, suc, ◌+◌, ◌*◌, ◌/◌, ◌%◌, ◌≤◌, ◌^◌, List, map, None, Some, Ok}
 use Rattle.std.specs.List.{range_with_len}
 use Rattle.pw_planes.specs.declared.kinds.AlphaKind.TheVariants.{Absent}
@@ -22,27 +23,27 @@ pub record IsSynthetic (s : Synthetic) : Type 0 where
   pub rows : s.height ≤ MAX_HEIGHT
   pub frames : s.frames ≤ 100
 
--- the form of the pictures: 4:2:2 with 10 bits, progressive, 25 a second
+-- the form of the pictures: 10-bit 4:2:2, progressive, 25 frames per second
 abbrev pub synthetic_head : Synthetic → Head
 synthetic_head s = record { width = s.width; height = s.height; chroma = C422; depth = D10; alpha = Absent; interlace = Progressive; num = 25; den = 1 }
 
 -- ---- the noise
 
--- the state behind one step of the generator
+-- the state after one step of the generator
 abbrev pub next_state : ℕ → ℕ
 next_state state = (state * 1664525 + 1013904223) % 2 ^ 32
 
--- the state behind so many steps
+-- the state after `n` steps
 unfoldable pub state_after : ℕ → ℕ → ℕ
 state_after seed zero = seed
 state_after seed (suc n) = next_state (state_after seed n)
 
--- the three first bits of a state
+-- the three most significant bits of a state
 abbrev pub noise_of : ℕ → ℕ
 noise_of state = state / 2 ^ 29
 
--- The noise of the sample that has so many in front of it, in this plane, in those before it and in all frames before: each sample takes
--- one step.
+-- The noise of the sample with this number of samples before it, in all planes and frames: each sample takes one
+-- step.
 abbrev pub noise_behind : (seed n : ℕ) → ℕ
 noise_behind seed n = noise_of (state_after seed (n + 1))
 
@@ -58,7 +59,8 @@ chroma_level frame x y = 448 + 16 * ((x / 8 + y / 16 + frame) % 8)
 
 -- ---- the pictures
 
--- the samples of a plane of a width and a height that has so many samples in front of it: at each place the level and the noise
+-- the samples of a plane with this width and height, after `before` other samples: at each position the level plus
+-- the noise
 abbrev pub noisy_samples : (seed before : ℕ) → (ℕ → ℕ → ℕ) → (width height : ℕ) → List ℕ
 noisy_samples seed before level width height = raster width height (λ x y. level x y + noise_behind seed (before + (y * width + x)))
 
@@ -66,11 +68,11 @@ noisy_samples seed before level width height = raster width height (λ x y. leve
 abbrev pub noisy_plane : (seed before : ℕ) → (ℕ → ℕ → ℕ) → (width height : ℕ) → Raster
 noisy_plane seed before level width height = record { width = width; height = height; samples = noisy_samples seed before level width height }
 
--- how wide the planes of chroma are
+-- the width of the chroma planes
 abbrev pub chroma_columns : Synthetic → ℕ
 chroma_columns s = (s.width + 1) / 2
 
--- the number of samples of luma, of each plane of chroma, and of a whole frame
+-- the number of samples of luma, of each chroma plane, and of a whole frame
 abbrev pub luma_samples : Synthetic → ℕ
 luma_samples s = s.height * s.width
 
@@ -80,7 +82,7 @@ chroma_samples s = s.height * chroma_columns s
 abbrev pub frame_samples : Synthetic → ℕ
 frame_samples s = luma_samples s + (chroma_samples s + chroma_samples s)
 
--- the picture of the frame of a number
+-- the picture of frame n
 abbrev pub synthetic_picture : Synthetic → ℕ → Picture
 synthetic_picture s frame = record {
   y = noisy_plane s.seed (frame * frame_samples s) (luma_level frame) s.width s.height;
@@ -97,7 +99,7 @@ synthetic_pictures s = map (synthetic_picture s) (range_with_len 0 s.frames)
 
 -- ---- laws
 
--- The law that the bytes of these pictures as raw planes mean exactly these pictures.
+-- The raw planar bytes of these pictures mean exactly these pictures.
 abbrev pub SyntheticIsMeant : Type 0
 SyntheticIsMeant = (s : Synthetic) → IsSynthetic s
     → pictures_of (Some (synthetic_head s)) (frames_bytes (synthetic_pictures s)) ≡ Ok (synthetic_head s, record { pictures = synthetic_pictures s; fault = None })

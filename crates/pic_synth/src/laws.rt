@@ -4,7 +4,7 @@ ghost use Rattle.pic_synth.specs.Pictures.{SyntheticIsMeant};
 
 use pic_raw::written_is_meant;
 
-/// The law that the bytes of these pictures as raw planes mean exactly these pictures.
+/// The raw planar bytes of these pictures mean exactly these pictures.
 pub fn synthetic_is_meant()
     ensures { SyntheticIsMeant }
 {

@@ -1,11 +1,9 @@
-//! Pictures that are made up, as the bytes of raw planes.
+//! Synthetic pictures, as raw planar bytes.
 #![tactic(auto)]
 
 mod laws;
 mod source;
 mod synthetic;
-#[cfg(test)]
-mod tests;
 
 pub use laws::synthetic_is_meant;
 pub use source::SyntheticSource;

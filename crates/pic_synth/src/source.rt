@@ -1,4 +1,4 @@
-//! The bytes of pictures that are made up.
+//! The bytes of synthetic pictures.
 
 ghost use Rattle.std.specs.Prelude.{◌≡◌, ◌<◌, ◌^◌, if◌then◌else◌};
 ghost use Rattle.pic_synth.specs.Pictures.{next_state, noise_of};
@@ -8,21 +8,21 @@ use crate::synthetic::Synthetic;
 use pw_outside::{ByteSource, Failed};
 use std::marker::Model;
 
-/// The state behind one step.
+/// The state after one step.
 fn next_state(state: u32) -> u32
     ensures { result ≡ next_state state }
 {
     ((u64::from(state) * 1_664_525 + 1_013_904_223) % (1 << 32)) as u32
 }
 
-/// The state behind a sample: its low byte takes a step.
+/// The state after a byte: only the low byte of a sample takes a step.
 fn stepped(low: bool, state: u32) -> u32
     ensures { result ≡ (if low then next_state state else state) }
 {
     if low { next_state(state) } else { state }
 }
 
-/// The noise that a state gives.
+/// The noise from a state.
 fn noise_of(state: u32) -> u16
     ensures value { result ≡ noise_of state }
     ensures small { result < 8 }
@@ -42,8 +42,8 @@ fn byte_of(low: bool, sample: u16) -> u8
     }
 }
 
-/// A source of the bytes of pictures that are made up, as raw planes: of each frame the planes Y, Cb and Cr, each sample two bytes of which
-/// the low one comes first. It makes each byte when it is asked for, never fails, and holds no picture.
+/// A source of the bytes of synthetic pictures, as raw planes: for each frame the planes Y, Cb and Cr, with
+/// two-byte little-endian samples. It generates each byte on demand, never fails, and stores no picture.
 #[derive(Drop)]
 pub struct SyntheticSource {
     synthetic: Synthetic,
@@ -68,7 +68,7 @@ impl SyntheticSource {
     ghost use Rattle.pic_synth.specs.Pictures.{IsSynthetic};
     ghost use Rattle.pic_synth.specs.Numbered.{synthetic_bytes};
 
-    /// A source that stands at the first byte.
+    /// A source at the first byte.
     pub fn new(synthetic: Synthetic) -> SyntheticSource
         requires { IsSynthetic synthetic }
         ensures { result ≡ synthetic_bytes synthetic }
@@ -80,7 +80,7 @@ impl SyntheticSource {
         }
     }
 
-    /// The next byte; none behind the last.
+    /// The next byte; `None` after the last.
     fn next_byte(&mut self) -> Option<u8>
         ensures byte { IfSome result (λ b. self.old ≡ b ∷ self.new) }
         ensures end { IfNone result ((self.old ≡ []) × (self.new ≡ [])) }

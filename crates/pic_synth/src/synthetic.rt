@@ -1,9 +1,9 @@
-//! What pictures that are made up depend on, and their levels.
+//! The parameters of synthetic pictures, and their levels.
 
 ghost use Rattle.std.specs.Prelude.{◌≡◌, ◌<◌, ◌≤◌};
 ghost use Rattle.pic_synth.specs.Pictures.{luma_level, chroma_level};
 
-/// The size and the number of pictures that are made up, and how their noise begins.
+/// The size and the number of synthetic pictures, and the seed of their noise.
 #[derive(Clone, Copy, Debug, PartialEq, Eq)]
 pub struct Synthetic {
     /// The width in samples, 1 to 8192.
@@ -12,11 +12,11 @@ pub struct Synthetic {
     pub height: u16,
     /// The number of pictures, up to 100.
     pub frames: u8,
-    /// The state with which the noise begins.
+    /// The initial state of the noise.
     pub seed: u32,
 }
 
-/// The level of luma at a place of a frame.
+/// The luma level at a column and row of a frame.
 fn luma_level(frame: u64, x: u64, y: u64) -> u16
     requires { (frame < 100) × (x < 8192) × (y < 4320) }
     ensures value { result ≡ luma_level frame x y }
@@ -25,7 +25,7 @@ fn luma_level(frame: u64, x: u64, y: u64) -> u16
     (256 + 32 * ((x / 16 + 3 * (y / 16) + frame) % 16)) as u16
 }
 
-/// The level of chroma at a place of a plane of chroma of a frame.
+/// The chroma level at a column and row of a chroma plane of a frame.
 fn chroma_level(frame: u64, x: u64, y: u64) -> u16
     requires { (frame < 100) × (x < 8192) × (y < 4320) }
     ensures value { result ≡ chroma_level frame x y }
@@ -39,21 +39,21 @@ impl Synthetic {
     ghost use Rattle.pic_synth.specs.Pictures.{IsSynthetic, chroma_columns, luma_samples, chroma_samples, frame_samples};
     ghost use Rattle.pic_synth.specs.Numbered.{sample_count, level_of, chroma_level_at};
 
-    /// How wide the planes of chroma are.
+    /// The width of the chroma planes.
     fn chroma_columns(&self) -> u64
         ensures { result ≡ chroma_columns self.now }
     {
         (u64::from(self.width) + 1) / 2
     }
 
-    /// The number of samples of luma of a frame.
+    /// The number of luma samples of a frame.
     fn luma_samples(&self) -> u64
         ensures { result ≡ luma_samples self.now }
     {
         u64::from(self.height) * u64::from(self.width)
     }
 
-    /// The number of samples of each plane of chroma of a frame.
+    /// The number of samples of each chroma plane of a frame.
     fn chroma_samples(&self) -> u64
         ensures { result ≡ chroma_samples self.now }
     {
@@ -77,7 +77,7 @@ impl Synthetic {
         u64::from(self.frames) * self.frame_samples()
     }
 
-    /// The level at this place of a plane of chroma.
+    /// The level at index `number` of a chroma plane, in raster order.
     fn chroma_level_at(&self, frame: u64, number: u64) -> u16
         requires limits { IsSynthetic self.now }
         requires frame { frame < 100 }
@@ -89,7 +89,7 @@ impl Synthetic {
         chroma_level(frame, number % columns, number / columns)
     }
 
-    /// The level of the sample of this number.
+    /// The level of sample `number`.
     pub(crate) fn level(&self, number: u64) -> u16
         requires limits { IsSynthetic self.now }
         requires number { number < sample_count self.now }

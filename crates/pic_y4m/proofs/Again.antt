@@ -1,4 +1,4 @@
--- What was written is read again.
+-- What was written is read back.
 use Rattle.std.proofs.Common.{◌≡◌, ℕ, zero, suc, ◌+◌, ◌-◌, ◌*◌, ◌^◌, ◌<◌, ◌≤◌, lit<, Bool, false, eqb, List, [], ◌∷◌, ◌++◌, length, Some, None, Ok, refl, sym, ap, ◌∙◌, arith, ⊎_elim, length-append, append_assoc}
 use Rattle.std.proofs.lemmas.Bool.{cases_Bool, eqb-true}
 use Rattle.std.specs.Prelude.{codes}
@@ -58,16 +58,16 @@ planes-again form p rest place end none w behind =
     let r3 = range-again size limit p.cr.samples (place + length (plane_bytes size p.y.samples) + length (plane_bytes size p.cb.samples)) w.form.cr in
     rw (y, cb, cr, r1, r2, r3, behind) (ap (λ (q : Picture). Ok (q, record { place = place + length (plane_bytes size p.y.samples) + length (plane_bytes size p.cb.samples) + length (plane_bytes size p.cr.samples); bytes = rest })) (same-picture form p none w))
 
--- the line in front of a frame is read
+-- the line before a frame is read
 line-again : (place after : ℕ) (all rest : List ℕ) → all ≡ codes "FRAME\n" ++ rest → after ≡ place + 6
     → next_line 256 kinds.FrameLine place (record { place = place; bytes = all }) ≡ Ok (Some (codes "FRAME"), record { place = after; bytes = rest })
 line-again place after all rest e behind =
     line-ends 256 place place after kinds.FrameLine all (codes "FRAME") (10 ∷ rest) rest (Some 10) 10 (lit< tt) refl e refl refl refl behind
 
-frame-parts : (f y cb cr rest : List ℕ) → f ++ y ++ cb ++ cr ++ rest ≡ f ++ (y ++ (cb ++ (cr ++ rest)))
+pub frame-parts : (f y cb cr rest : List ℕ) → f ++ y ++ cb ++ cr ++ rest ≡ f ++ (y ++ (cb ++ (cr ++ rest)))
 frame-parts f y cb cr rest = simp append_assoc
 
-frame-length : (f y cb cr : List ℕ) → length (f ++ y ++ cb ++ cr) ≡ length f + length y + length cb + length cr
+pub frame-length : (f y cb cr : List ℕ) → length (f ++ y ++ cb ++ cr) ≡ length f + length y + length cb + length cr
 frame-length f y cb cr = simp length-append
 
 pub eqb-less : (a b : ℕ) → a < b → eqb a b ≡ false
@@ -87,7 +87,7 @@ picture-again r p rest none few w =
     let planes = planes-again r.form p rest (r.place + 6) (r.place + length (codes "FRAME\n" ++ y ++ cb ++ cr)) none w (omega (arith, frame-length (codes "FRAME\n") y cb cr)) in
     rw (more, line, planes) refl
 
--- nothing stands behind the last frame
+-- nothing follows the last frame
 end-again : (r : State) → next_at r (record { place = r.place; bytes = [] }) ≡ Ok (None, record { place = r.place; bytes = [] })
 unfolding next_at frame_at next_line bind
 end-again r = ⊎_elim (λ t. rw t refl) (λ f. rw f refl) (cases_Bool (eqb r.frames MAX_FRAMES))

@@ -1,9 +1,9 @@
--- Chains of steps that read.
+-- Chains of reading steps.
 use Rattle.std.proofs.Common.{◌≡◌, ℕ, Bool, true, false, Option, Some, None, Result, Ok, Err, refl, ap}
 use Rattle.pw_outside.specs.Reading.{Fault, Rest, Read, bind, refuse}
 use Rattle.pic_y4m.specs.declared.fault.PictureKind.{PictureKind}
 
--- a chain that gives a value passed its first step
+-- if a chain returns a value, its first step did
 pub bind-ok : {A B : Type 0} (r : Result A (Fault PictureKind)) (next : A → Result B (Fault PictureKind)) {y : B} → bind r next ≡ Ok y → (x : A) × (r ≡ Ok x) × (next x ≡ Ok y)
 unfolding bind
 bind-ok (Ok x) next e = (x, refl, e)
@@ -13,7 +13,7 @@ pub refuse-ok : (test : Bool) (kind : PictureKind) (place : ℕ) {x : Unit {0}} 
 refuse-ok true kind place e = absurd cc
 refuse-ok false kind place e = refl
 
--- equal answers have equal values
+-- equal results have equal values
 abbrev pub answer : {A : Type 0} → A → Rest → Read PictureKind A
 answer x s = Ok (x, s)
 

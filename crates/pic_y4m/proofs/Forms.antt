@@ -1,4 +1,4 @@
--- The pictures that are read have the head's form, and are 1,000,000 at most.
+-- The pictures that are read have the head's form, and are at most `MAX_FRAMES`.
 use Rattle.std.proofs.Common.{◌≡◌, ◌≢◌, if◌then◌else◌, ◌==◌, ℕ, zero, suc, ◌+◌, ◌-◌, ◌^◌, ◌<◌, ◌≤◌, Bool, true, false, not, eqb, ltb, List, length, Option, Some, None, Result, Ok, Err, refl, sym, ap, ◌∙◌, subst, arith}
 use Rattle.std.specs.List.{All, position_or_len}
 use Rattle.std.proofs.lemmas.Bool.{ltb-false, leb-false, eqb-false}
@@ -26,7 +26,7 @@ not-false : (b : Bool) → not b ≡ true → b ≡ false
 not-false true h = absurd cc
 not-false false h = refl
 
--- samples in which no fault is met are below the limit
+-- samples without a fault are below the limit
 pub passed-below : (size : SampleSize) (limit : ℕ) (samples : List ℕ) (place : ℕ) {x : Unit {0}} → in_range size limit samples place ≡ Ok x → All (λ s. s < limit) samples
 unfolding in_range
 passed-below size limit samples place e =
@@ -90,7 +90,7 @@ left-form (suc n) r s alpha few = one (λ rest more. left-form n (advanced r res
         let more = others rest (omega (arith, first.0)) in
         (All-cons (HasForm r.form.head) p _ first.1 more.0, omega (arith, more.1))
 
--- the head that a reader starts with has no alpha
+-- the head of a new reader has no alpha
 stream-alpha : (p : Parameters) (form : Stream) → stream_of p ≡ Ok form → form.head.alpha ≡ Absent
 unfolding stream_of
 stream-alpha p form e =

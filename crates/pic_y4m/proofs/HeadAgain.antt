@@ -1,4 +1,4 @@
--- A head line that was written is read again.
+-- A written head line is read back.
 use Rattle.std.proofs.Common.{◌≡◌, ℕ, ◌+◌, ◌%◌, ◌^◌, ◌<◌, ◌≤◌, min, lit<, true, false, not, eqb, ltb, List, [], ◌∷◌, ◌++◌, length, Some, Ok, refl, sym, ap, ◌∙◌, subst, arith, ⊎_elim, length-append, append_assoc, eq-eqb}
 use Rattle.std.proofs.Math.Seq.{take-append_seam, drop-append-add}
 use Rattle.std.proofs.lemmas.Bool.{lt-ltb, le-ltb, cases_Bool, eqb-true}
@@ -29,7 +29,7 @@ use Rattle.pic_y4m.specs.Line.{magic, magic_at}
 use Rattle.pic_y4m.specs.HeadLine.{IsHead, is_interlaced, mode_allowed, stream_of, text_stream, stream_at}
 use Rattle.pic_y4m.specs.Frames.{started, start_at}
 use Rattle.pic_y4m.specs.Writing.{mode_text, sampling_text, depth_text, head_bytes}
-use Rattle.pic_y4m.proofs.Lines.{line-ends}
+use Rattle.pic_y4m.proofs.Lines.{line-ends, eqb-some}
 use Rattle.pic_y4m.proofs.Numbers.{number-read, within-inside}
 
 -- ---- texts without a byte
@@ -70,12 +70,9 @@ rate-again num den a b c d =
     let n2 = number-again 0 MAX_RATE_DEN den (omega arith) d (omega arith) in
     let colon : position_or_len (λ x. eqb x 58) (decimal num ++ 58 ∷ decimal den) ≡ length (decimal num) = lacks-place 58 (decimal num) (decimal den) (lacks-digits 58 (decimal num) (λ x. absurd (omega arith)) (digits-of num (omega arith))) in
     let there : ltb (length (decimal num)) (length (decimal num ++ 58 ∷ decimal den)) ≡ true = lt-ltb _ _ (omega (arith, length-append (decimal num) (58 ∷ decimal den))) in
-    let some_num : eqb num 0 ≡ false = eqb-some num a in
-    let some_den : eqb den 0 ≡ false = eqb-some den c in
+    let some_num : eqb num 0 ≡ false = eqb-some num (omega (arith, a)) in
+    let some_den : eqb den 0 ≡ false = eqb-some den (omega (arith, c)) in
     rw (colon, there, take-append_seam (decimal num) (58 ∷ decimal den), drop-append-add (decimal num) (58 ∷ decimal den) 1, n1, n2, some_num, some_den) refl
-  where
-    eqb-some : (n : ℕ) → 1 ≤ n → eqb n 0 ≡ false
-    eqb-some n h = ⊎_elim (λ t. let e : n ≡ 0 = eqb-true n 0 t in absurd (omega arith)) (λ f. f) (cases_Bool (eqb n 0))
 
 mode-again : (i : Interlace) → interlace_of (mode_text i) ≡ Some i
 unfolding interlace_of
@@ -94,7 +91,7 @@ format-again C444 D12 = refl
 
 -- ---- the words of a head line
 
--- five words, a space in front of each
+-- five words, each after a space
 abbrev line-text : List ℕ → List ℕ → List ℕ → List ℕ → List ℕ → List ℕ
 line-text a b c d e = 32 ∷ (a ++ 32 ∷ (b ++ 32 ∷ (c ++ 32 ∷ (d ++ 32 ∷ e))))
 
@@ -156,7 +153,7 @@ depth-lacks-10 D8 = tt
 depth-lacks-10 D10 = (refl, (refl, (refl, tt)))
 depth-lacks-10 D12 = (refl, (refl, (refl, tt)))
 
--- what the parameters of a head are
+-- the parameters of a head
 abbrev head-parameters : Head → ℕ → Parameters
 head-parameters h place = record {
   width = Some h.width;
@@ -249,7 +246,7 @@ line-few h w =
     let l6 = length-append (sampling_text h.chroma) (depth_text h.depth) in
     omega (arith, few-letters h, w1, w2, w3, w4, l1, l2, l3, l4, l5, l6)
 
--- the words and the line feed, one behind the other
+-- the words and the line feed
 abbrev in-turn : List ℕ → List ℕ → List ℕ → List ℕ → List ℕ → List ℕ → List ℕ → List ℕ → List ℕ
 in-turn a b n d m s t end = 32 ∷ 87 ∷ (a ++ 32 ∷ 72 ∷ (b ++ 32 ∷ 70 ∷ (n ++ 58 ∷ (d ++ 32 ∷ 73 ∷ (m ++ 32 ∷ 67 ∷ (s ++ (t ++ end)))))))
 

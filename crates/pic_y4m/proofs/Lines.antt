@@ -2,33 +2,22 @@
 use Rattle.std.proofs.Common.{◌≡◌, ℕ, ◌+◌, ◌<◌, ◌≤◌, min, true, false, not, eqb, ltb, List, [], ◌∷◌, ◌++◌, length, take, drop, Option, Some, None, Ok, Err, refl, sym, ap, ◌∙◌, subst, arith, length-append, eq-eqb, ⊎_elim}
 use Rattle.std.proofs.Math.Seq.{take-append_seam, drop-append-add}
 use Rattle.std.proofs.lemmas.List.Folds.{prefix_len-append}
-use Rattle.std.proofs.lemmas.List.{append-nil}
+use Rattle.std.proofs.lemmas.List.{append-nil, nil_from_length}
 use Rattle.std.proofs.lemmas.Bool.{lt-ltb, le-ltb, cond-true, eqb-true, cases_Bool}
 use Rattle.pw_outside.specs.Reading.{bind}
 use Rattle.pic_y4m.specs.declared.fault.PictureKind.{PictureKind}
 use Rattle.pic_y4m.specs.declared.fault.PictureKind.TheVariants as kinds
 use Rattle.pic_y4m.specs.Line.{feed, line_at, next_line, IsNextOf}
 
--- bytes without a line feed stand in front of others
+-- bytes without a line feed before others
 feed-append : (xs ys : List ℕ) → feed xs ≡ length xs → feed (xs ++ ys) ≡ length xs + feed ys
 feed-append xs ys h = prefix_len-append (λ b. not (eqb b 10)) xs ys ∙ cond-true _ _ _ (eq-eqb _ _ h)
-
--- one byte more
-pub feed-push : (xs : List ℕ) (b : ℕ) → feed xs ≡ length xs → eqb b 10 ≡ false → feed (xs ++ b ∷ []) ≡ length (xs ++ b ∷ [])
-feed-push xs b h other =
-    let one : feed (b ∷ []) ≡ 1 = rw other refl in
-    let e = feed-append xs (b ∷ []) h in
-    omega (arith, e, one, length-append xs (b ∷ []))
 
 feed-whole : (items left all : List ℕ) → feed items ≡ length items → all ≡ items ++ left → feed all ≡ length items + feed left
 feed-whole items left all h e = ap feed e ∙ feed-append items left h
 
-eqb-some : (n : ℕ) → 0 < n → eqb n 0 ≡ false
+pub eqb-some : (n : ℕ) → 0 < n → eqb n 0 ≡ false
 eqb-some n h = ⊎_elim (λ t. let e : n ≡ 0 = eqb-true n 0 t in absurd (omega arith)) (λ f. f) (cases_Bool (eqb n 0))
-
-nil-is : (xs : List ℕ) → length xs ≡ 0 → xs ≡ []
-nil-is [] h = refl
-nil-is (x ∷ xs) h = absurd (omega arith)
 
 -- the line ends
 pub line-ends : (most at place after : ℕ) (long : PictureKind) (all items left rest : List ℕ) (byte : Option ℕ) (b : ℕ) → length items < most → feed items ≡ length items
@@ -47,7 +36,7 @@ line-ends most at place after long all items left rest byte b lt clear e is ten 
     let d : drop (length items + 1) all ≡ rest = ap (drop (length items + 1)) whole ∙ drop-append-add items (10 ∷ rest) 1 in
     rw (some, f, inside, t, d, behind) refl
 
--- the input ends where a line would begin
+-- the input ends at the start of a line
 pub line-none : (most at place after : ℕ) (long : PictureKind) (all items left rest : List ℕ) (byte : Option ℕ) → length items ≡ 0
     → all ≡ items ++ left → byte ≡ None → IsNextOf byte left rest → after ≡ place
     → next_line most long at (record { place = place; bytes = all }) ≡ Ok (None, record { place = after; bytes = rest })
@@ -57,7 +46,7 @@ line-none most at place after long all items left rest byte z e b next behind =
     let len : length all ≡ length items + length left = ap length e ∙ length-append items left in
     let nil : length left ≡ 0 = ap length n.0 in
     let zero_all : length all ≡ 0 = omega arith in
-    let same : all ≡ rest = nil-is all zero_all ∙ sym n.1 in
+    let same : all ≡ rest = nil_from_length all zero_all ∙ sym n.1 in
     rw (eq-eqb _ _ zero_all, behind) (ap (λ (l : List ℕ). Ok (None, record { place = place; bytes = l })) same)
 
 -- the input ends within a line

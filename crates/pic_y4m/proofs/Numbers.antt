@@ -1,4 +1,4 @@
--- Numbers that are read: the test that finds digits, and what it means.
+-- Reading numbers: the test for digits, and its meaning.
 use Rattle.std.proofs.Common.{◌≡◌, ℕ, ◌^◌, ◌<◌, ◌≤◌, true, ◌&&◌, ltb, leb, List, [], ◌∷◌, length, Some, None, refl, sym, ap, arith, ⊎_elim}
 use Rattle.std.proofs.lemmas.Bool.{ltb-true, ltb-false, lt-ltb, leb-true, le-leb, and_parts, cases_Bool}
 use Rattle.std.specs.Char.{digit_value}
@@ -31,7 +31,7 @@ within-above low high n a = ⊎_elim (λ t. let m : n ≤ high = leb-true n high
 pub within-below : (low high n : ℕ) → n < low → when_within low high n ≡ None
 within-below low high n a = ⊎_elim (λ t. let m : low ≤ n = leb-true low n (and_parts (leb low n) (leb n high) t).0 in absurd (omega arith)) (λ f. rw f refl) (cases_Bool (leb low n && leb n high))
 
--- where none is read, none is within limits below 2^64
+-- if no number is read, none is within limits below 2^64
 pub number-unread : (low high : ℕ) (bs : List ℕ) → high < 2 ^ 64 → (IsDecimal bs → ⊥) → number_within low high bs ≡ None
 unfolding number_within
 number-unread low high bs lt none =

@@ -58,7 +58,7 @@ pub samples_length : (size : SampleSize) (count : ℕ) (bytes : List ℕ) → le
 unfolding samples_in
 samples_length size count bytes = length-map-range_with_len (sample_in size bytes) 0 count
 
--- what is read where there may be none
+-- the result of reading samples that may be missing
 module _ (size : SampleSize) (count : ℕ) (s : Rest) where
   empty-short : 1 ≤ count → length s.bytes ≡ 0 → samples_at size count s ≡ Err (record { kind = kinds.Truncated; place = s.place })
   unfolding samples_at
@@ -103,7 +103,7 @@ module _ (size : SampleSize) (count : ℕ) (s : Rest) where
       by false (Ok x) z e = absurd cc
       by false (Err g) z e = z ∙ cc
 
--- what a call that reads samples gives, where there have to be some
+-- the result of reading samples that must be there
 module _ {X : Type 0} (view : X → List ℕ) (size : SampleSize) (count : ℕ) (old new : Option (List ℕ)) (before after : ℕ) where
   pub gives-some : {x : X} → Gives told_fault (λ v. option_map view v) old new before after (Ok (Some x)) (some_samples_at size count) → Gives told_fault view old new before after (Ok x) (samples_at size count)
   gives-some g = record { told = g.told; answer = λ t. some-samples size count (rest_of before old) (g.answer t) }
@@ -119,7 +119,7 @@ module _ {X : Type 0} (view : X → List ℕ) (size : SampleSize) (count : ℕ) 
       told None h = tt
       told (Some f) h = fault-samples size count (rest_of before old) h
 
-some-values : (depth : Depth) → 0 < 2 ^ sample_bits depth
+pub some-values : (depth : Depth) → 0 < 2 ^ sample_bits depth
 some-values D8 = lit< tt
 some-values D10 = lit< tt
 some-values D12 = lit< tt
@@ -135,7 +135,7 @@ chroma-below false width height depth stored below = below
 chroma-below true width height depth stored below =
     All-raster (λ s. s < 2 ^ sample_bits depth) width height (λ column row. get_or stored (row / 2 * width + column) 0) (λ column row a b. below-at depth stored (row / 2 * width + column) below)
 
--- the picture of planes whose samples are below 2 to the depth has the form
+-- a picture whose samples are below 2 to the bit depth has the form
 pub picture_form : (form : Stream) (y cb cr : List ℕ) → form.head.alpha ≡ Absent → AreBelow form.head.depth y → AreBelow form.head.depth cb → AreBelow form.head.depth cr
     → HasForm form.head (picture_of form y cb cr)
 picture_form form y cb cr alpha luma blue red = record {

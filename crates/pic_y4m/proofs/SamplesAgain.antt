@@ -1,4 +1,4 @@
--- Samples that were written are read again.
+-- Written samples are read back.
 use Rattle.std.proofs.Common.{◌≡◌, ℕ, zero, suc, ◌+◌, ◌*◌, ◌<◌, false, not, ltb, List, [], ◌∷◌, ◌++◌, length, get_or, Ok, refl, sym, ap, ◌∙◌, arith, length-append}
 use Rattle.std.proofs.Math.Seq.{take-append_seam, drop-append_seam}
 use Rattle.std.proofs.lemmas.Bool.{le-ltb, lt-leb}
@@ -9,7 +9,7 @@ use Rattle.pic_y4m.specs.declared.samples.SampleSize.{SampleSize}
 use Rattle.pic_y4m.specs.declared.samples.SampleSize.TheVariants.{Byte, Pair}
 use Rattle.pic_y4m.specs.Samples.{sample_bytes, sample_in, samples_in, samples_at, in_range, is_past, plane_bytes}
 
--- a plane of pairs has two bytes for each sample, and each sample stands in its two
+-- a plane of two-byte samples has two bytes for each sample, and each sample is in its two
 pairs-length : (ys : List ℕ) → length (plane_bytes Pair ys) ≡ length ys * 2
 pairs-length [] = refl
 pairs-length (y ∷ ys) = let ih = pairs-length ys in omega (arith, ih)
@@ -35,7 +35,7 @@ unfolding samples_in
 samples-same Byte ys count len = sym (fill_by_all (sample_in Byte (plane_bytes Byte ys)) ys count 0 len (λ k lt. ap (λ l. get_or l k 0) (sym (bytes-are ys))))
 samples-same Pair ys count len = sym (fill_by_all (sample_in Pair (plane_bytes Pair ys)) ys count 0 len (λ k lt. sym (pairs-at ys k (omega arith))))
 
--- a plane that stands next is read
+-- the next plane is read
 pub plane-again : (size : SampleSize) (ys rest : List ℕ) (count place : ℕ) → length ys ≡ count
     → samples_at size count (record { place = place; bytes = plane_bytes size ys ++ rest }) ≡ Ok (ys, record { place = place + length (plane_bytes size ys); bytes = rest })
 unfolding samples_at

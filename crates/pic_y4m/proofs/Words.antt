@@ -1,4 +1,4 @@
--- The words of a text, one after the other.
+-- The words of a text, in order.
 use Rattle.std.proofs.Common.{◌≡◌, ℕ, ◌+◌, ◌-◌, ◌<◌, ◌≤◌, true, false, not, ltb, leb, cond, List, [], ◌∷◌, length, take, drop, unwrap_or, Ok, Result, refl, sym, ap, ◌∙◌, subst, arith, ⊎_elim, length-drop}
 use Rattle.std.proofs.lemmas.List.{take_all, drop-drop, length-take-le}
 use Rattle.std.specs.List.{slice_split, position, position_or_len, onto_first}
@@ -13,13 +13,13 @@ use Rattle.pic_y4m.specs.declared.parameters.Parameters.{Parameters}
 use Rattle.pic_y4m.specs.Faults.{told_fault}
 use Rattle.pic_y4m.specs.Parameters.{is_space, with_parameter, parameters_of}
 
--- the first place, or the length where there is none
+-- the first index, or the length if there is none
 pub place_or_len : (bs : List ℕ) → unwrap_or (position is_space bs) (length bs) ≡ position_or_len is_space bs
 place_or_len bs =
     ⊎_elim (λ t. rw t refl) (λ f. let ge = ltb-false _ _ f in let le = prefix_len-le-length (λ x. not (is_space x)) bs in let same : length bs ≡ position_or_len is_space bs = omega arith in rw f same)
     (cases_Bool (ltb (position_or_len is_space bs) (length bs)))
 
--- the words from a place on, where a word begins; behind the end there is none
+-- the words from an index on, at which a word begins; none after the end
 abbrev pub words_from : ℕ → List ℕ → List (List ℕ)
 words_from at text = cond (leb at (length text)) (slice_split is_space (drop at text)) []
 
@@ -34,7 +34,7 @@ split-none (b ∷ bs) h =
     slice_split-cons_no is_space b bs f ∙ ap (onto_first b) (split-none bs shorter))
     (cases_Bool (is_space b))
 
--- the first word, and those behind the space after it
+-- the first word, and those after its space
 split-step : (bs : List ℕ) → slice_split is_space bs ≡ take (position_or_len is_space bs) bs ∷ words_from (position_or_len is_space bs + 1) bs
 split-step bs =
     ⊎_elim
@@ -65,17 +65,14 @@ first-word : (at n : ℕ) (text rest : List ℕ) → at ≤ length text → rest
     → words_from at text ≡ take n rest ∷ words_from (at + (n + 1)) text
 first-word at n text rest le r e = rw (e, r) (words-step at text le)
 
--- what a slice has from a place on
+-- the part of a slice from an index on
 pub rest-is : (at : ℕ) (text : List ℕ) → take (length text - at) (drop at text) ≡ drop at text
 rest-is at text = take_all (length text - at) (drop at text) (omega (arith, length-drop at text))
 
 pub words-none : (at : ℕ) (text : List ℕ) → length text < at → words_from at text ≡ []
 words-none at text lt = rw (lt-leb at (length text) lt) refl
 
-pub words-all : (text : List ℕ) → words_from 0 text ≡ slice_split is_space text
-words-all text = rw (le-leb 0 (length text) (omega arith)) refl
-
--- one word is read, and then the others; `rest` is what the text has from the word on
+-- one word is read, and then the others; `rest` is the text from the word on
 pub parameters-more : (found q : Parameters) (p at n p2 : ℕ) (text rest : List ℕ) (total : Result Parameters (Fault PictureKind))
     → at ≤ length text → rest ≡ drop at text → n ≡ position_or_len is_space rest → p2 ≡ p + (n + 1)
     → with_parameter found p (take n rest) ≡ Ok q → parameters_of found p (words_from at text) ≡ total

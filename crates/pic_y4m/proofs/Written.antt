@@ -1,9 +1,9 @@
 -- Samples as bytes, written piece by piece.
-use Rattle.std.proofs.Common.{◌≡◌, ℕ, suc, ◌+◌, ◌-◌, ◌*◌, ◌/◌, ◌%◌, ◌<◌, ◌≤◌, List, [], ◌∷◌, ◌++◌, length, take, drop, get_or, Result, Ok, Err, refl, sym, ap, ◌∙◌, subst, arith, length-append}
-use Rattle.std.specs.Prelude.{OnOk, OnErr, codes}
+use Rattle.std.proofs.Common.{◌≡◌, ℕ, suc, ◌+◌, ◌-◌, ◌*◌, ◌/◌, ◌%◌, ◌<◌, List, [], ◌∷◌, ◌++◌, length, take, drop, get_or, Result, Ok, Err, refl, sym, ap, ◌∙◌, subst, arith, length-append}
+use Rattle.std.specs.Prelude.{OnErr, codes}
 use Rattle.std.specs.List.{between}
 use Rattle.std.proofs.lemmas.Grind.{flat_map-append}
-use Rattle.std.proofs.lemmas.List.{ext_get_or, take_all, take-append-le, take-append-drop}
+use Rattle.std.proofs.lemmas.List.{ext_get_or, take-append-le, take-append-drop}
 use Rattle.std.proofs.Math.Seq.{take-add, take-append-add}
 use Rattle.pw_outside.specs.Writing.{SinkState, Puts, PutsPart}
 use Rattle.pw_outside.proofs.Puts.{puts_then}
@@ -36,7 +36,7 @@ pairs-written (a ∷ b ∷ bs) (s ∷ ss) len each =
     (subst (λ n. get_or (a ∷ b ∷ bs) n 0 ≡ get_or ss k 0 % 256) l next.0, subst (λ n. get_or (a ∷ b ∷ bs) n 0 ≡ get_or ss k 0 / 256) h next.1)) in
     λ i. low i ∷ high i ∷ others i
 
--- a part of the first thing is a part of both
+-- a part of the first text is a part of both
 pub part_more : {a b : SinkState} {xs : List ℕ} (ys : List ℕ) → PutsPart a b xs → PutsPart a b (xs ++ ys)
 part_more {a} {b} {xs} ys p = record {
   out = p.out;
@@ -44,7 +44,7 @@ part_more {a} {b} {xs} ys p = record {
   front = subst (Puts a b) (sym (take-append-le p.out xs ys (omega (arith, p.short)))) p.front;
 }
 
--- the first thing was written, and then a part of the other
+-- the first text was written, and then a part of the second
 pub then_part : {a b c : SinkState} {xs ys : List ℕ} → Puts a b xs → PutsPart b c ys → PutsPart a c (xs ++ ys)
 then_part {a} {b} {c} {xs} {ys} p q = record {
   out = length xs + q.out;
@@ -67,22 +67,11 @@ module _ (size : SampleSize) (samples : List ℕ) (at count : ℕ) where
       let e : plane_bytes size samples ≡ plane_bytes size (take (at + count) samples) ++ plane_bytes size (drop (at + count) samples) = ap (plane_bytes size) (sym (take-append-drop (at + count) samples)) ∙ flat_map-append (sample_text size) (take (at + count) samples) (drop (at + count) samples) in
       subst (PutsPart a c) (sym e) (part_more (plane_bytes size (drop (at + count) samples)) (subst (PutsPart a c) (sym next-is) (then_part p q)))
 
-pub pieces-all : (size : SampleSize) (samples : List ℕ) (at : ℕ) {a b : SinkState} → length samples ≤ at → Puts a b (plane_bytes size (take at samples)) → Puts a b (plane_bytes size samples)
-pieces-all size samples at {a} {b} le p = subst (λ l. Puts a b (plane_bytes size l)) (take_all at samples le) p
-
-pub err-any : {X E P : Type 0} (r : Result X E) → P → OnErr r P
-err-any (Ok x) p = tt
-err-any (Err e) p = p
-
-pub on-ok : {X E P Q : Type 0} (r : Result X E) → (P → Q) → OnOk r P → OnOk r Q
-on-ok (Ok x) f p = f p
-on-ok (Err e) f p = tt
-
 pub on-err : {X E P Q : Type 0} (r : Result X E) → (P → Q) → OnErr r P → OnErr r Q
 on-err (Ok x) f p = tt
 on-err (Err e) f p = f p
 
--- four things, one behind the other
+-- four texts in order
 module _ (x y z w whole : List ℕ) (is : x ++ y ++ z ++ w ≡ whole) where
   pub four-puts : {a b c d e : SinkState} → Puts a b x → Puts b c y → Puts c d z → Puts d e w → Puts a e whole
   four-puts {a} {b} {c} {d} {e} p q r t = subst (Puts a e) is (puts_then (puts_then (puts_then p q) r) t)

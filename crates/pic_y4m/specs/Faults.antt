@@ -1,11 +1,11 @@
--- What the errors of the reading calls tell.
+-- The faults that errors of reading report.
 use Rattle.std.specs.Prelude.{Bool, true, false, Option, None, Some, Result, Err}
 use Rattle.pw_outside.specs.Reading.{Fault}
 use Rattle.pic_y4m.specs.declared.fault.PictureKind.{PictureKind}
 use Rattle.pic_y4m.specs.declared.fault.PictureFault.{PictureFault}
 use Rattle.pic_y4m.specs.declared.fault.PictureFault.TheVariants as faults
 
--- the fault of the bytes that an error tells
+-- the fault that an error reports
 abbrev pub told_fault : PictureFault → Option (Fault PictureKind)
 told_fault (faults.Bad kind place) = Some (record { kind = kind; place = place })
 told_fault faults.Failed = None

@@ -18,7 +18,7 @@ use Rattle.pic_y4m.specs.Values.{shared_rows}
 use Rattle.pic_y4m.specs.Line.{magic_at, next_line}
 use Rattle.pic_y4m.specs.Parameters.{none_found, is_space, required, parameters_of}
 
--- frames of two fields
+-- interlaced frames
 abbrev pub is_interlaced : Interlace → Bool
 is_interlaced Progressive = false
 is_interlaced TopFirst = true
@@ -36,7 +36,7 @@ pub record IsHead (h : Head) : Type 0 where
   pub some_den : 1 ≤ h.den
   pub den : h.den ≤ MAX_RATE_DEN
 
--- what a head line can say
+-- the contents of a head line
 pub record IsStream (s : Stream) : Type 0 where
   pub head : IsHead s.head
   pub alpha : s.head.alpha ≡ Absent
@@ -45,7 +45,7 @@ abbrev pub is_odd : Option ℕ → Bool
 is_odd None = false
 is_odd (Some n) = n % 2 == 1
 
--- Interlaced frames whose rows share chroma or are odd in number aren't read; the fault stands at the parameter I.
+-- Interlaced frames with shared chroma rows or an odd height are refused; the fault is at parameter I.
 unfoldable pub mode_allowed : Parameters → Format → Result (Unit {0}) (Fault PictureKind)
 mode_allowed p format = allowed p.mode
   where
@@ -57,8 +57,8 @@ abbrev pub interlace_in : Option Mode → Interlace
 interlace_in None = Progressive
 interlace_in (Some mode) = mode.interlace
 
--- What all parameters together say. Frames are progressive, 4:2:0 and 25 a second where nothing else is said; the
--- width and the height have to be there.
+-- The form from all parameters. The defaults are progressive, 4:2:0 and 25 frames per second; the width and the
+-- height are required.
 unfoldable pub stream_of : Parameters → Result Stream (Fault PictureKind)
 stream_of p = do
   _ ← mode_allowed p (unwrap_or p.format shared_rows)
@@ -78,14 +78,14 @@ stream_of p = do
     shares_rows = (unwrap_or p.format shared_rows).shares_rows;
   })
 
--- What the text between the word and the line feed says: a space stands between the word and the parameters.
+-- The form from the text between the magic word and the line feed: a space precedes the parameters.
 unfoldable pub text_stream : List ℕ → Result Stream (Fault PictureKind)
 text_stream text = do
   _ ← refuse (nat_lt 0 (length text) && not (is_space (slice_index text 0))) kinds.Parameter 9
   parameters ← parameters_of none_found 9 (slice_split is_space text)
   stream_of parameters
 
--- the head line, of at most 1,024 bytes; it is cut where the input ends right behind the word, too
+-- the head line, of at most 1,024 bytes; it is also truncated if the input ends right after the magic word
 unfoldable pub stream_at : Rest → Read PictureKind Stream
 stream_at s = do
   magic ← magic_at s

@@ -10,13 +10,13 @@ use Rattle.pic_y4m.specs.Values.{number_within, rate_of, interlace_of, format_of
 abbrev pub none_found : Parameters
 none_found = record { width = None; height = None; rate = None; mode = None; format = None }
 
--- what was found is within the limits
+-- the values found are within the limits
 pub record AreWithin (p : Parameters) : Type 0 where
   pub width : IfSome p.width (λ n. (1 ≤ n) × (n ≤ MAX_WIDTH))
   pub height : IfSome p.height (λ n. (1 ≤ n) × (n ≤ MAX_HEIGHT))
   pub rate : IfSome p.rate IsRate
 
--- the value, or a fault where there is none
+-- the value, or a fault if there is none
 abbrev pub required : {A : Type 0} → Option A → PictureKind → ℕ → Result A (Fault PictureKind)
 required None kind place = bad kind place
 required (Some x) kind place = Ok x
@@ -42,7 +42,7 @@ with_rate p place value = do
   rate ← required (rate_of value) kinds.Parameter place
   Ok (record p { rate = Some rate })
 
--- I: how frames are made of pictures; mixed interlace (m) isn't read
+-- I: the interlacing; mixed interlace (m) is refused
 unfoldable pub with_mode : Parameters → ℕ → List ℕ → Result Parameters (Fault PictureKind)
 with_mode p place value = do
   _ ← refuse (is_some p.mode) kinds.Parameter place
@@ -50,14 +50,14 @@ with_mode p place value = do
   interlace ← required (interlace_of value) kinds.Parameter place
   Ok (record p { mode = Some (record { interlace = interlace; place = place }) })
 
--- C: the tag of the format
+-- C: the format tag
 unfoldable pub with_format : Parameters → ℕ → List ℕ → Result Parameters (Fault PictureKind)
 with_format p place value = do
   _ ← refuse (is_some p.format) kinds.Parameter place
   format ← required (format_of value) kinds.Chroma place
   Ok (record p { format = Some format })
 
--- One parameter more: its letter says which. Other letters are passed over, and an empty word says nothing.
+-- One parameter, by its letter. Other letters are skipped, and an empty word is ignored.
 unfoldable pub with_parameter : Parameters → ℕ → List ℕ → Result Parameters (Fault PictureKind)
 with_parameter p place [] = Ok p
 with_parameter p place (letter ∷ value) = if letter == 87 then with_width p place value
@@ -70,7 +70,7 @@ with_parameter p place (letter ∷ value) = if letter == 87 then with_width p pl
 abbrev pub is_space : ℕ → Bool
 is_space b = b == 32
 
--- The parameters of words that stand one after the other, a space behind each: the first that has a fault counts.
+-- The parameters of consecutive words, each followed by a space: the first fault is reported.
 unfoldable pub parameters_of : Parameters → ℕ → List (List ℕ) → Result Parameters (Fault PictureKind)
 parameters_of p place [] = Ok p
 parameters_of p place (word ∷ words) = do

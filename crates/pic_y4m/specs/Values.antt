@@ -36,7 +36,7 @@ pub record IsRate (r : Rate) : Type 0 where
   pub some_den : 1 ≤ r.den
   pub den : r.den ≤ MAX_RATE_DEN
 
--- 0:0 leaves the rate open, which is 25:1; else no part is 0
+-- 0:0 is unspecified, and means 25:1; otherwise no part is 0
 abbrev pub rate_from : ℕ → ℕ → Option Rate
 rate_from num den = if num == 0 && den == 0 then Some (record { num = 25; den = 1 })
     else (if num == 0 || den == 0 then None else Some (record { num = num; den = den }))
@@ -48,7 +48,7 @@ rate_of bytes = option_and_then (λ colon.
     (number_within 0 MAX_RATE_NUM (take colon bytes)))
     (position (λ b. b == 58) bytes)
 
--- `p` and `?` are progressive, `t` has the top field first, `b` the bottom field
+-- `p` and `?` are progressive, `t` is top field first, `b` bottom field first
 unfoldable pub interlace_of : List ℕ → Option Interlace
 interlace_of bytes = if bytes_eq bytes (codes "p") then Some Progressive
     else (if bytes_eq bytes (codes "?") then Some Progressive
@@ -56,26 +56,26 @@ interlace_of bytes = if bytes_eq bytes (codes "p") then Some Progressive
     else (if bytes_eq bytes (codes "b") then Some BottomFirst
     else None)))
 
--- the tags of 4:2:0 with 8 bits, which differ in where chroma is sited
+-- the tags of 8-bit 4:2:0, which differ in chroma siting
 unfoldable pub is_shared : List ℕ → Bool
 is_shared bytes = bytes_eq bytes (codes "420") || (bytes_eq bytes (codes "420jpeg") || (bytes_eq bytes (codes "420mpeg2") || bytes_eq bytes (codes "420paldv")))
 
--- the depth that the end of a tag names
+-- the bit depth by the end of a tag
 unfoldable pub depth_of : List ℕ → Option Depth
 depth_of end = if length end == 0 then Some D8
     else (if bytes_eq end (codes "p10") then Some D10
     else (if bytes_eq end (codes "p12") then Some D12
     else None))
 
--- every row of luma has its own row of chroma
+-- each luma row has its own chroma row
 abbrev pub whole_rows : Chroma → Option Depth → Option Format
 whole_rows chroma depth = option_and_then (λ d. Some (record { chroma = chroma; depth = d; shares_rows = false })) depth
 
--- in a row as 4:2:2, and two rows of luma share a row of chroma
+-- 4:2:2 within a row, and two luma rows share a chroma row
 abbrev pub shared_rows : Format
 shared_rows = record { chroma = C422; depth = D8; shares_rows = true }
 
--- The format that a tag names: 420, 420jpeg, 420mpeg2, 420paldv; and 422 or 444, with p10 or p12 behind it or nothing.
+-- The format by a tag: 420, 420jpeg, 420mpeg2, 420paldv; and 422 or 444, optionally followed by p10 or p12.
 unfoldable pub format_of : List ℕ → Option Format
 format_of tag = if is_shared tag then Some shared_rows
     else (if starts_with nat_eq tag (codes "422") then whole_rows C422 (depth_of (drop 3 tag))

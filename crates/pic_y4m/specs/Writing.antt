@@ -1,4 +1,4 @@
--- What is written of pictures (yuv4mpeg(5)): one spelling for each head and each picture.
+-- Written pictures (yuv4mpeg(5)): one spelling for each head and each picture.
 use Rattle.std.specs.Prelude.{◌≡◌, ℕ, ◌<◌, ◌≤◌, ◌+◌, Bool, true, false, List, [], ◌∷◌, ◌++◌, length, None, Some, Result, Ok, Err, codes}
 use Rattle.std.specs.Fmt.{decimal}
 use Rattle.std.specs.List.{flat_map}
@@ -26,7 +26,7 @@ mode_text Progressive = codes "p"
 mode_text TopFirst = codes "t"
 mode_text BottomFirst = codes "b"
 
--- the tag of the parameter C: the sampling, and behind it the depth, unless it is 8
+-- the tag of the parameter C: the subsampling, followed by the bit depth unless it is 8
 abbrev pub sampling_text : Chroma → List ℕ
 sampling_text C422 = codes "422"
 sampling_text C444 = codes "444"
@@ -45,7 +45,7 @@ head_bytes h = codes "YUV4MPEG2 W" ++ decimal h.width ++ codes " H" ++ decimal h
 unfoldable pub frame_bytes : Depth → Picture → List ℕ
 frame_bytes depth p = codes "FRAME\n" ++ plane_bytes (size_of depth) p.y.samples ++ plane_bytes (size_of depth) p.cb.samples ++ plane_bytes (size_of depth) p.cr.samples
 
--- The sink took a text, or a front of it and not all after a failure, or nothing where memory ran out.
+-- The sink received the whole text, or after a failure a proper prefix, or nothing if memory ran out.
 abbrev pub Writes : {X : Type 0} → Result X WriteEnd → SinkState → SinkState → List ℕ → Type 0
 Writes (Ok _) before after text = Puts before after text
 Writes (Err ends.Failed) before after text = PutsPart before after text
@@ -56,7 +56,7 @@ abbrev pub write_failed : {X : Type 0} → Result X WriteEnd → Bool
 write_failed (Err ends.Failed) = true
 write_failed _ = false
 
--- a picture that a writer of this form writes whole: no alpha, and planes as planes are
+-- a picture that a writer of this form writes in full: no alpha, and well-formed planes
 pub record IsWhole (h : Head) (p : Picture) : Type 0 where
   pub form : HasForm h p
   pub alpha : p.alpha ≡ None
@@ -64,13 +64,13 @@ pub record IsWhole (h : Head) (p : Picture) : Type 0 where
   pub cb : IsPlane p.cb
   pub cr : IsPlane p.cr
 
--- The law that a written picture is read: where it stands next, a reader of its form gives it, and goes on behind it.
+-- A written picture is read back: a reader of its form returns it, and continues after it.
 abbrev pub WrittenIsRead : Type 0
 WrittenIsRead = (r : State) (p : Picture) (rest : List ℕ) → r.form.shares_rows ≡ false → r.frames < MAX_FRAMES → IsWhole r.form.head p
     → next_at r (record { place = r.place; bytes = frame_bytes r.form.head.depth p ++ rest })
     ≡ Ok (Some p, record { place = r.place + length (frame_bytes r.form.head.depth p); bytes = rest })
 
--- the frames of pictures, one behind the other
+-- the frames of these pictures
 abbrev pub frames_bytes : Depth → List Picture → List ℕ
 frames_bytes depth pictures = flat_map (frame_bytes depth) pictures
 
@@ -79,18 +79,18 @@ abbrev pub AreWhole : Head → List Picture → Type 0
 AreWhole h [] = Unit {0}
 AreWhole h (p ∷ ps) = IsWhole h p × AreWhole h ps
 
--- The law that a reader gives exactly the pictures that were written, and then the end.
+-- A reader returns exactly the written pictures, and then the end.
 abbrev pub PicturesAreRead : Type 0
 PicturesAreRead = (r : State) (pictures : List Picture) → r.form.shares_rows ≡ false → r.frames + length pictures ≤ MAX_FRAMES → AreWhole r.form.head pictures
     → pictures_left r (record { place = r.place; bytes = frames_bytes r.form.head.depth pictures }) ≡ record { pictures = pictures; fault = None }
 
--- The law that a written head line is read: a reader of that head starts behind it.
+-- A written head line is read back: a reader of that head starts after it.
 abbrev pub HeadIsRead : Type 0
 HeadIsRead = (h : Head) (rest : List ℕ) → IsHead h → h.alpha ≡ Absent
     → start_at (record { place = 0; bytes = head_bytes h ++ rest })
     ≡ Ok (started (record { head = h; shares_rows = false }) (length (head_bytes h)), record { place = length (head_bytes h); bytes = rest })
 
--- The law that an input that was written means the head and the pictures that were written.
+-- A written input means the head and the pictures that were written.
 abbrev pub WrittenIsMeant : Type 0
 WrittenIsMeant = (h : Head) (pictures : List Picture) → IsHead h → h.alpha ≡ Absent → length pictures ≤ MAX_FRAMES → AreWhole h pictures
     → pictured (head_bytes h ++ frames_bytes h.depth pictures) ≡ Ok (h, record { pictures = pictures; fault = None })

@@ -1,4 +1,4 @@
-//! Bytes of a source, one or many at a time.
+//! Reads the bytes of a source, one or many at a time.
 
 ghost use Rattle.std.specs.Prelude.{◌≡◌, ◌≤◌, ◌∷◌, ◌++◌, [], List, ℕ, IfOk, is_err, MatchOption, IsSome};
 ghost use Rattle.std.specs.Io.KnownBytes.{IsAtEnd};
@@ -9,7 +9,7 @@ ghost use Rattle.pic_y4m.specs.Line.{NextByte};
 
 use pw_outside::{ByteSource, Failed, fill};
 
-/// Reads the next byte, or tells that the input ends.
+/// Reads the next byte; `None` at the end of the input.
 pub fn next_byte<S: ByteSource>(source: &mut S) -> Result<Option<u8>, Failed>
     ensures bytes { IfOk result (NextByte (S.left source.old) (S.left source.new)) }
     ensures end { IfOk result (λ byte. IfNone byte (IsAtEnd (S.left source.new))) }

@@ -1,4 +1,4 @@
-//! Why pictures could not be read.
+//! Errors of reading pictures.
 
 ghost use Rattle.std.specs.Prelude.{◌≡◌};
 ghost use Rattle.pic_y4m.specs.declared.fault.PictureFault.TheVariants as faults;
@@ -7,33 +7,33 @@ use pw_outside::Failed;
 use std::alloc::{AllocError, AllocFailed};
 use thiserror::Error;
 
-/// What is wrong with the bytes of pictures.
+/// Kinds of faults of an input of pictures.
 #[derive(Clone, Copy, Debug, PartialEq, Eq)]
 pub enum PictureKind {
-    /// The input doesn't begin with the word of its format.
+    /// The input doesn't begin with the magic word of its format.
     Magic,
-    /// A parameter of the head line is no number, outside its limits, there twice or wanting, or the line is too long.
+    /// A parameter of the head line is no number, out of range, repeated or missing, or the line is too long.
     Parameter,
-    /// The sampling of chroma is none that is read.
+    /// Unsupported chroma subsampling.
     Chroma,
-    /// The frames are interlaced in a way that isn't read.
+    /// Unsupported interlacing.
     Interlace,
-    /// The line in front of a frame begins otherwise, or is too long.
+    /// The line before a frame doesn't begin with `FRAME`, or is too long.
     FrameLine,
     /// The input ends within a line or within a frame.
     Truncated,
-    /// A sample has more bits than the depth says.
+    /// A sample exceeds the bit depth.
     SampleRange,
-    /// There are more than 1,000,000 frames.
+    /// There are more than [`MAX_FRAMES`](crate::MAX_FRAMES) frames.
     TooManyFrames,
     /// A frame has more slices than a picture may have.
     TooManySlices,
 }
 
-/// Why a call has no picture to give.
+/// Why a call returned no picture.
 #[derive(Debug, Drop, Error)]
 pub enum PictureFault {
-    /// The bytes are none; `place` counts from the first byte of the input.
+    /// The bytes are invalid; `place` is an offset in the input.
     #[error("Bad")]
     Bad { kind: PictureKind, place: u64 },
     /// A call of the port failed.

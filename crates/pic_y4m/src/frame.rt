@@ -1,4 +1,4 @@
-//! The planes of a frame.
+//! Reads the planes of a frame.
 
 ghost use Rattle.std.specs.Prelude.{◌≡◌, ◌+◌, ◌-◌, ◌*◌, ◌/◌, ◌≤◌, ◌<◌, ◌^◌, IfOk, IfSome, length, slice_index};
 ghost use Rattle.std.specs.Io.KnownBytes.{IsAtEnd};
@@ -18,7 +18,7 @@ use pw_outside::ByteSource;
 use pw_planes::{Picture, Plane};
 use std::alloc::{AllocError, Global};
 
-/// The longest line in front of a frame, in bytes with its line feed.
+/// The maximum length of the line before a frame, in bytes with its line feed.
 const MAX_FRAME_LINE: usize = 256;
 
 /// The number of luma samples.
@@ -31,7 +31,7 @@ fn luma_count(form: &Stream) -> usize
     usize::from(form.head.height) * usize::from(form.head.width)
 }
 
-/// The number of stored rows of chroma.
+/// The number of stored chroma rows.
 fn chroma_rows(shares_rows: bool, height: u32) -> u32
     requires { height ≤ 4320 }
     ensures value { result ≡ chroma_rows shares_rows height }
@@ -44,7 +44,7 @@ fn chroma_rows(shares_rows: bool, height: u32) -> u32
     }
 }
 
-/// The number of stored samples of a plane of chroma.
+/// The number of stored samples of a chroma plane.
 fn chroma_count(form: &Stream) -> usize
     requires { IsStream form.now }
     ensures value { result ≡ chroma_count form.now }
@@ -56,7 +56,7 @@ fn chroma_count(form: &Stream) -> usize
     rows as usize * width as usize
 }
 
-/// Each stored row for two rows of the picture.
+/// Doubles each stored row.
 fn widened(
     alloc: Global,
     stored: &[u16],
@@ -77,7 +77,7 @@ fn widened(
     Ok(samples)
 }
 
-/// A plane of chroma as the picture has it.
+/// The chroma plane of the picture, from its stored samples.
 fn chroma_samples(
     alloc: Global,
     stored: Vec<u16>,
@@ -98,7 +98,7 @@ fn chroma_samples(
     }
 }
 
-/// The picture of three stored planes.
+/// The picture with these three stored planes.
 fn picture_of(
     alloc: Global,
     form: &Stream,
@@ -140,7 +140,7 @@ fn picture_of(
     })
 }
 
-/// The planes of a frame.
+/// Reads the planes of a frame.
 #[tactic(auto, using(crate::proofs::Planes::picture_form), unfolding(crate::specs::Frames::planes_at, pw_outside::specs::Reading::bind))]
 pub(crate) fn planes_of<S: ByteSource>(
     alloc: Global,
@@ -170,7 +170,7 @@ pub(crate) fn planes_of<S: ByteSource>(
     Ok(picture_of(alloc, form, y, cb, cr)?)
 }
 
-/// The next frame, or none at the end of the input.
+/// Reads the next frame; `None` at the end of the input.
 #[tactic(auto, unfolding(crate::specs::Frames::frame_at, pw_outside::specs::Reading::bind))]
 pub(crate) fn frame_of<S: ByteSource>(
     alloc: Global,

@@ -1,4 +1,4 @@
-//! The head line of an input.
+//! Reads the head line of an input.
 
 ghost use Rattle.std.specs.Prelude.{◌≡◌, ◌<◌, ◌≤◌, ◌^◌, IfOk, length, false};
 ghost use Rattle.pw_outside.specs.Ports.{CountsFault, GoesOn};
@@ -16,18 +16,18 @@ use crate::values::{Format, Rate, is};
 use pw_outside::{ByteSource, fill};
 use pw_planes::{AlphaKind, Chroma, Depth, Interlace};
 
-// the word that an input begins with
+// The magic word at the start of an input.
 const MAGIC: [u8; 9] = *b"YUV4MPEG2";
 
-/// What the head line says of all frames.
+/// The contents of a head line: the form of all frames.
 #[derive(Clone, Copy, Debug, PartialEq, Eq)]
 pub(crate) struct Stream {
     pub head: Head,
-    /// Whether two rows of luma share a row of chroma, as in 4:2:0.
+    /// Whether two luma rows share a chroma row, as in 4:2:0.
     pub shares_rows: bool,
 }
 
-/// Reads the word that an input begins with.
+/// Reads the magic word.
 #[tactic(auto, unfolding(crate::specs::Line::magic_at, pw_outside::specs::Reading::bind))]
 fn magic_of<S: ByteSource>(source: &mut S) -> Result<(), PictureFault>
     ensures bytes { Gives told_fault (λ x. x) (S.left source.old) (S.left source.new) 0 9 result magic_at }
@@ -46,7 +46,7 @@ fn magic_of<S: ByteSource>(source: &mut S) -> Result<(), PictureFault>
     Ok(())
 }
 
-/// Refuses interlaced frames of 4:2:0 or of odd height.
+/// Refuses interlaced frames in 4:2:0 or of odd height.
 #[tactic(auto, unfolding(crate::specs::HeadLine::mode_allowed))]
 fn check_mode(found: &Parameters, format: Format) -> Result<(), PictureFault>
     ensures answer { Answers told_fault (λ x. x) result (mode_allowed found.now format) }
@@ -69,7 +69,7 @@ fn check_mode(found: &Parameters, format: Format) -> Result<(), PictureFault>
     Ok(())
 }
 
-/// What all parameters together say.
+/// The form from all parameters.
 #[tactic(auto, unfolding(crate::specs::HeadLine::stream_of, crate::specs::HeadLine::mode_allowed, pw_outside::specs::Reading::bind))]
 fn stream_of(found: &Parameters) -> Result<Stream, PictureFault>
     requires { AreWithin found.now }
@@ -110,7 +110,7 @@ fn stream_of(found: &Parameters) -> Result<Stream, PictureFault>
     })
 }
 
-/// What the text between the word and the line feed says.
+/// The form from the text between the magic word and the line feed.
 #[tactic(auto, unfolding(crate::specs::HeadLine::text_stream, pw_outside::specs::Reading::bind))]
 fn text_stream(text: &[u8]) -> Result<Stream, PictureFault>
     requires { length text.now < 2 ^ 62 }
@@ -126,7 +126,7 @@ fn text_stream(text: &[u8]) -> Result<Stream, PictureFault>
     stream_of(&found)
 }
 
-/// The head line. `place` is then the number of its bytes.
+/// Reads the head line. `place` is then its length in bytes.
 #[tactic(auto, unfolding(crate::specs::HeadLine::stream_at, pw_outside::specs::Reading::bind))]
 pub(crate) fn stream_at<S: ByteSource>(
     source: &mut S,

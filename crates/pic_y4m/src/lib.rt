@@ -1,4 +1,4 @@
-//! Pictures of the Y4M format (yuv4mpeg(5) of the mjpegtools), read and written.
+//! Reads and writes pictures in the Y4M format (yuv4mpeg(5) of the mjpegtools).
 #![tactic(auto)]
 
 mod bytes;
@@ -26,6 +26,3 @@ pub use pieces::put_samples;
 pub use reader::Y4mReader;
 pub use samples::{SampleSize, check_range, limit_of, next_samples, read_samples};
 pub use writer::{WriteEnd, Y4mWriter};
-
-#[cfg(test)]
-mod tests;

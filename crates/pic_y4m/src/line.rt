@@ -1,4 +1,4 @@
-//! One line of an input.
+//! Reads one line of an input.
 
 ghost use Rattle.std.specs.Prelude.{◌≡◌, ◌+◌, ◌<◌, ◌≤◌, ◌^◌, IfOk, IfSome, length, false};
 ghost use Rattle.std.specs.Io.KnownBytes.{IsAtEnd};
@@ -14,7 +14,7 @@ use arrayvec::ArrayVec;
 use pw_outside::ByteSource;
 use std::marker::Model;
 
-/// The longest line that is read, in bytes with its line feed.
+/// The maximum length of a line, in bytes with its line feed.
 pub(crate) const MAX_LINE: usize = 1024;
 
 /// The bytes of a line without its line feed.
@@ -41,8 +41,8 @@ impl Line {
     }
 }
 
-/// The next line, which has at most `most` bytes with its line feed, or none at the end of the input. A longer line is a
-/// fault of kind `long` at `long_at`.
+/// Reads the next line, of at most `most` bytes with its line feed; `None` at the end of the input. A longer line
+/// is a fault of kind `long` at `long_at`.
 pub(crate) fn line_of<S: ByteSource>(
     source: &mut S,
     place: &mut u64,

@@ -1,4 +1,4 @@
-//! The parameters of a head line.
+//! Reads the parameters of a head line.
 
 ghost use Rattle.std.specs.Prelude.{◌≡◌, ◌+◌, ◌<◌, ◌≤◌, ◌^◌, IfOk, length, position, false};
 ghost use Rattle.std.specs.List.{position_or_len, slice_split};
@@ -10,14 +10,14 @@ use crate::fault::{PictureFault, PictureKind, bad};
 use crate::values::{Format, Rate, format_of, interlace_of, is, number_within, rate_of};
 use pw_planes::{Interlace, MAX_HEIGHT, MAX_WIDTH};
 
-/// How frames are made of pictures, and the place of the parameter that says so.
+/// The interlacing, and the offset of its parameter.
 #[derive(Clone, Copy, Debug, PartialEq, Eq)]
 pub(crate) struct Mode {
     pub interlace: Interlace,
     pub place: u64,
 }
 
-/// The parameters that were found so far.
+/// The parameters found so far.
 #[derive(Clone, Copy, Debug, PartialEq, Eq)]
 pub(crate) struct Parameters {
     pub width: Option<u16>,
@@ -27,7 +27,7 @@ pub(crate) struct Parameters {
     pub format: Option<Format>,
 }
 
-/// `W` and the width.
+/// `W`: the width.
 #[tactic(auto, unfolding(crate::specs::Parameters::with_width, pw_outside::specs::Reading::bind))]
 fn with_width(found: Parameters, place: u64, value: &[u8]) -> Result<Parameters, PictureFault>
     requires { AreWithin found }
@@ -48,7 +48,7 @@ fn with_width(found: Parameters, place: u64, value: &[u8]) -> Result<Parameters,
     })
 }
 
-/// `H` and the height.
+/// `H`: the height.
 #[tactic(auto, unfolding(crate::specs::Parameters::with_height, pw_outside::specs::Reading::bind))]
 fn with_height(found: Parameters, place: u64, value: &[u8]) -> Result<Parameters, PictureFault>
     requires { AreWithin found }
@@ -69,7 +69,7 @@ fn with_height(found: Parameters, place: u64, value: &[u8]) -> Result<Parameters
     })
 }
 
-/// `F` and the frame rate.
+/// `F`: the frame rate.
 #[tactic(auto, unfolding(crate::specs::Parameters::with_rate, pw_outside::specs::Reading::bind))]
 fn with_rate(found: Parameters, place: u64, value: &[u8]) -> Result<Parameters, PictureFault>
     requires { AreWithin found }
@@ -90,7 +90,7 @@ fn with_rate(found: Parameters, place: u64, value: &[u8]) -> Result<Parameters, 
     })
 }
 
-/// `I` and how frames are made of pictures.
+/// `I`: the interlacing.
 #[tactic(auto, unfolding(crate::specs::Parameters::with_mode, pw_outside::specs::Reading::bind))]
 fn with_mode(found: Parameters, place: u64, value: &[u8]) -> Result<Parameters, PictureFault>
     requires { AreWithin found }
@@ -114,7 +114,7 @@ fn with_mode(found: Parameters, place: u64, value: &[u8]) -> Result<Parameters, 
     })
 }
 
-/// `C` and the tag of the format.
+/// `C`: the format tag.
 #[tactic(auto, unfolding(crate::specs::Parameters::with_format, pw_outside::specs::Reading::bind))]
 fn with_format(found: Parameters, place: u64, value: &[u8]) -> Result<Parameters, PictureFault>
     requires { AreWithin found }
@@ -135,7 +135,7 @@ fn with_format(found: Parameters, place: u64, value: &[u8]) -> Result<Parameters
     })
 }
 
-/// One parameter more, which begins at this place of the input. An empty word says nothing.
+/// Reads one parameter, at this offset of the input. An empty word is ignored.
 #[tactic(auto, unfolding(crate::specs::Parameters::with_parameter))]
 fn with_parameter(found: Parameters, place: u64, word: &[u8]) -> Result<Parameters, PictureFault>
     requires { AreWithin found }
@@ -158,7 +158,7 @@ fn with_parameter(found: Parameters, place: u64, word: &[u8]) -> Result<Paramete
     }
 }
 
-/// The place of the first space.
+/// The index of the first space.
 fn space_of(text: &[u8]) -> Option<usize>
     ensures { result ≡ position is_space text.now }
 {
@@ -174,7 +174,7 @@ fn word_len(text: &[u8]) -> usize
     space_of(text).unwrap_or(text.len())
 }
 
-/// The parameters of a text, which begins at this place of the input.
+/// Reads the parameters of a text at this offset of the input.
 pub(crate) fn parameters_of(place: u64, text: &[u8]) -> Result<Parameters, PictureFault>
     requires { place + length text.now < 2 ^ 63 }
     ensures answer { Answers told_fault (λ p. p) result (parameters_of none_found place (slice_split is_space text.now)) }

@@ -1,4 +1,4 @@
-//! Samples as bytes, written piece by piece.
+//! Writes samples as bytes, piece by piece.
 
 ghost use Rattle.std.specs.Prelude.{◌≡◌, ◌*◌, ◌≤◌, ◌<◌, OnOk, OnErr, is_err, length};
 ghost use Rattle.std.specs.List.{All};
@@ -10,10 +10,10 @@ ghost use Rattle.pic_y4m.specs.Samples.{plane_bytes, Fit};
 use crate::samples::SampleSize;
 use pw_outside::{ByteSink, Failed, put_all};
 
-/// The number of samples that are made into bytes at a time.
+/// The number of samples per piece.
 const PIECE: usize = 4096;
 
-/// Writes samples of one byte each over these bytes.
+/// Fills `bytes` with one-byte samples.
 fn pack_bytes(bytes: &mut [u8], samples: &[u16])
     requires below { All (λ s. s < 256) samples.now }
     requires len { length bytes.old ≡ length samples.now }
@@ -24,7 +24,7 @@ fn pack_bytes(bytes: &mut [u8], samples: &[u16])
     }
 }
 
-/// Writes samples of two bytes each, the low one first, over these bytes.
+/// Fills `bytes` with two-byte little-endian samples.
 fn pack_pairs(bytes: &mut [u8], samples: &[u16])
     requires { length bytes.old ≡ 2 * length samples.now }
     ensures { bytes.new ≡ plane_bytes Pair samples.now }
@@ -53,20 +53,20 @@ fn put_piece<K: ByteSink>(sink: &mut K, size: SampleSize, samples: &[u16]) -> Re
     put_all(sink, bytes)
 }
 
-/// Writes samples, so many at a time. No memory is taken.
+/// Writes samples piece by piece. Takes no memory.
 ///
-/// The error tells that a call of the sink failed. The sink then has taken a front of the bytes.
+/// The error is a failed call of the sink, after which the output is a prefix of the bytes.
 pub fn put_samples<K: ByteSink>(
     sink: &mut K,
     size: SampleSize,
     samples: &[u16],
 ) -> Result<(), Failed>
-    // Samples of one byte are below 256.
+    // One-byte samples are below 256.
     requires { Fit size samples.now }
     ensures ok { OnOk result (Puts (sink_state (K.held sink.old) (K.taken sink.old)) (sink_state (K.held sink.new) (K.taken sink.new)) (plane_bytes size samples.now)) }
     ensures err { OnErr result (PutsPart (sink_state (K.held sink.old) (K.taken sink.old)) (sink_state (K.held sink.new) (K.taken sink.new)) (plane_bytes size samples.now)) }
     ensures settled { K.settled sink.old ≤ K.settled sink.new }
-    // An error comes only where a call of the sink failed, and each such call is answered by one.
+    // An error is returned exactly if a call of the sink failed.
     ensures cause { CountsFault (K.faults sink.old) (K.faults sink.new) (is_err result) }
 {
     let mut at = 0;

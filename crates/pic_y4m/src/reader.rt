@@ -1,4 +1,4 @@
-//! Reading an input picture by picture.
+//! Reads an input picture by picture.
 
 ghost use Rattle.std.specs.Prelude.{◌≡◌, IfOk, IfSome, false};
 ghost use Rattle.std.specs.Io.KnownBytes.{IsAtEnd};
@@ -19,7 +19,7 @@ use pw_planes::Picture;
 use std::alloc::Global;
 use std::marker::Model;
 
-/// Reads the pictures of an input one after the other.
+/// Reads the pictures of an input in order.
 #[derive(Drop)]
 pub struct Y4mReader {
     form: Stream,
@@ -42,20 +42,20 @@ impl Y4mReader {
 
     /// Reads the head line.
     ///
-    /// The errors are `Bad` with the first fault of the line and its place, and `Failed` where a call of the source
-    /// failed. No memory is taken.
+    /// The errors are `Bad` with the first fault of the line and its offset, and `Failed` if a call of the source
+    /// failed. Takes no memory.
     #[tactic(auto, unfolding(crate::specs::Frames::start_at, pw_outside::specs::Reading::bind))]
     pub fn start<S: ByteSource>(source: &mut S) -> Result<Y4mReader, PictureFault>
-        // Where the source tells its bytes, the answer is the reader that their head line makes, or its first fault.
+        // If the source's bytes are visible, the result is the reader of their head line, or its first fault.
         ensures bytes { Gives told_fault (λ r. r) (S.left source.old) (S.left source.new) 0 (place_after result) result start_at }
         // The head is within the limits.
         ensures reader { IfOk result IsState }
-        // No picture was read yet.
+        // No picture is read yet.
         ensures fresh { IfOk result (λ r. r.frames ≡ 0) }
         ensures becomes { GoesOn S.becomes source.old source.new }
-        // The error is `Failed` only where a call of the source failed, and each such call is answered by it.
+        // The error is `Failed` exactly if a call of the source failed.
         ensures cause { CountsFault (S.faults source.old) (S.faults source.new) (is_failed result) }
-        // No memory is taken.
+        // Takes no memory.
         ensures memory { is_out_of_memory result ≡ false }
     {
         let mut place = 0;
@@ -67,7 +67,7 @@ impl Y4mReader {
         })
     }
 
-    /// The form that all pictures have.
+    /// The form of all pictures.
     pub fn head(&self) -> Head
         ensures head { result ≡ self.now.form.head }
         ensures limits { IsHead result }
@@ -76,27 +76,27 @@ impl Y4mReader {
         self.form.head
     }
 
-    /// Reads the next picture, or tells that the input ends in front of one.
+    /// Reads the next picture; `None` at the end of the input.
     ///
-    /// The errors are `Bad` with the first fault and its place, `Failed` where a call of the source failed, and `NoMemory`.
-    /// After an error the reader isn't used again.
+    /// The errors are `Bad` with the first fault and its offset, `Failed` if a call of the source failed, and
+    /// `NoMemory`. After an error the reader isn't used again.
     #[tactic(auto, unfolding(crate::specs::Frames::next_at, pw_outside::specs::Reading::bind))]
     pub fn next<S: ByteSource>(
         &mut self,
         alloc: Global,
         source: &mut S,
     ) -> Result<Option<Picture>, PictureFault>
-        // Where the source tells its bytes, the answer is the picture that stands next, their end, or the first fault.
+        // If the source's bytes are visible, the result is the next picture, the end, or the first fault.
         ensures bytes { Gives told_fault (λ p. p) (S.left source.old) (S.left source.new) self.old.place self.new.place result (next_at self.old) }
-        // A picture has the form of the head, and samples below 2 to the depth.
+        // A picture has the head's form, and samples below 2 to the bit depth.
         ensures form { IfOk result (λ picture. IfSome picture (HasForm self.old.form.head)) }
-        // A picture is counted, and there are 1,000,000 at most.
+        // Each picture is counted, at most `MAX_FRAMES`.
         ensures after { IsAfter self.old self.new result }
         ensures reader { IsState self.new }
-        // There is none only where all bytes of the source were read.
+        // `None` only after all bytes of the source were read.
         ensures end { IfOk result (λ picture. IfNone picture (IsAtEnd (S.left source.new))) }
         ensures becomes { GoesOn S.becomes source.old source.new }
-        // The error is `Failed` only where a call of the source failed, and each such call is answered by it.
+        // The error is `Failed` exactly if a call of the source failed.
         ensures cause { CountsFault (S.faults source.old) (S.faults source.new) (is_failed result) }
     {
         if self.frames == MAX_FRAMES {

@@ -1,4 +1,4 @@
-//! Samples from bytes.
+//! Reads samples from bytes.
 
 ghost use Rattle.std.specs.Prelude.{◌≡◌, ◌+◌, ◌*◌, ◌≤◌, ◌<◌, ◌^◌, nat_le, false, IfOk, IfSome, OnOk, length, position};
 ghost use Rattle.std.specs.Io.KnownBytes.{IsAtEnd};
@@ -16,12 +16,12 @@ use pw_outside::{ByteSource, fill};
 use pw_planes::Depth;
 use std::alloc::{AllocError, Global};
 
-/// How many bytes a sample has.
+/// The size of a sample in bytes.
 #[derive(Clone, Copy, Debug, PartialEq, Eq)]
 pub enum SampleSize {
     /// One byte.
     Byte,
-    /// Two bytes, the low one first.
+    /// Two bytes, little-endian.
     Pair,
 }
 
@@ -42,7 +42,7 @@ impl SampleSize {
     }
 }
 
-/// The size of a sample of a depth in Y4M.
+/// The size of a sample of this depth in Y4M.
 pub(crate) fn size_of(depth: Depth) -> SampleSize
     ensures { result ≡ size_of depth }
 {
@@ -52,7 +52,7 @@ pub(crate) fn size_of(depth: Depth) -> SampleSize
     }
 }
 
-/// Samples of one byte.
+/// One-byte samples.
 fn byte_samples(alloc: Global, count: usize, bytes: &[u8]) -> Result<Vec<u16>, AllocError>
     requires { count ≤ length bytes.now }
     ensures { IfOk result (λ v. v.items ≡ samples_in Byte count bytes.now) }
@@ -64,7 +64,7 @@ fn byte_samples(alloc: Global, count: usize, bytes: &[u8]) -> Result<Vec<u16>, A
     Ok(samples)
 }
 
-/// Samples of two bytes, the low one first.
+/// Two-byte little-endian samples.
 fn pair_samples(alloc: Global, count: usize, bytes: &[u8]) -> Result<Vec<u16>, AllocError>
     requires { 2 * count ≤ length bytes.now }
     ensures { IfOk result (λ v. v.items ≡ samples_in Pair count bytes.now) }
@@ -76,7 +76,7 @@ fn pair_samples(alloc: Global, count: usize, bytes: &[u8]) -> Result<Vec<u16>, A
     Ok(samples)
 }
 
-/// The first samples of these bytes.
+/// The first `count` samples of these bytes.
 #[tactic(auto, unfolding(crate::specs::Samples::samples_in))]
 fn samples_in(
     alloc: Global,
@@ -93,10 +93,10 @@ fn samples_in(
     }
 }
 
-/// Reads the next samples, or tells that the input ends in front of them. All of them are read before they are taken apart.
+/// Reads the next `count` samples; `None` at the end of the input. All bytes are read before they are decoded.
 ///
-/// The errors are `Bad` with Truncated and the end of the input, which is behind `place` then, `Failed` where a call of the
-/// source failed, and `NoMemory`.
+/// The errors are `Bad` with Truncated at the end of the input, which `place` doesn't reach then, `Failed` if a
+/// call of the source failed, and `NoMemory`.
 #[tactic(auto, using(crate::proofs::Planes::samples_length), unfolding(crate::specs::Samples::samples_at, crate::specs::Samples::some_samples_at, pw_outside::specs::Reading::bind))]
 pub fn next_samples<S: ByteSource>(
     alloc: Global,
@@ -108,14 +108,14 @@ pub fn next_samples<S: ByteSource>(
     requires some { 1 ≤ count }
     requires few { count ≤ 35389440 }
     requires room { place.old < 2 ^ 62 }
-    // Where the source tells its bytes, the answer is the samples that stand next, or their end, or the fault.
+    // If the source's bytes are visible, the result is the next samples, the end, or the fault.
     ensures bytes { Gives told_fault (λ v. option_map (λ w. w.items) v) (S.left source.old) (S.left source.new) place.old place.new result (some_samples_at size count) }
     ensures len { IfOk result (λ samples. IfSome samples (λ v. length v.items ≡ count)) }
     ensures place { place.new ≤ place.old + 2 * count }
     ensures same { IfOk result (λ samples. IfNone samples (place.new ≡ place.old)) }
     ensures end { IfOk result (λ samples. IfNone samples (IsAtEnd (S.left source.new))) }
     ensures becomes { GoesOn S.becomes source.old source.new }
-    // The error is `Failed` only where a call of the source failed, and each such call is answered by it.
+    // The error is `Failed` exactly if a call of the source failed.
     ensures cause { CountsFault (S.faults source.old) (S.faults source.new) (is_failed result) }
 {
     let len = count * size.bytes();
@@ -142,12 +142,12 @@ pub fn read_samples<S: ByteSource>(
     requires some { 1 ≤ count }
     requires few { count ≤ 35389440 }
     requires room { place.old < 2 ^ 62 }
-    // Where the source tells its bytes, the answer is the samples that stand next, or the fault.
+    // If the source's bytes are visible, the result is the next samples, or the fault.
     ensures bytes { Gives told_fault (λ v. v.items) (S.left source.old) (S.left source.new) place.old place.new result (samples_at size count) }
     ensures len { IfOk result (λ v. length v.items ≡ count) }
     ensures place { place.new ≤ place.old + 2 * count }
     ensures becomes { GoesOn S.becomes source.old source.new }
-    // The error is `Failed` only where a call of the source failed, and each such call is answered by it.
+    // The error is `Failed` exactly if a call of the source failed.
     ensures cause { CountsFault (S.faults source.old) (S.faults source.new) (is_failed result) }
 {
     match next_samples(alloc, source, place, size, count) {
@@ -157,7 +157,7 @@ pub fn read_samples<S: ByteSource>(
     }
 }
 
-/// The place of the first sample that isn't below a limit.
+/// The index of the first sample that isn't below a limit.
 fn past_of(samples: &[u16], limit: u32) -> Option<usize>
     ensures value { result ≡ position (λ s. nat_le limit s) samples.now }
     ensures inside { IfSome result (λ k. k < length samples.now) }
@@ -165,7 +165,7 @@ fn past_of(samples: &[u16], limit: u32) -> Option<usize>
     samples.iter().position(|s| u32::from(*s) >= limit)
 }
 
-/// One more than the largest sample of a depth.
+/// 2 to the bit depth: one more than the largest sample.
 pub fn limit_of(depth: Depth) -> u32
     ensures { result ≡ 2 ^ sample_bits depth }
 {
@@ -176,9 +176,9 @@ pub fn limit_of(depth: Depth) -> u32
     }
 }
 
-/// Refuses samples that aren't below a limit. The plane begins at this place.
+/// Refuses samples that aren't below a limit. The plane begins at offset `place`.
 ///
-/// The error is `Bad` with SampleRange and the place of the first of them.
+/// The error is `Bad` with SampleRange and the offset of the first such sample.
 pub fn check_range(
     size: SampleSize,
     limit: u32,
@@ -190,7 +190,7 @@ pub fn check_range(
     ensures answer { Answers told_fault (λ x. x) result (in_range size limit samples.now place) }
     ensures below { OnOk result (All (λ s. s < limit) samples.now) }
     ensures pure { is_failed result ≡ false }
-    // No memory is taken.
+    // Takes no memory.
     ensures memory { is_out_of_memory result ≡ false }
 {
     match past_of(samples, limit) {

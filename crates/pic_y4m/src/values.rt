@@ -1,4 +1,4 @@
-//! The values of a head line's parameters.
+//! Parses the values of a head line's parameters.
 
 ghost use Rattle.std.specs.Prelude.{◌≡◌, ◌≤◌, ◌<◌, ◌^◌, ◌==◌, IfSome, bytes_eq, length, position};
 ghost use Rattle.pic_y4m.specs.Values.{number_within, rate_from, rate_of, interlace_of, is_shared, depth_of, format_of, IsRate};
@@ -7,25 +7,25 @@ use crate::head::{MAX_RATE_DEN, MAX_RATE_NUM};
 use pw_planes::{Chroma, Depth, Interlace};
 use pw_text::read_decimal;
 
-/// A frame rate: frames in so many seconds.
+/// A frame rate: `num` frames in `den` seconds.
 #[derive(Clone, Copy, Debug, PartialEq, Eq)]
 pub(crate) struct Rate {
     pub num: u32,
     pub den: u32,
 }
 
-/// How the planes of a frame are stored.
+/// The storage of a frame's planes.
 #[derive(Clone, Copy, Debug, PartialEq, Eq)]
 pub(crate) struct Format {
-    /// How chroma is sampled in a row.
+    /// The chroma subsampling within a row.
     pub chroma: Chroma,
-    /// The number of bits of a sample.
+    /// The bit depth.
     pub depth: Depth,
-    /// Whether two rows of luma share a row of chroma, as in 4:2:0.
+    /// Whether two luma rows share a chroma row, as in 4:2:0.
     pub shares_rows: bool,
 }
 
-/// The decimal number that the bytes spell, if it is from `low` to `high`.
+/// Parses a decimal number from `low` to `high`.
 pub(crate) fn number_within(bytes: &[u8], low: u64, high: u64) -> Option<u64>
     ensures value { result ≡ number_within low high bytes.now }
     ensures limits { IfSome result (λ n. (low ≤ n) × (n ≤ high)) }
@@ -36,7 +36,7 @@ pub(crate) fn number_within(bytes: &[u8], low: u64, high: u64) -> Option<u64>
     }
 }
 
-/// The place of the first colon.
+/// The index of the first colon.
 fn colon_of(bytes: &[u8]) -> Option<usize>
     ensures value { result ≡ position (λ b. b == 58) bytes.now }
     ensures inside { IfSome result (λ n. n < length bytes.now) }
@@ -44,7 +44,7 @@ fn colon_of(bytes: &[u8]) -> Option<usize>
     bytes.iter().position(|b| *b == b':')
 }
 
-/// The rate of two numbers; 0 and 0 leave it open, which is 25:1.
+/// The rate `num:den`; `0:0` is unspecified, and means 25:1.
 fn rate_from(num: u64, den: u64) -> Option<Rate>
     requires num { num ≤ MAX_RATE_NUM }
     requires den { den ≤ MAX_RATE_DEN }
@@ -63,7 +63,7 @@ fn rate_from(num: u64, den: u64) -> Option<Rate>
     })
 }
 
-/// The rate `a:b`; `0:0` leaves it open, which is 25:1.
+/// Parses the rate `a:b`; `0:0` is unspecified, and means 25:1.
 #[tactic(auto, unfolding(crate::specs::Values::rate_of))]
 pub(crate) fn rate_of(bytes: &[u8]) -> Option<Rate>
     ensures value { result ≡ rate_of bytes.now }
@@ -75,14 +75,14 @@ pub(crate) fn rate_of(bytes: &[u8]) -> Option<Rate>
     rate_from(num, den)
 }
 
-/// Whether the bytes are those of a word.
+/// Whether the bytes spell this word.
 pub(crate) fn is(bytes: &[u8], word: &[u8]) -> bool
     ensures { result ≡ bytes_eq bytes.now word.now }
 {
     bytes == word
 }
 
-/// How frames are made of pictures: `p` or `?` progressive, `t` the top field first, `b` the bottom field first.
+/// The interlacing: `p` or `?` progressive, `t` top field first, `b` bottom field first.
 #[tactic(auto, unfolding(crate::specs::Values::interlace_of))]
 pub(crate) fn interlace_of(bytes: &[u8]) -> Option<Interlace>
     ensures { result ≡ interlace_of bytes.now }
@@ -98,7 +98,7 @@ pub(crate) fn interlace_of(bytes: &[u8]) -> Option<Interlace>
     }
 }
 
-/// 4:2:0 with 8 bits, by any of its tags, which differ in where chroma is sited.
+/// Whether this is a tag of 8-bit 4:2:0; the tags differ in chroma siting.
 #[tactic(auto, unfolding(crate::specs::Values::is_shared))]
 fn is_shared(bytes: &[u8]) -> bool
     ensures { result ≡ is_shared bytes.now }
@@ -106,7 +106,7 @@ fn is_shared(bytes: &[u8]) -> bool
     is(bytes, b"420") || is(bytes, b"420jpeg") || is(bytes, b"420mpeg2") || is(bytes, b"420paldv")
 }
 
-/// The depth that the end of a tag names.
+/// The bit depth by the end of a tag.
 #[tactic(auto, unfolding(crate::specs::Values::depth_of))]
 fn depth_of(bytes: &[u8]) -> Option<Depth>
     ensures { result ≡ depth_of bytes.now }
@@ -122,7 +122,7 @@ fn depth_of(bytes: &[u8]) -> Option<Depth>
     }
 }
 
-/// The sampling and the depth that a tag names.
+/// The subsampling and the bit depth by a tag.
 #[tactic(auto, unfolding(crate::specs::Values::format_of))]
 pub(crate) fn format_of(bytes: &[u8]) -> Option<Format>
     ensures { result ≡ format_of bytes.now }

@@ -1,4 +1,4 @@
-//! Writing pictures one after the other.
+//! Writes pictures in order.
 
 ghost use Rattle.std.specs.Prelude.{◌≡◌, ◌≤◌, IfOk, OnOk, OnErr, is_err};
 ghost use Rattle.pw_outside.specs.Ports.{CountsFault};
@@ -15,7 +15,7 @@ use pw_text::{put_decimal, put_words};
 use std::alloc::Global;
 use std::marker::Model;
 
-/// Why writing ended.
+/// Why writing failed.
 #[derive(Clone, Copy, Debug, PartialEq, Eq)]
 pub enum WriteEnd {
     /// A call of the sink failed.
@@ -24,7 +24,7 @@ pub enum WriteEnd {
     NoMemory,
 }
 
-/// The letter of the parameter `I`.
+/// The letter of parameter `I`.
 fn mode_text(interlace: Interlace) -> &'static str
     ensures { result.now ≡ mode_text interlace }
 {
@@ -35,7 +35,7 @@ fn mode_text(interlace: Interlace) -> &'static str
     }
 }
 
-/// The sampling in the tag of the parameter `C`.
+/// The subsampling in the tag of parameter `C`.
 fn sampling_text(chroma: Chroma) -> &'static str
     ensures { result.now ≡ sampling_text chroma }
 {
@@ -45,7 +45,7 @@ fn sampling_text(chroma: Chroma) -> &'static str
     }
 }
 
-/// The depth in the tag of the parameter `C`.
+/// The bit depth in the tag of parameter `C`.
 fn depth_text(depth: Depth) -> &'static str
     ensures { result.now ≡ depth_text depth }
 {
@@ -96,7 +96,7 @@ fn put_frame<K: ByteSink>(sink: &mut K, depth: Depth, picture: &Picture) -> Resu
     put_samples(sink, size, picture.cr.samples())
 }
 
-/// Writes pictures of one form one after the other. Alpha isn't written.
+/// Writes pictures of one form in order. Alpha isn't written.
 #[derive(Drop)]
 pub struct Y4mWriter {
     head: Head,
@@ -113,17 +113,17 @@ impl Model for Y4mWriter {
 impl Y4mWriter {
     /// Writes the head line.
     ///
-    /// The errors are `Failed` where a call of the sink failed, and `NoMemory`.
+    /// The errors are `Failed` if a call of the sink failed, and `NoMemory`.
     pub fn start<K: ByteSink>(
         alloc: Global,
         sink: &mut K,
         head: &Head,
     ) -> Result<Y4mWriter, WriteEnd>
-        // The head line is appended: all of it, or after `Failed` a part from its front, or after `NoMemory` nothing.
+        // The head line is appended: all of it; after `Failed` a prefix, after `NoMemory` nothing.
         ensures bytes { Writes result (sink_state (K.held sink.old) (K.taken sink.old)) (sink_state (K.held sink.new) (K.taken sink.new)) (head_bytes head.now) }
         ensures writer { IfOk result (λ w. w ≡ head.now) }
         ensures settled { K.settled sink.old ≤ K.settled sink.new }
-        // The error is `Failed` only where a call of the sink failed, and each such call is answered by it.
+        // The error is `Failed` exactly if a call of the sink failed.
         ensures cause { CountsFault (K.faults sink.old) (K.faults sink.new) (write_failed result) }
     {
         let text = match head_text(alloc, head) {
@@ -136,16 +136,16 @@ impl Y4mWriter {
         }
     }
 
-    /// Writes a picture of the form of the head. No memory is taken.
+    /// Writes a picture of the head's form. Takes no memory.
     ///
-    /// The error is `Failed` where a call of the sink failed.
+    /// The error is `Failed` if a call of the sink failed.
     pub fn picture<K: ByteSink>(&mut self, sink: &mut K, picture: &Picture) -> Result<(), WriteEnd>
         requires { HasForm self.old picture.now }
-        // The frame is appended: all of it, or after `Failed` a part from its front.
+        // The frame is appended: all of it, or after `Failed` a prefix.
         ensures bytes { Writes result (sink_state (K.held sink.old) (K.taken sink.old)) (sink_state (K.held sink.new) (K.taken sink.new)) (frame_bytes self.old.depth picture.now) }
         ensures same { self.new ≡ self.old }
         ensures settled { K.settled sink.old ≤ K.settled sink.new }
-        // An error is `Failed`, only where a call of the sink failed, and each such call is answered by it.
+        // The only error is `Failed`, exactly if a call of the sink failed.
         ensures failed { write_failed result ≡ is_err result }
         ensures cause { CountsFault (K.faults sink.old) (K.faults sink.new) (write_failed result) }
     {

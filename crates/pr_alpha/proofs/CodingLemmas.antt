@@ -1,23 +1,18 @@
 -- Writing values one by one.
-use Rattle.std.proofs.Common.{◌≡◌, ℕ, zero, suc, ◌+◌, ◌-◌, ◌%◌, ◌<◌, inl, inr, Bool, List, [], ◌∷◌, ◌++◌, length, take, take_at, drop, get_or, replicate, Result, Ok, Err, OnErr, refl, ap, sym, ◌∙◌, subst, arith, append_assoc, append-nil}
+use Rattle.std.proofs.Common.{◌≡◌, ℕ, zero, suc, ◌+◌, ◌-◌, ◌<◌, inl, inr, Bool, List, [], ◌∷◌, ◌++◌, length, take, drop, get_or, replicate, refl, ap, sym, ◌∙◌, subst, arith, append_assoc, append-nil}
 use Rattle.std.proofs.lemmas.Bool.{cases_eq, ne_eqb, eq-eqb}
 use Rattle.std.proofs.lemmas.List.{take_all, drop_more, take-append-drop, length-drop}
-use Rattle.std.specs.Io.KnownBytes.{Appends}
-use Rattle.pw_outside.specs.Ports.{taken_more}
-use Rattle.pw_outside.specs.Writing.{sink_state, Puts, PutsFront}
-use Rattle.pw_bits.specs.Bits.{bytes, whole, left, padding, zeros}
 use Rattle.pw_bits.specs.Writing.{Written, Writes, Begins}
-use Rattle.pw_bits.proofs.BitsLemmas.{length-left_mod}
 use Rattle.pw_bits.proofs.WritingLemmas.{Begins-first, Begins-second}
 use Rattle.pr_alpha.specs.Alpha.{Same, joined, rows, row_words, rows_words, spelling, greatest}
 use Rattle.pr_alpha.specs.inner.Writing.{words_behind, Codes}
 use Rattle.pr_alpha.specs.declared.write.Coding.{Coding}
 
--- the row whose words are still to be written
+-- the row whose codewords are still to be written
 abbrev pub row : Coding → Same
 row s = record { value = s.value; further = s.further }
 
--- ---- rows of values behind others
+-- ---- rows of values after others
 
 -- rows begin with a row of the first value
 record Begun (v : ℕ) (ss : List Same) : Type 0 where
@@ -41,7 +36,7 @@ begun v (s ∷ ss) = elim (cases_eq v s.value) [
       record { first = record { value = v; further = 0 }; others = s ∷ ss; is = other_first v s ss ne; value = refl }
 ]
 
--- equal values in front of another one are a row
+-- equal values before another one are a row
 pub rows_next : (k x v : ℕ) (rest : List ℕ) → (v ≡ x → ⊥) → rows (replicate (suc k) x ++ v ∷ rest) ≡ record { value = x; further = k } ∷ rows (v ∷ rest)
 rows_next zero x v rest ne =
     let b = begun v (rows rest) in
@@ -95,7 +90,7 @@ pub cut_values : {n : ℕ} {s t : Coding} {a : List ℕ} {w : List Bool} {before
     Codes n s t a w → Writes before mid w → Begins mid after (words_behind n t more) → Begins before after (words_behind n s (a ++ more))
 cut_values {n} {s} {t} {a} {w} {before} {mid} {after} more c a' b = subst (Begins before after) (sym (c.any more)) (Begins-second a' b)
 
--- all words, where no values follow
+-- all codewords, if no values follow
 pub words_all : {n : ℕ} {s t : Coding} {a : List ℕ} {w : List Bool} → Codes n s t a w → words_behind n s a ≡ w ++ row_words n t.before (row t)
 words_all {n} {s} {t} {a} {w} c =
     ap (words_behind n s) (sym (append-nil a)) ∙ c.any [] ∙ ap (λ l. w ++ rows_words n t.before l) (rows_last t.further t.value)
@@ -106,7 +101,7 @@ unfolding spelling
 first_words n v s [] some first is = absurd (omega arith)
 first_words n v s (x ∷ values) some first is = ap (λ (t : Coding). words_behind n t values) is ∙ ap (λ y. rows_words n (greatest n) (rows (y ∷ values))) (sym first)
 
--- the words of all values, by the first one
+-- the codewords of all values, by the first one
 pub words_first : (n before : ℕ) (values : List ℕ) → 0 < length values → before ≡ greatest n →
     words_behind n (record { before = before; value = get_or values 0 0; further = 0 }) (take (length values - 1) (drop 1 values)) ≡ spelling n values
 words_first n before values some is =
@@ -120,27 +115,3 @@ pub value_cut : (values : List ℕ) (i : ℕ) → i < length values → take i v
 value_cut values i h = ap (λ l. take i values ++ l) (sym (drop_more values i 0 h)) ∙ take-append-drop i values
 
 -- ---- the end
-
-pub any_err : {T E : Type 0} {P : Type 0} (r : Result T E) → P → OnErr r P
-any_err (Ok x) p = tt
-any_err (Err e) p = p
-
-padding_left : (l : List Bool) → padding (left l) ≡ padding l
-padding_left l = ap (λ n. zeros ((8 - n) % 8)) (let e : length (left l) % 8 ≡ length l % 8 = omega (arith, length-left_mod l) in e)
-
-pub padding_behind : {before after : Written} {l : List Bool} → Writes before after l → before.pending ≡ [] → padding after.pending ≡ padding l
-padding_behind {before} {after} {l} w e = ap padding (w.pending ∙ ap (λ p. left (p ++ l)) e) ∙ padding_left l
-
-pub front_of : {before after : Written} {k : List Bool} (l : List Bool) → Begins before after k → before.pending ≡ [] → k ≡ l ++ padding l →
-    PutsFront (sink_state before.held before.taken) (sink_state after.held after.taken) (bytes l)
-front_of {before} {after} {k} l b none e =
-    let all : b.front ++ b.rest ≡ bytes l = b.parts ∙ ap (λ p. whole (p ++ k)) none ∙ ap whole e in
-    let same : take (length b.front) (bytes l) ≡ b.front = ap (take (length b.front)) (sym all) ∙ take_at b.front b.rest (length b.front) refl in
-    record {
-      out = length b.front;
-      front = subst (Puts (sink_state before.held before.taken) (sink_state after.held after.taken)) (sym same) (record { bytes_held = b.bytes; count = b.taken });
-    }
-
-pub all_of : (before after : Written) (l : List Bool) → Appends before.held after.held (bytes l) → after.taken ≡ taken_more before.taken (length (bytes l)) →
-    Puts (sink_state before.held before.taken) (sink_state after.held after.taken) (bytes l)
-all_of before after l held taken = record { bytes_held = held; count = taken }

@@ -1,8 +1,7 @@
--- What a reader's steps say of the bits at the front.
+-- What a reader's steps say about the bits at the front.
 use Rattle.std.proofs.Common.{◌≡◌, ℕ, zero, suc, ◌+◌, ◌-◌, ◌^◌, ◌<◌, ◌≤◌, Bool, true, false, List, [], ◌∷◌, ◌++◌, length, take, drop, replicate, Result, Ok, Err, refl, ap, sym, ◌∙◌, subst, arith, append_assoc, append-nil, length-append}
 use Rattle.std.proofs.lemmas.Bool.{lt-ltb, le-ltb, ne_eqb}
 use Rattle.std.proofs.lemmas.List.{take_at, length-replicate}
-use Rattle.std.specs.Prelude.{OnOk, IfErr, IfOk}
 use Rattle.pr_alpha.specs.Alpha.{greatest, moved, AreBelow}
 use Rattle.pr_alpha.specs.Reading.{Fault, wanting, past, ◌>>=◌, number_at, size_behind, moved_by, numbered, value_behind, brief_then, run_at, Found, run_then, value_then, step_behind, step_at, with_found, values_at, alpha_at}
 use Rattle.pr_alpha.specs.Calls.{IsFault, IsEnd}
@@ -10,13 +9,13 @@ use Rattle.pr_alpha.specs.declared.read.AlphaFault.{AlphaFault}
 use Rattle.pr_alpha.specs.declared.read.AlphaFault.TheVariants as faults
 use Rattle.pr_alpha.proofs.StepLemmas.{values_none, values_some}
 
--- a fault of what is read goes over to what it is part of
+-- an error of a sub-parser is the parser's error
 pub fault_whole : {A B : Type 0} (f : AlphaFault) (part : Result A Fault) (whole : Result B Fault) → ((x : Fault) → part ≡ Err x → whole ≡ Err x) → IsFault f part → IsFault f whole
 fault_whole faults.AlphaShort part whole h e = h wanting e
 fault_whole faults.AlphaPast part whole h e = h past e
 fault_whole faults.Failed part whole h e = tt
 
--- the want of a bit is a fault of what begins with one
+-- a missing bit is a fault of what begins with one
 pub end_whole : {B : Type 0} (f : AlphaFault) (l : List Bool) (whole : Result B Fault) → (l ≡ [] → whole ≡ Err wanting) → IsEnd f l → IsFault f whole
 end_whole faults.AlphaShort l whole h e = h e
 end_whole faults.AlphaPast l whole h e = absurd e
@@ -31,9 +30,6 @@ module _ (n before : ℕ) (first : Bool) (l : List Bool) where
   pub value_is : (d : ℕ) (rest : List Bool) (size v : ℕ) → size ≡ size_behind n first → number_at size l ≡ Ok (d, rest) → v ≡ moved n before (numbered first d) → value_behind n before first l ≡ Ok (v, rest)
   value_is d rest size v is e value =
       ap (λ k. number_at k l >>= moved_by n before first) (sym is) ∙ ap (λ r. r >>= moved_by n before first) e ∙ ap (λ x. Ok (x, rest)) (sym value)
-
-  pub value_fails : (x : Fault) (size : ℕ) → size ≡ size_behind n first → number_at size l ≡ Err x → value_behind n before first l ≡ Err x
-  value_fails x size is e = ap (λ k. number_at k l >>= moved_by n before first) (sym is) ∙ ap (λ r. r >>= moved_by n before first) e
 
 -- ---- runs
 
@@ -116,7 +112,7 @@ pub values_end : (front : List ℕ) (turns n before wants : ℕ) (l : List Bool)
 values_end front turns n before wants l none =
     ap (λ w. with_front front (values_at turns n before w l)) none ∙ ap (with_front front) (values_none turns n before l) ∙ ap Ok (append-nil front)
 
--- what the loop has read behind a row
+-- what the loop has read after a row
 pub rows_read : (n m bits before v done count turns : ℕ) (long : Bool) (front : List ℕ) (l rest start : List Bool) → m ≡ n → done < n → n - done ≤ turns →
     values_at n bits (greatest bits) n start ≡ with_front front (values_at turns bits before (n - done) (long ∷ l)) →
     step_behind bits before (m - done) long l ≡ Ok (record { value = v; count = count; rest = rest }) →
@@ -128,7 +124,7 @@ rows_read n m bits before v done count turns long front l rest start same inside
 
 -- ---- the values in memory
 
--- a row behind those that were read
+-- a row after those that were read
 pub set_front : (old new : List ℕ) (front : List ℕ) (done count v : ℕ) → length front ≡ done → take done old ≡ front → new ≡ take done old ++ (replicate count v ++ drop (done + count) old) →
     take (done + count) new ≡ front ++ replicate count v
 set_front old new front done count v size is e =
@@ -150,9 +146,6 @@ below_both n (v ∷ a) b x y (suc i) = below_both n a b (λ i. x (suc i)) y i
 pub below_more : (n count v : ℕ) (front : List ℕ) → v < 2 ^ n → AreBelow n front → AreBelow n (front ++ replicate count v)
 below_more n count v front h x = below_both n front (replicate count v) x (below_row n count v h)
 
-pub below_same : (n count v : ℕ) → v < 2 ^ n → AreBelow n (replicate count v)
-below_same n count v h = below_row n count v h
-
 pub below_none : (n : ℕ) → 0 < 2 ^ n → AreBelow n []
 below_none n h i = h
 
@@ -161,17 +154,3 @@ below_none n h i = h
 pub whole_values : (count n : ℕ) (l m : List Bool) (b : Bool) → l ≡ b ∷ m → alpha_at count n l ≡ values_at count n (greatest n) count (b ∷ m)
 unfolding alpha_at
 whole_values count n l m b e = ap (alpha_at count n) e
-
--- ---- an exit
-
-pub on_ok_weaker : {T E P Q : Type 0} (r : Result T E) → (P → Q) → OnOk r P → OnOk r Q
-on_ok_weaker (Ok x) f p = f p
-on_ok_weaker (Err e) f p = tt
-
-pub if_ok_weaker : {T E : Type 0} {P Q : T → Type 0} (r : Result T E) → ((x : T) → P x → Q x) → IfOk r P → IfOk r Q
-if_ok_weaker (Ok x) f p = f x p
-if_ok_weaker (Err e) f p = tt
-
-pub if_err_weaker : {T E : Type 0} {P Q : E → Type 0} (r : Result T E) → ((e : E) → P e → Q e) → IfErr r P → IfErr r Q
-if_err_weaker (Ok x) f p = tt
-if_err_weaker (Err e) f p = f e p

@@ -1,4 +1,4 @@
--- The one spelling of values, row by row.
+-- The canonical coding of values, row by row.
 use Rattle.std.proofs.Common.{◌≡◌, ℕ, suc, ◌+◌, ◌-◌, ◌*◌, ◌%◌, ◌^◌, ◌<◌, ◌≤◌, ◌⊎◌, ◌&&◌, inl, inr, Bool, true, false, cond, eqb, ltb, leb, List, [], ◌∷◌, ◌++◌, length, replicate, refl, ap, sym, ◌∙◌, subst, arith, append_assoc, length-append, IsTrue}
 use Rattle.std.proofs.lemmas.Bool.{cases_lt, cases_eq, cases_Bool, or_cases, and_parts, and_left, and_right, ltb-true, leb-true, leb-false, le-leb, lt-leb, ne_eqb, eq-eqb, eqb-true, lt-ltb, le-ltb}
 use Rattle.std.proofs.lemmas.List.{length-replicate}
@@ -6,6 +6,7 @@ use Rattle.pw_bits.specs.Bits.{bits_of, bits, padding, bytes}
 use Rattle.std.proofs.lemmas.Nat.{mod_below}
 use Rattle.std.proofs.Math.Nat.{mul-le-mul_left}
 use Rattle.pw_bits.proofs.BitsLemmas.{length-bits_of, bits-bytes, bits_of-one, bits_of_small, pow_suc}
+use Rattle.pw_bits.proofs.SpelledLemmas.{length_of_bits}
 use Rattle.pr_alpha.proofs.StepLemmas.{bit, short_bits, words_more, words_last}
 use Rattle.pr_alpha.specs.Alpha.{Difference, long, short, Run, none, brief, wide, Step, is_width, short_size, greatest, difference_word, run_word, moved, run_length, FitsDifference, FitsRun, AreSteps, given, words, StepsStand, Stands, Same, joined, rows, ahead, difference_of, run_of, row_words, rows_words, spelling, alpha, AreBelow}
 
@@ -13,9 +14,9 @@ use Rattle.pr_alpha.specs.Alpha.{Difference, long, short, Run, none, brief, wide
 pub widths : (n : ℕ) → IsTrue (is_width n) → (n ≡ 8) ⊎ (n ≡ 16)
 widths n h = elim (or_cases (eqb n 8) (eqb n 16) h) [ inl a ↦ inl (eqb-true n 8 a) | inr b ↦ inr (eqb-true n 16 b) ]
 
--- ---- the spelling of a difference
+-- ---- the coding of a difference
 
--- the three spellings, by how far a value is ahead
+-- the three codings, by the difference
 pub difference_cases : (n before v : ℕ) (Q : Difference → Type 0) →
     (0 < ahead n before v → ahead n before v ≤ 2 ^ short_size n → Q (short (ahead n before v - 1) false)) →
     (2 ^ n ≤ ahead n before v + 2 ^ short_size n → Q (short (2 ^ n - ahead n before v - 1) true)) → Q (long (ahead n before v)) →
@@ -58,7 +59,7 @@ moves n before v w h k = elim (widths n w) [
       subst (λ m. Moves m before v (difference_of m before v)) (sym e) (moves_16 before v (subst (λ m. before < 2 ^ m) e h) (subst (λ m. v < 2 ^ m) e k))
 ]
 
--- ---- the spelling of a run
+-- ---- the coding of a run
 
 pub run_cases : (k : ℕ) (Q : Run → Type 0) → (k ≡ 0 → Q none) → (0 < k → k ≤ 15 → Q (brief k)) → (15 < k → Q (wide k)) → Q (run_of k)
 unfolding run_of
@@ -202,7 +203,7 @@ stands_again n values w some few below =
       is = bits-bytes l ∙ ap (λ x. x ++ padding l) (s.is ∙ ap (λ m. words n m s.steps ++ s.rest) (ap length e)) ∙ append_assoc (words n (length values) s.steps) s.rest (padding l);
     })
 
--- ---- how long words are
+-- ---- lengths of codewords
 
 small_short : (n : ℕ) → IsTrue (is_width n) → short_size n + 2 ≤ n + 1
 small_short n w = elim (widths n w) [ inl e ↦ rw e (omega arith) | inr e ↦ rw e (omega arith) ]
@@ -235,12 +236,8 @@ fewer_rows : (vs : List ℕ) → length (rows vs) ≤ length vs
 fewer_rows [] = omega arith
 fewer_rows (v ∷ vs) = omega (arith, fewer_joined v (rows vs), fewer_rows vs)
 
-length-bits : (b : List ℕ) → length (bits b) ≡ 8 * length b
-length-bits [] = refl
-length-bits (x ∷ b) = omega (arith, length-append (bits_of 8 x) (bits b), length-bits_of 8 x, length-bits b)
-
 length-bytes : (l : List Bool) → 8 * length (bytes l) ≤ length l + 7
-length-bytes l = omega (arith, length-bits (bytes l), ap length (bits-bytes l), length-append l (padding l), length-replicate ((8 - length l % 8) % 8) false)
+length-bytes l = omega (arith, length_of_bits (bytes l), ap length (bits-bytes l), length-append l (padding l), length-replicate ((8 - length l % 8) % 8) false)
 
 pub alpha_cost : (n : ℕ) (values : List ℕ) → IsTrue (is_width n) → 8 * length (alpha n values) ≤ (n + 17) * length values + 7
 unfolding alpha spelling
@@ -256,7 +253,7 @@ alpha_few n values w few =
       | inr e ↦ (let c : 8 * length (alpha n values) ≤ 33 * length values + 7 = subst (λ m. 8 * length (alpha n values) ≤ (m + 17) * length values + 7) e cost in omega arith)
     ]
 
--- ---- words as numbers
+-- ---- codewords as numbers
 
 cond_bit : (b : Bool) → cond b 1 0 < 2
 cond_bit true = omega arith
@@ -308,14 +305,14 @@ limit_is n size w is = ap (λ s. 1 * 2 ^ s % 4294967296) is ∙ elim (widths n w
   | inr e ↦ subst (λ m. 1 * 2 ^ short_size m % 4294967296 ≡ 2 ^ short_size m) (sym e) refl
 ]
 
--- a spelling that is ahead leaves no room for one behind
+-- a coding for a positive difference excludes one for a negative difference
 apart : (n d : ℕ) → IsTrue (is_width n) → 2 ^ n ≤ d + 2 ^ short_size n → 2 ^ short_size n < d
 apart n d w h = elim (widths n w) [
   | inl e ↦ subst (λ m. 2 ^ short_size m < d) (sym e) (let k : 2 ^ 8 ≤ d + 2 ^ 3 = subst (λ m. 2 ^ m ≤ d + 2 ^ short_size m) e h in omega arith)
   | inr e ↦ subst (λ m. 2 ^ short_size m < d) (sym e) (let k : 2 ^ 16 ≤ d + 2 ^ 6 = subst (λ m. 2 ^ m ≤ d + 2 ^ short_size m) e h in omega arith)
 ]
 
--- the three spellings
+-- the three codings
 is_ahead : (n before v : ℕ) → 0 < ahead n before v → ahead n before v ≤ 2 ^ short_size n → difference_of n before v ≡ short (ahead n before v - 1) false
 unfolding difference_of
 is_ahead n before v some few = rw (lt-ltb 0 (ahead n before v) some, le-leb (ahead n before v) (2 ^ short_size n) few) refl

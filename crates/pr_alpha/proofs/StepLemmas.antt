@@ -74,7 +74,7 @@ short_bits k m b d e =
 short_of_number : (d : ℕ) → d ≡ 2 * (d / 2) + bit (eqb (d % 2) 1)
 short_of_number d = grind arith
 
--- the word of a difference by its number
+-- the codeword of a difference by its number
 word_numbered : (n : ℕ) (b : Bool) (d : ℕ) → difference_word n (numbered b d) ≡ b ∷ bits_of (size_behind n b) d
 word_numbered n true d = refl
 word_numbered n false d = ap (λ l. false ∷ l) (sym (short_bits (short_size n) (d / 2) (eqb (d % 2) 1) d (short_of_number d)))
@@ -242,7 +242,7 @@ values_some turns n before wants l h =
     let some : eqb wants 0 ≡ false = ne_eqb wants 0 (λ e. omega arith) in
     rw some refl
 
--- the words of steps, while further values are wanting, and where none is
+-- the codewords of steps, if further values are missing, and if none is
 pub words_more : (n wants : ℕ) (s : Step) (ss : List Step) → 1 < wants → words n wants (s ∷ ss) ≡ difference_word n s.difference ++ (run_word s.run ++ words n (wants - suc (run_length s.run)) ss)
 words_more n wants s ss h = rw (lt-ltb 1 wants h) refl
 

@@ -1,10 +1,10 @@
--- What the calls that read answer (our own).
+-- What the calls that read return (our own).
 use Rattle.std.specs.Prelude.{◌≡◌, Bool, true, false, List, [], Result, Ok, Err}
 use Rattle.pr_alpha.specs.Reading.{Fault, wanting, past}
 use Rattle.pr_alpha.specs.declared.read.AlphaFault.{AlphaFault}
 use Rattle.pr_alpha.specs.declared.read.AlphaFault.TheVariants as faults
 
--- The error is the fault that reading the bits finds; a source's failure says nothing of them.
+-- The error is the fault that reading the bits finds; a source's failure says nothing about them.
 abbrev pub IsFault : {A : Type 0} → AlphaFault → Result A Fault → Type 0
 IsFault faults.AlphaShort found = found ≡ Err wanting
 IsFault faults.AlphaPast found = found ≡ Err past
@@ -17,7 +17,7 @@ is_failed (Err faults.AlphaShort) = false
 is_failed (Err faults.AlphaPast) = false
 is_failed (Err faults.Failed) = true
 
--- The error is the want of a bit; a source's failure says nothing of the bits.
+-- The error is a missing bit; a source's failure says nothing about the bits.
 abbrev pub IsEnd : AlphaFault → List Bool → Type 0
 IsEnd faults.AlphaShort l = l ≡ []
 IsEnd faults.AlphaPast l = ⊥

@@ -11,7 +11,7 @@ pub fn alpha_is_read()
         (alpha_at count n l ≡ Ok values) ↔ ((length values ≡ count) × Stands l values n) }
 {}
 
-/// Bits stand for exactly one list of so many values, or have a fault, and never both.
+/// Bits stand for exactly one list of n values, or have a fault, and never both.
 pub fn one_list_or_fault()
     ensures one { (n : ℕ) (l : List Bool) (a b : List ℕ) → length b ≡ length a →
         Stands l a n → Stands l b n → a ≡ b }
@@ -21,13 +21,13 @@ pub fn one_list_or_fault()
         Stands l a n → alpha_at (length a) n l ≡ Err fault → ⊥ }
 {}
 
-/// What was written stands for the values that were written.
+/// The written bytes stand for the values that were written.
 pub fn alpha_is_read_again()
     ensures { (n : ℕ) (values : List ℕ) → IsTrue (is_width n) → 0 < length values → length values ≤ 2048 → AreBelow n values →
         Stands (bits (alpha n values)) values n }
 {}
 
-/// Values of n bits cost at most n + 17 bits each, and the zeros that fill the last byte.
+/// Values of n bits cost at most n + 17 bits each, plus the zeros that fill the last byte.
 pub fn alpha_is_short()
     ensures { (n : ℕ) (values : List ℕ) → IsTrue (is_width n) →
         8 * length (alpha n values) ≤ (n + 17) * length values + 7 }

@@ -4,8 +4,6 @@
 
 mod laws;
 mod read;
-#[cfg(test)]
-mod tests;
 mod width;
 mod write;
 

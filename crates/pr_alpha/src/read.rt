@@ -24,7 +24,7 @@ pub enum AlphaFault {
     Failed,
 }
 
-/// A value, and how often it stands there.
+/// A value, and its number of repetitions.
 #[derive(Clone, Copy)]
 struct Row {
     value: u16,
@@ -69,7 +69,7 @@ fn get_number<S: ByteSource>(
     }
 }
 
-/// How many bits stand behind the first one of a difference.
+/// The number of bits of a difference after its first bit.
 fn size_after(bits: u8, long: bool) -> u8
     requires { IsTrue (is_width bits) }
     ensures size { result ≡ size_behind bits long }
@@ -97,7 +97,8 @@ fn move_on(bits: u8, before: u16, long: bool, number: u32) -> u16
     ((u32::from(before) + ahead) % modulus) as u16
 }
 
-/// Reads the rest of a difference, whose first bit was taken: the value at it from the one before.
+/// Reads the rest of a difference, whose first bit was taken: returns the value at this difference from the one
+/// before.
 fn get_value<S: ByteSource>(
     reader: &mut BitReader,
     source: &mut S,
@@ -121,7 +122,7 @@ fn get_value<S: ByteSource>(
     }
 }
 
-/// Reads a run: how many further equal values there are.
+/// Reads a run: the number of further equal values.
 fn get_run<S: ByteSource>(reader: &mut BitReader, source: &mut S) -> Result<u32, AlphaFault>
     ensures value { IfOk result (λ k. IsSome (S.left source.old) → run_at (unread reader.old (S.left source.old)) ≡ Ok (k, unread reader.new (S.left source.new))) }
     ensures fault { IfErr result (λ e. IsSome (S.left source.old) → IsFault e (run_at (unread reader.old (S.left source.old)))) }
@@ -142,7 +143,7 @@ fn get_run<S: ByteSource>(reader: &mut BitReader, source: &mut S) -> Result<u32,
     }
 }
 
-/// Reads the rest of a step, whose first bit was taken: a difference and, while values are wanting behind it, a run.
+/// Reads the rest of a step, whose first bit was taken: a difference and, if values are missing after it, a run.
 fn get_row<S: ByteSource>(
     reader: &mut BitReader,
     source: &mut S,
@@ -175,7 +176,7 @@ fn get_row<S: ByteSource>(
     }
 }
 
-/// A value and its run, which is judged by the number of values that are wanting.
+/// A value and its run, which is validated against the number of missing values.
 fn row_of(value: u16, run: u32, wanting: usize) -> Result<Row, AlphaFault>
     ensures value { IfOk result (λ r. (r.value ≡ value) × (r.count ≡ run + 1) × (run < wanting)) }
     ensures fault { IfErr result (λ e. (e ≡ AlphaFault.AlphaPast) × (wanting ≤ run)) }
@@ -191,7 +192,7 @@ fn row_of(value: u16, run: u32, wanting: usize) -> Result<Row, AlphaFault>
     }
 }
 
-/// Writes a value at so many places from this one on.
+/// Writes the value of `row` `row.count` times, from index `from` on.
 fn set_row(values: &mut [u16], from: usize, row: Row)
     requires { from + row.count ≤ length values.old }
     ensures { values.new ≡ take from values.old ++ (replicate row.count row.value ++ drop (from + row.count) values.old) }
@@ -199,7 +200,7 @@ fn set_row(values: &mut [u16], from: usize, row: Row)
     values[from..from + row.count].fill(row.value);
 }
 
-/// Reads values, of whose first difference the first bit was taken.
+/// Reads values; the first bit of their first difference was taken.
 fn get_values<S: ByteSource>(
     reader: &mut BitReader,
     source: &mut S,
@@ -239,9 +240,8 @@ fn get_values<S: ByteSource>(
     }
 }
 
-/// Reads 1 to 2,048 values of 8 or 16 bits for which all that is left of the source stands. Data of no bytes stands
-/// for the greatest value everywhere, and what is behind the bits of the last value is passed over. After a refusal
-/// the values are any.
+/// Reads 1 to 2,048 values of 8 or 16 bits from all remaining bytes of the source. Data of no bytes stands for the
+/// greatest value everywhere. The bits after the last value are skipped. After an error the values are arbitrary.
 pub fn read_alpha<S: ByteSource>(
     source: &mut S,
     bits: u8,

@@ -1,9 +1,9 @@
-//! Numbers that depend on how many bits a value has.
+//! Numbers that depend on the bit depth of a value.
 
 ghost use Rattle.std.specs.Prelude.{◌≡◌, ◌^◌, ◌<◌, ◌≤◌, IsTrue};
 ghost use Rattle.pr_alpha.specs.Alpha.{is_width, short_size, greatest};
 
-/// How many bits the magnitude of a short difference has.
+/// The number of bits of a short difference's magnitude.
 pub(crate) fn size_of_short(bits: u8) -> u8
     requires { IsTrue (is_width bits) }
     ensures size { result ≡ short_size bits }

@@ -12,8 +12,8 @@ use crate::width::{greatest_value, size_of_short};
 use pw_bits::BitWriter;
 use pw_outside::{ByteSink, CountSink, Failed};
 
-/// Equal values whose words are still to be written: the value before them, the value itself, and how many
-/// further ones there are.
+/// Equal values whose codewords are still to be written: the value before them, the value itself, and the number of
+/// further ones.
 #[derive(Clone, Copy)]
 struct Coding {
     before: u16,
@@ -21,14 +21,14 @@ struct Coding {
     further: u32,
 }
 
-/// A word: a number in so many bits.
+/// A codeword: a number and its number of bits.
 #[derive(Clone, Copy)]
 struct Word {
     size: u8,
     number: u32,
 }
 
-/// The word of a value's difference to the one before, the short one wherever it fits.
+/// The codeword of a value's difference to the one before, the short one wherever it fits.
 fn word_of_difference(bits: u8, before: u16, value: u16) -> Word
     requires width { IsTrue (is_width bits) }
     requires before { before < 2 ^ bits }
@@ -58,7 +58,7 @@ fn word_of_difference(bits: u8, before: u16, value: u16) -> Word
     }
 }
 
-/// The word of a run of at most 2,047 further values, the short one wherever it fits.
+/// The codeword of a run of at most 2,047 further values, the short one wherever it fits.
 fn word_of_run(further: u32) -> Word
     requires { further < 2 ^ 11 }
     ensures word { bits_of result.size result.number ≡ run_word (run_of further) }
@@ -80,7 +80,7 @@ fn word_of_run(further: u32) -> Word
     }
 }
 
-/// Writes the words of equal values: a difference and a run.
+/// Writes the codewords of equal values: a difference and a run.
 fn put_row<K: ByteSink>(
     writer: &mut BitWriter,
     sink: &mut K,
@@ -104,7 +104,8 @@ fn put_row<K: ByteSink>(
     writer.bits(sink, run.number, run.size)
 }
 
-/// Counts a further equal value, or writes the words of those before and begins others with this value.
+/// Counts a further equal value, or writes the codewords of the equal values so far and begins others with this
+/// value.
 fn put_value<K: ByteSink>(
     coding: &mut Coding,
     writer: &mut BitWriter,
@@ -137,7 +138,7 @@ fn put_value<K: ByteSink>(
     put_row(writer, sink, bits, row)
 }
 
-/// Writes the words of values behind the first, but for those of the last equal ones.
+/// Writes the codewords of values after the first, except those of the last equal ones.
 fn put_values<K: ByteSink>(
     coding: &mut Coding,
     writer: &mut BitWriter,
@@ -166,7 +167,8 @@ fn put_values<K: ByteSink>(
     Ok(())
 }
 
-/// Writes the bytes of 1 to 2,048 values of 8 or 16 bits, the last one filled with zeros. All values are below 2^bits.
+/// Writes the bytes of 1 to 2,048 values of 8 or 16 bits, the last byte filled with zeros. All values are below
+/// 2^bits.
 pub fn write_alpha<K: ByteSink>(values: &[u16], bits: u8, sink: &mut K) -> Result<(), Failed>
     requires width { IsTrue (is_width bits) }
     requires count { (0 < length values.now) × (length values.now ≤ 2 ^ 11) }

@@ -1,4 +1,4 @@
--- What a reader's steps say of the word at the front.
+-- What a reader's steps say of the word at the start.
 use Rattle.std.proofs.Common.{◌≡◌, ℕ, suc, ◌+◌, ◌^◌, ◌<◌, ◌≤◌, Bool, true, List, [], ◌∷◌, ◌++◌, length, Ok, Err, ap, sym, ◌∙◌, subst, arith, append_assoc, append-nil}
 use Rattle.pr_codes.specs.declared.book.Codebook.{Codebook}
 use Rattle.pw_bits.specs.Bits.{bits_of, zeros}

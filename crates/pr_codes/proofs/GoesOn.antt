@@ -1,4 +1,4 @@
--- The word that goes on behind zeros and a 1.
+-- The word that goes on after zeros and a 1.
 use Rattle.std.proofs.Common.{◌≡◌, ℕ, ◌^◌, ◌<◌, ◌≤◌, inl, inr, Bool, true, List, ◌∷◌, ◌++◌, Ok, Err, sym, ap, ◌∙◌, arith, append_assoc}
 use Rattle.std.proofs.lemmas.Bool.{cases_lt}
 use Rattle.pw_bits.specs.Bits.{bits_of, zeros}

@@ -1,10 +1,10 @@
--- What reading a word answers (our own).
+-- What reading a codeword returns (our own).
 use Rattle.std.specs.Prelude.{◌≡◌, ℕ, Bool, true, false, List, Result, Ok, Err}
 use Rattle.pr_codes.specs.Words.{WordFault, at_end, too_large}
 use Rattle.pr_codes.specs.declared.codes.CodeFault.{CodeFault}
 use Rattle.pr_codes.specs.declared.codes.CodeFault.TheVariants as faults
 
--- The answer is the one that reading the bits has, and behind a number's word these bits are left.
+-- The result is what reading the bits gives, and after a number's codeword these bits are left.
 abbrev pub Reads : Result ℕ CodeFault → Result (ℕ × List Bool) WordFault → List Bool → Type 0
 Reads (Ok n) read rest = read ≡ Ok (n, rest)
 Reads (Err faults.End) read rest = read ≡ Err at_end

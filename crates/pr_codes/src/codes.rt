@@ -1,4 +1,4 @@
-//! Words of a book, written and read.
+//! Codewords of a codebook, written and read.
 
 ghost use Rattle.std.specs.Prelude.{◌≡◌, ◌+◌, ◌-◌, ◌^◌, ◌<◌, ◌≤◌, ◌++◌, length, OnOk, OnErr, IfOk, IsSome, IsTrue, is_err, false};
 ghost use Rattle.pw_outside.specs.Ports.{CountsFault, Lowers, GoesOn};
@@ -15,15 +15,15 @@ use pw_outside::{ByteSink, ByteSource, Failed};
 /// Why no number is read.
 #[derive(Clone, Copy, Debug, PartialEq, Eq)]
 pub enum CodeFault {
-    /// The bits end before the word does.
+    /// The bits end before the codeword does.
     End,
-    /// The word has too many zeros, or its number is above 2^20.
+    /// The codeword has too many zeros, or its number is above 2^20.
     TooLarge,
     /// The source failed.
     Failed,
 }
 
-/// A word: zeros, and behind them a number in binary, whose highest bit is a 1.
+/// A codeword: zeros, and after them a number in binary, whose highest bit is 1.
 #[derive(Clone, Copy)]
 struct WordParts {
     zeros: u8,
@@ -41,7 +41,7 @@ fn bit_length(value: u64) -> u8
     64 - value.leading_zeros() as u8
 }
 
-/// The parts of the word of a number.
+/// The parts of a number's codeword.
 fn word_parts(book: Codebook, value: u32) -> WordParts
     requires { IsTrue (is_book book) }
     ensures word { word book value ≡ zeros result.zeros ++ bits_of result.size result.number }
@@ -67,7 +67,7 @@ fn word_parts(book: Codebook, value: u32) -> WordParts
     }
 }
 
-/// A word as one number of so many bits, whose highest are the word's zeros.
+/// A codeword as a number and its count of bits; the codeword's zeros are the highest of them.
 pub fn word_bits(book: Codebook, value: u32) -> (u64, u32)
     requires { IsTrue (is_book book) }
     ensures word { word book value ≡ bits_of result.1 result.0 }
@@ -78,7 +78,7 @@ pub fn word_bits(book: Codebook, value: u32) -> (u64, u32)
     (parts.number, u32::from(parts.zeros + parts.size))
 }
 
-/// The number of bits of a number's word.
+/// The number of bits of a number's codeword.
 pub fn code_length(book: Codebook, value: u32) -> u32
     requires { IsTrue (is_book book) }
     ensures { result ≡ length (word book value) }
@@ -87,7 +87,7 @@ pub fn code_length(book: Codebook, value: u32) -> u32
     u32::from(parts.zeros) + u32::from(parts.size)
 }
 
-/// Writes the word of a number, which is at most 2^20.
+/// Writes the codeword of `number`, which is at most 2^20.
 pub fn put_code<K: ByteSink>(
     writer: &mut BitWriter,
     sink: &mut K,
@@ -112,8 +112,8 @@ pub fn put_code<K: ByteSink>(
     writer.bits(sink, number, parts.size)
 }
 
-/// How many bits stand behind so many zeros and a 1, and the least number of such a word. The zeros are at most
-/// `21 − exp + last`.
+/// Of the codewords that begin with `zeros` zeros and a 1: the number of bits after these, and the least number.
+/// `zeros` is at most `21 − exp + last`.
 pub fn tail_parts(book: Codebook, zeros: u32) -> (u8, u32)
     requires book { IsTrue (is_book book) }
     requires few { zeros ≤ most book }
@@ -132,8 +132,8 @@ pub fn tail_parts(book: Codebook, zeros: u32) -> (u8, u32)
     }
 }
 
-/// Reads the rest of a word, whose zeros, at most `21 − exp + last`, and whose 1 were taken before: the one number whose
-/// word goes on there.
+/// Reads the rest of a codeword whose `zeros` zeros, at most `21 − exp + last`, and whose 1 were taken before, and
+/// returns its number.
 pub fn get_after<S: ByteSource>(
     reader: &mut BitReader,
     source: &mut S,
@@ -158,7 +158,7 @@ pub fn get_after<S: ByteSource>(
     }
 }
 
-/// Reads the number whose word stands at the front.
+/// Reads the next codeword and returns its number.
 pub fn get_code<S: ByteSource>(
     reader: &mut BitReader,
     source: &mut S,

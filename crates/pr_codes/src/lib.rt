@@ -1,11 +1,10 @@
-//! Codewords: the numbers of a bit stream in the Golomb combination codes of SMPTE RDD 36. No call takes memory.
+//! Codewords: numbers in a bitstream by the Golomb combination codes of SMPTE RDD 36, entropy coding. No call takes
+//! memory.
 #![tactic(auto)]
 
 mod book;
 mod codes;
 mod laws;
-#[cfg(test)]
-mod tests;
 
 pub use book::Codebook;
 pub use codes::{CodeFault, code_length, get_after, get_code, put_code, tail_parts, word_bits};

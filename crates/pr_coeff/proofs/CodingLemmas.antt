@@ -1,14 +1,11 @@
--- One word after another.
-use Rattle.std.specs.Io.KnownBytes.{Appends}
-use Rattle.pw_outside.specs.Ports.{taken_more}
-use Rattle.std.proofs.Common.{◌≡◌, ℕ, suc, zero, ◌+◌, ◌-◌, ◌%◌, ◌^◌, ◌<◌, ◌≤◌, length, take, drop, take_at, get_or, append_assoc, append-nil, nat_abs, Bool, true, false, List, [], ◌∷◌, ◌++◌, ℤ, pos, negsuc, ◌-ℤ◌, Result, Ok, Err, OnErr, refl, ap, sym, ◌∙◌, subst, arith}
+-- One codeword after another.
+use Rattle.std.proofs.Common.{◌≡◌, ℕ, suc, zero, ◌+◌, ◌-◌, ◌^◌, ◌<◌, ◌≤◌, length, take, drop, get_or, append_assoc, append-nil, nat_abs, Bool, true, false, List, [], ◌∷◌, ◌++◌, ℤ, pos, negsuc, ◌-ℤ◌, refl, ap, sym, ◌∙◌, subst, arith}
 use mir.Val.{bool_byte, to_z, of_z}
 use mir.Syntax.{w16, w32}
 use Rattle.std.proofs.lemmas.Int.{ints, to_z-of_z}
 use lib.Signed.{lt_z}
 use Rattle.pr_codes.specs.declared.book.Codebook.{Codebook}
-use Rattle.pw_bits.specs.Bits.{bits_of, bytes, whole, left, padding, zeros}
-use Rattle.pw_bits.proofs.BitsLemmas.{length-left_mod}
+use Rattle.pw_bits.specs.Bits.{bits_of, zeros}
 use Rattle.pw_bits.specs.Writing.{Written, Writes, Begins}
 use Rattle.pw_bits.proofs.WritingLemmas.{Begins-first, Begins-second}
 use Rattle.pr_codes.specs.Words.{word, book}
@@ -20,7 +17,6 @@ use Rattle.std.proofs.lemmas.List.{take_more, drop_more, take-append-drop}
 use Rattle.pr_coeff.specs.declared.write.Coding.{Coding}
 use Rattle.pr_coeff.specs.declared.write.Differences.{Differences}
 use Rattle.pr_coeff.specs.inner.Writing.{triple_words, Codes, CodesDc}
-use Rattle.pw_outside.specs.Writing.{sink_state, Puts, PutsFront}
 
 -- ---- a run, a level and a sign
 
@@ -90,7 +86,7 @@ pub cut_values : {s t : Coding} {vs : List ℤ} {w : List Bool} {before mid afte
     Codes s t vs w → Writes before mid w → Begins mid after (ac_words t.run t.magnitude t.zeros more) → Begins before after (ac_words s.run s.magnitude s.zeros (vs ++ more))
 cut_values {s} {t} {vs} {w} {before} {mid} {after} more c a b = subst (Begins before after) (sym (c.any more)) (Begins-second a b)
 
--- all words, where no coefficients follow
+-- all codewords, if no coefficients follow
 pub Codes-all : {s t : Coding} {vs : List ℤ} {w : List Bool} → Codes s t vs w → w ≡ ac_words s.run s.magnitude s.zeros vs
 Codes-all {s} {t} {vs} {w} c = sym (ap (ac_words s.run s.magnitude s.zeros) (sym (append-nil vs)) ∙ c.any [] ∙ append-nil w)
 
@@ -153,7 +149,7 @@ kept_wide (negsuc n) h = to_z-of_z w32 (negsuc n) (grind (arith, ints))
 pub small_at : (blocks : List (List ℤ)) (place i : ℕ) → i < length blocks → AllSmall (column blocks place) → nat_abs (get_or (get_or blocks i []) place (pos 0)) ≤ 32767
 small_at blocks place i h a = subst IsSmall (column-at blocks place i h) (AllSmall_at (column blocks place) i a)
 
--- ---- places
+-- ---- positions
 
 pub listed-append : (a b : List ℕ) (blocks : List Block) → listed (a ++ b) blocks ≡ listed a blocks ++ listed b blocks
 listed-append [] b blocks = refl
@@ -172,10 +168,6 @@ listed_cut ps blocks i h =
 
 -- ---- an exit
 
-pub any_err : {T E : Type 0} {P : Type 0} (r : Result T E) → P → OnErr r P
-any_err (Ok x) p = tt
-any_err (Err e) p = p
-
 -- ---- a whole component
 
 pub all_first : (blocks : List Block) → 0 < length blocks →
@@ -186,26 +178,6 @@ all_first (b ∷ bs) h = refl
 pub column_drop : (blocks : List Block) (p : ℕ) → AllSmall (column blocks p) → AllSmall (column (drop 1 blocks) p)
 column_drop [] p h = h
 column_drop (b ∷ bs) p h = h.1
-
-padding_left : (l : List Bool) → padding (left l) ≡ padding l
-padding_left l = ap (λ n. zeros ((8 - n) % 8)) (let e : length (left l) % 8 ≡ length l % 8 = omega (arith, length-left_mod l) in e)
-
-pub padding_behind : {before after : Written} {l : List Bool} → Writes before after l → before.pending ≡ [] → padding after.pending ≡ padding l
-padding_behind {before} {after} {l} w e = ap padding (w.pending ∙ ap (λ p. left (p ++ l)) e) ∙ padding_left l
-
-pub front_of : {before after : Written} {k : List Bool} (l : List Bool) → Begins before after k → before.pending ≡ [] → k ≡ l ++ padding l →
-    PutsFront (sink_state before.held before.taken) (sink_state after.held after.taken) (bytes l)
-front_of {before} {after} {k} l b none e =
-    let all : b.front ++ b.rest ≡ bytes l = b.parts ∙ ap (λ p. whole (p ++ k)) none ∙ ap whole e in
-    let same : take (length b.front) (bytes l) ≡ b.front = ap (take (length b.front)) (sym all) ∙ take_at b.front b.rest (length b.front) refl in
-    record {
-      out = length b.front;
-      front = subst (Puts (sink_state before.held before.taken) (sink_state after.held after.taken)) (sym same) (record { bytes_held = b.bytes; count = b.taken });
-    }
-
-pub all_of : (before after : Written) (l : List Bool) → Appends before.held after.held (bytes l) → after.taken ≡ taken_more before.taken (length (bytes l)) →
-    Puts (sink_state before.held before.taken) (sink_state after.held after.taken) (bytes l)
-all_of before after l held taken = record { bytes_held = held; count = taken }
 
 pub three_parts : (a b c : List Bool) → a ++ (b ++ c) ≡ (a ++ b) ++ c
 three_parts a b c = sym (append_assoc a b c)

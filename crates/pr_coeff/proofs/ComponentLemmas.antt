@@ -1,4 +1,4 @@
--- Laws of the words of a component.
+-- Laws of the codewords of a component.
 use Rattle.std.proofs.Common.{◌≡◌, ℕ, zero, suc, ◌+◌, ◌-◌, ◌*◌, ◌/◌, ◌%◌, ◌^◌, ◌<◌, ◌≤◌, inl, inr, Bool, true, false, cond, eqb, ltb, leb, List, [], ◌∷◌, ◌++◌, length, replicate, Result, Ok, Err, refl, ap, sym, ◌∙◌, subst, arith, length-append, append_assoc, append-nil, ℤ, pos, negsuc, ◌+ℤ◌, ◌-ℤ◌, nat_abs}
 use Rattle.std.proofs.lemmas.Bool.{cases_lt, leb-true, le-leb, ltb-true, lt-ltb, ne_eqb, eq-eqb, eqb-true}
 use Rattle.std.proofs.lemmas.List.{length-replicate}
@@ -50,7 +50,7 @@ abs-turned false v = refl
 pub abs-sub : (a b : ℤ) → nat_abs (a -ℤ b) ≤ nat_abs a + nat_abs b
 abs-sub a b = omega (arith, ints)
 
--- ---- the books
+-- ---- the codebooks
 
 book_if : (b : Bool) (x y : Codebook) → is_book x ≡ true → is_book y ≡ true → is_book (cond b x y) ≡ true
 book_if true x y p q = p
@@ -231,7 +231,7 @@ triple_found room run magnitude l t e =
       | inr over ↦ absurd (cc)
     ]
 
--- no word is zeros alone
+-- no codeword is zeros alone
 pub word_has_one : (b : Codebook) (n : ℕ) (rest : List Bool) → no_ones (word b n ++ rest) ≡ false
 word_has_one b n rest =
     let p = parts b n in
@@ -245,7 +245,7 @@ no_ones_zeros z = eq-eqb _ _ (leading_of_zeros z ∙ sym (length-replicate z fal
 pub no_ones_means : (l : List Bool) → no_ones l ≡ true → l ≡ zeros (leading l)
 no_ones_means l h = leading_all l (eqb-true _ _ h)
 
--- k zeros in front of values are kept beside them
+-- k zeros before values are kept beside them
 pub ac_words_zeros : (run magnitude k j : ℕ) (vs : List ℤ) → ac_words run magnitude k (replicate j (pos 0) ++ vs) ≡ ac_words run magnitude (k + j) vs
 ac_words_zeros run magnitude k zero vs = ap (λ i. ac_words run magnitude i vs) (let e : k ≡ k + 0 = omega arith in e)
 ac_words_zeros run magnitude k (suc j) vs = ac_words_zeros run magnitude (suc k) j vs ∙ ap (λ i. ac_words run magnitude i vs) (let e : suc k + j ≡ k + suc j = omega arith in e)
@@ -259,7 +259,7 @@ zeros_shift : (k : ℕ) (vs : List ℤ) → replicate (suc k) (pos 0) ++ vs ≡ 
 zeros_shift zero vs = refl
 zeros_shift (suc k) vs = ap (λ m. pos 0 ∷ m) (zeros_shift k vs)
 
--- one turn that reads a triple
+-- one iteration that reads a triple
 values_turn : (turns room run magnitude k m : ℕ) (s : Bool) (l : List Bool) (vs : List ℤ) → k < room → room ≤ 2 ^ 20 → m < 32767 →
     values_at turns (room - k - 1) k (suc m) l ≡ Ok vs →
     values_at (suc turns) room run magnitude (word (run_book run) k ++ (word (level_book magnitude) m ++ s ∷ l)) ≡ Ok (replicate k (pos 0) ++ signed s m ∷ vs)

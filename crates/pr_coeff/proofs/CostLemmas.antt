@@ -2,8 +2,9 @@
 use Rattle.std.proofs.Common.{◌≡◌, ℕ, zero, suc, ◌+◌, ◌-◌, ◌*◌, ◌%◌, ◌^◌, ◌<◌, ◌≤◌, Bool, true, false, List, [], ◌∷◌, ◌++◌, length, drop, get_or, refl, ap, ◌∙◌, subst, arith, length-append, ℤ, pos, negsuc, ◌-ℤ◌, nat_abs}
 use Rattle.std.proofs.lemmas.List.{length-drop, length-replicate}
 use Rattle.pr_codes.specs.declared.book.Codebook.{Codebook}
-use Rattle.pw_bits.specs.Bits.{bits_of, bits, bytes, padding}
-use Rattle.pw_bits.proofs.BitsLemmas.{length-bits_of, pow_mono_at, pow_suc, bits-bytes}
+use Rattle.pw_bits.specs.Bits.{bits, bytes, padding}
+use Rattle.pw_bits.proofs.BitsLemmas.{pow_mono_at, pow_suc, bits-bytes}
+use Rattle.pw_bits.proofs.SpelledLemmas.{length_of_bits}
 use Rattle.pr_codes.specs.Words.{word, book, is_book}
 use Rattle.pr_codes.proofs.WordsLemmas.{plain, length-word-le}
 use Rattle.pr_coeff.specs.Component.{Block, dc_book, run_book, level_book, folded, turned, is_negative, dc_words, all_dc_words, ac_words, column, listed, IsScan, spelling, component, AllSmall, AreBlocks}
@@ -37,7 +38,7 @@ under_blocks [] h i q = omega arith
 under_blocks (b ∷ bs) h zero q = under_small b h.1 q
 under_blocks (b ∷ bs) h (suc i) q = under_blocks bs h.2 i q
 
--- ---- words
+-- ---- codewords
 
 pub small_exp : (b : Codebook) → is_book b ≡ true → 2 ^ b.exp ≤ 128
 small_exp b is = let p = plain b is in omega (arith, pow_mono_at b.exp 7 (let e : b.exp ≤ 7 = omega (arith, p.exp) in e))
@@ -51,7 +52,7 @@ level_cost magnitude m k seven h =
     length-word-le (level_book magnitude) m k (is_book-level magnitude) (omega arith)
     (omega (arith, small_exp (level_book magnitude) (is_book-level magnitude), pow_mono_at 7 k seven, two))
 
--- the word of a code that is at most four times 2^k
+-- the codeword of a code that is at most four times 2^k
 pub code_cost : (b : Codebook) (n k : ℕ) → is_book b ≡ true → 7 ≤ k → n < 2 ^ k + 2 ^ k + 2 ^ k + 2 ^ k → length (word b n) ≤ 2 * k + 7
 code_cost b n k is seven h =
     let one = pow_suc k in
@@ -105,12 +106,8 @@ all_dc_cost k (d ∷ ds) s a =
 
 -- ---- a component
 
-pub length-bits : (b : List ℕ) → length (bits b) ≡ 8 * length b
-length-bits [] = refl
-length-bits (x ∷ b) = omega (arith, length-append (bits_of 8 x) (bits b), length-bits_of 8 x, length-bits b)
-
 length-bytes : (l : List Bool) → 8 * length (bytes l) ≤ length l + 7
-length-bytes l = omega (arith, length-bits (bytes l), ap length (bits-bytes l), length-append l (padding l), length-replicate ((8 - length l % 8) % 8) false)
+length-bytes l = omega (arith, length_of_bits (bytes l), ap length (bits-bytes l), length-append l (padding l), length-replicate ((8 - length l % 8) % 8) false)
 
 pub component_cost : (k : ℕ) (scan : List ℕ) (blocks : List Block) → IsScan scan → 7 ≤ k → length blocks ≤ 32 → ((i q : ℕ) → nat_abs (get_or (get_or blocks i []) q (pos 0)) < 2 ^ k) →
     8 * length (component scan blocks) ≤ (2 * k + 29) * (64 * length blocks) + 7

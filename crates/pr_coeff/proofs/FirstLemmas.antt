@@ -33,7 +33,7 @@ module _ (b : Codebook) (l : List Bool) (last : ℤ) (neg : Bool) (code : ℕ) (
 pub fault_is : {A : Type 0} (f : CoeffFault) (found : Result A Fault) → f ≡ faults.LevelRange → found ≡ Err level_range → IsFault f found
 fault_is {A} f found e h = subst (λ f. IsFault f found) (sym e) h
 
--- a fault of what is read goes over to what it is part of
+-- an error of a sub-parser is the parser's error
 pub fault_whole : {A B : Type 0} (f : CoeffFault) (part : Result A Fault) (whole : Result B Fault) → ((x : Fault) → part ≡ Err x → whole ≡ Err x) → IsFault f part → IsFault f whole
 fault_whole faults.Codeword part whole h e = h codeword e
 fault_whole faults.RunPast part whole h e = h run_past e

@@ -1,4 +1,4 @@
--- Counting bits goes as a writer of coefficients goes.
+-- Counting bits follows the writer of coefficients.
 use Rattle.std.proofs.Common.{◌≡◌, ℕ, suc, ◌+◌, ◌-◌, ◌<◌, List, [], ◌∷◌, ◌++◌, length, length-append, ℤ, pos, nat_abs, refl, ap, ◌∙◌, arith}
 use Rattle.pr_coeff.specs.Component.{is_negative}
 use Rattle.pr_coeff.specs.Lengths.{run_class, run_bits, level_class, level_bits}

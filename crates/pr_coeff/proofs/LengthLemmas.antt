@@ -1,4 +1,4 @@
--- Lengths of words by the class of what stands before them.
+-- Lengths of codewords by the class of their context.
 use Rattle.std.proofs.Common.{◌≡◌, ℕ, zero, suc, ◌+◌, ◌-◌, ◌^◌, ◌<◌, ◌≤◌, Bool, true, List, [], ◌∷◌, ◌++◌, length, length-append, take, drop, false, ◌/◌, ◌%◌, pos, get_or, ℤ, refl, ap, ◌∙◌, arith}
 use Rattle.std.proofs.lemmas.Bool.Decides.{nat_tests}
 use Rattle.std.proofs.lemmas.List.{take_more, length-replicate}
@@ -9,7 +9,8 @@ use Rattle.pr_codes.specs.Words.{word, is_book}
 use Rattle.pr_codes.proofs.WordsLemmas.{length-word-le}
 use Rattle.pr_coeff.specs.Component.{run_book, level_book, spelling, component, all_dc_words, ac_words, column, listed}
 use Rattle.pr_coeff.specs.inner.Writing.{triple_words}
-use Rattle.pr_coeff.proofs.CostLemmas.{length-bits, small_exp}
+use Rattle.pw_bits.proofs.SpelledLemmas.{length_of_bits}
+use Rattle.pr_coeff.proofs.CostLemmas.{small_exp}
 use Rattle.pr_coeff.specs.Known.{ComponentHasBytes}
 use Rattle.pr_coeff.specs.Lengths.{run_class, run_in, run_bits, run_row, level_class, level_in, level_bits, level_row, ClassesNameBooks}
 use Rattle.pr_coeff.proofs.ComponentLemmas.{is_book-run, is_book-level}
@@ -25,7 +26,7 @@ pub level_bits_small : (class m : ℕ) → m < 8192 → level_bits class m ≤ 3
 unfolding level_bits
 level_bits_small class m h = omega (arith, level_word_small class m h)
 
--- the word of a code of a difference
+-- the codeword of a code of a difference
 pub code_small : (b : Codebook) (n : ℕ) → is_book b ≡ true → n ≤ 2 ^ 18 → length (word b n) ≤ 64
 code_small b n is h = omega (arith, length-word-le b n 18 is (omega arith) (omega (arith, small_exp b is)))
 
@@ -95,7 +96,7 @@ first_and_rest (v ∷ vs) h = refl
 -- ---- whole components
 
 pub length-bytes_is : (l : List Bool) → length (bytes l) ≡ (length l + 7) / 8
-length-bytes_is l = omega (arith, length-bits (bytes l), ap length (bits-bytes l), length-append l (padding l), length-replicate ((8 - length l % 8) % 8) false)
+length-bytes_is l = omega (arith, length_of_bits (bytes l), ap length (bits-bytes l), length-append l (padding l), length-replicate ((8 - length l % 8) % 8) false)
 
 pub component_bytes : ComponentHasBytes
 unfolding component spelling
@@ -114,7 +115,7 @@ level_is : (class magnitude level : ℕ) → class ≡ level_class magnitude →
 unfolding level_bits
 level_is class magnitude level e = ap (λ c. length (word (level_book (level_in c)) (level - 1)) + 1) e ∙ ap (λ b. length (word b (level - 1)) + 1) (level_named magnitude)
 
--- the bits of a value's words, by the classes of the run and the magnitude before it
+-- the bits of a value's codewords, by the classes of the run and the magnitude before it
 pub triple_bits : (run magnitude zeros level before behind : ℕ) (negative : Bool) → before ≡ run_class run → behind ≡ level_class magnitude
     → length (triple_words run magnitude zeros (level - 1) negative) ≡ run_bits before zeros + level_bits behind level
 triple_bits run magnitude zeros level before behind negative e f =

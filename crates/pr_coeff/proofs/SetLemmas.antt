@@ -1,4 +1,4 @@
--- Coefficients that are written at their numbers in the order of a scan.
+-- Coefficients that are written at their indices in scan order.
 use Rattle.std.proofs.Common.{◌≡◌, ◌≢◌, ℕ, zero, suc, ◌+◌, ◌-◌, ◌*◌, ◌/◌, ◌%◌, ◌<◌, inl, inr, List, [], ◌∷◌, ◌++◌, length, replicate, get_or, set, refl, ap, sym, ◌∙◌, arith, append_assoc, ℤ, pos}
 use Rattle.std.proofs.lemmas.Bool.{cases_eq}
 use Rattle.std.proofs.lemmas.Nat.{div_below, mod_below, div-add-mod', div-mul-add, mul-add-lt}
@@ -6,7 +6,7 @@ use Rattle.std.proofs.lemmas.List.{length-replicate, length-set, get_or-set_othe
 use Rattle.pr_coeff.specs.Component.{Block, column, listed, index_of, IsScan, IsSmall, AllSmall, AreBlocks}
 use Rattle.pr_coeff.proofs.WovenLemmas.{length-listed, listed-at, AreBlocks_at}
 
--- different numbers have different places
+-- different indices have different positions
 same_place : (scan : List ℕ) → IsScan scan → (j k : ℕ) → j < 64 → k < 64 → get_or scan j 0 ≡ get_or scan k 0 → j ≡ k
 same_place scan s j k x y e = sym (s.places j x).1 ∙ ap (λ p. index_of p scan) e ∙ (s.places k y).1
 
@@ -23,14 +23,14 @@ blocks_set (b ∷ bs) (suc i) p v h a = (a.0, a.1, blocks_set bs i p v h a.2)
 number_in : (k i n : ℕ) → k < 64 → i < n → k * n + i < 64 * n
 number_in k i n h l = omega (arith, mul-add-lt k n i 64 h l)
 
--- numbers are the same only where their parts are
+-- indices are the same only if their parts are
 same_number : (k i j m n : ℕ) → i < n → m < n → j * n + m ≡ k * n + i → j ≡ k
 same_number k i j m n h l e = sym (div-mul-add j n m l) ∙ ap (λ x. x / n) e ∙ div-mul-add k n i h
 
 same_rest : (k i j m n : ℕ) → i < n → m < n → j * n + m ≡ k * n + i → m ≡ i
 same_rest k i j m n h l e = let same = same_number k i j m n h l e in omega (arith, e, ap (λ x. x * n) same)
 
--- the value at another number or at this one
+-- the value at another index or at this one
 at_number : (scan : List ℕ) → IsScan scan → (blocks : List Block) → AreBlocks blocks → (k i j m : ℕ) (v : ℤ) → k < 64 → i < length blocks → j < 64 → m < length blocks →
     get_or (get_or (set blocks i (set (get_or blocks i []) (get_or scan k 0) v)) m []) (get_or scan j 0) (pos 0)
     ≡ get_or (set (listed scan blocks) (k * length blocks + i) v) (j * length blocks + m) (pos 0)

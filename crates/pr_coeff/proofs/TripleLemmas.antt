@@ -1,4 +1,4 @@
--- The walk over coefficients spells the words of the one list of their triples.
+-- The walk over coefficients writes the codewords of the one list of their triples.
 use Rattle.std.proofs.Common.{◌≡◌, ℕ, zero, suc, ◌+◌, ◌*◌, ◌^◌, ◌<◌, ◌≤◌, Bool, true, false, List, [], ◌∷◌, ◌++◌, length, length-append, append_assoc, append-nil, replicate, drop, map, get_or, ℤ, pos, negsuc, ◌-ℤ◌, nat_abs, refl, sym, ap, ◌∙◌, subst, arith}
 use Rattle.std.specs.List.{All}
 use Rattle.std.proofs.lemmas.Grind.{flat_map-append}
@@ -16,7 +16,7 @@ use Rattle.pr_coeff.proofs.CostLemmas.{AllUnder, under_column, under_listed, run
 
 -- ---- DC coefficients
 
--- behind a coefficient `last`, a difference `x` and a code
+-- after a coefficient `last`, a difference `x` and a code
 dc_joined : (last x : ℤ) (code : ℕ) (ds : List ℤ) → dc_words last (is_negative x) code ds ≡
     joined (map (λ (p : ℕ × ℕ). word (dc_book p.0) p.1) (behind code (map (λ (p : ℤ × ℤ). folded (turned (is_negative p.0) p.1)) (behind x (differences last ds)))))
 dc_joined last x code [] = refl
@@ -28,7 +28,7 @@ all_dc_joined : (ds : List ℤ) → all_dc_words ds ≡ joined (first_words ds)
 all_dc_joined [] = refl
 all_dc_joined (d ∷ ds) = ap (λ l. word (book 0 5 6) (folded d) ++ l) (dc_joined d (pos 0) 5 ds)
 
--- ---- the triples of coefficients behind k zeros
+-- ---- the triples of coefficients after k zeros
 
 abbrev triple : ℕ → ℕ → Bool → RunLevelSign
 triple k m s = record { run = k; level = m; negative = s }
@@ -95,7 +95,7 @@ are_once ts vs a = sym (ap (triples_from 0) a.are ∙ read_again ts a.zeros)
 pub one_list : (vs : List ℤ) → HaveOneListOfTriples vs
 one_list vs = record { triples = triples_from 0 vs; are = are_of vs; once = λ ts a. are_once ts vs a }
 
--- ---- their words
+-- ---- their codewords
 
 triple_joined : (a b : List Bool) (s : Bool) (rest more : List Bool) → rest ≡ more → a ++ (b ++ s ∷ rest) ≡ (a ++ (b ++ s ∷ [])) ++ more
 triple_joined a b s rest more e =

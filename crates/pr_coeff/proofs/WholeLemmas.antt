@@ -1,5 +1,5 @@
 -- A whole component.
-use Rattle.std.proofs.Common.{◌≡◌, ℕ, zero, suc, ◌+◌, ◌*◌, ◌<◌, ◌≤◌, ◌⊎◌, inl, inr, Bool, true, false, eqb, ltb, leb, ◌&&◌, List, [], ◌∷◌, ◌++◌, length, drop, get_or, Result, Ok, Err, OnOk, IfErr, refl, ap, sym, ◌∙◌, subst, arith, length-append, append_assoc, ℤ, nat_abs}
+use Rattle.std.proofs.Common.{◌≡◌, ℕ, zero, suc, ◌+◌, ◌*◌, ◌<◌, ◌≤◌, ◌⊎◌, inl, inr, Bool, true, false, eqb, ltb, leb, ◌&&◌, List, [], ◌∷◌, ◌++◌, length, drop, get_or, Result, Ok, Err, OnOk, refl, ap, sym, ◌∙◌, subst, arith, length-append, append_assoc, ℤ, nat_abs}
 use Rattle.std.proofs.lemmas.Bool.{agree_below, agree_below_at, and_parts, ltb-true, eqb-true, leb-true, le-leb}
 use Rattle.std.proofs.lemmas.List.{length-drop}
 use Rattle.pw_bits.specs.Bits.{zeros}
@@ -154,7 +154,7 @@ pub scan_of : (scan : Scan) → IsScan (places scan)
 scan_of Progressive = progressive_is_scan
 scan_of Interlaced = interlaced_is_scan
 
--- the places of a scan behind the first
+-- the positions of a scan after the first
 pub places_inside : (scan : List ℕ) → IsScan scan → (k : ℕ) → k < 63 → get_or (drop 1 scan) k 0 < 64
 places_inside scan s k h =
     let at : get_or scan (suc k) 0 ≡ get_or (drop 1 scan) k 0 = ap (λ l. get_or l (suc k) 0) s.starts in
@@ -181,7 +181,3 @@ module _ (scan : List ℕ) (n : ℕ) (l : List Bool) where
 pub on_ok_two : {T E P Q R : Type 0} (r : Result T E) → (P → Q → R) → OnOk r P → OnOk r Q → OnOk r R
 on_ok_two (Ok x) f p q = f p q
 on_ok_two (Err e) f p q = tt
-
-pub if_err_weaker : {T E : Type 0} {P Q : E → Type 0} (r : Result T E) → ((e : E) → P e → Q e) → IfErr r P → IfErr r Q
-if_err_weaker (Ok x) f p = tt
-if_err_weaker (Err e) f p = f e p

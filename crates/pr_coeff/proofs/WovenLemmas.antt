@@ -1,4 +1,4 @@
--- Blocks and the list of their values in the order of a scan.
+-- Blocks and the list of their values in scan order.
 use Rattle.std.proofs.Common.{◌≡◌, ℕ, zero, suc, ◌+◌, ◌*◌, ◌/◌, ◌%◌, ◌<◌, List, [], ◌∷◌, ◌++◌, length, map, get_or, ap, sym, ◌∙◌, subst, arith, length-append, ℤ, pos}
 use Rattle.std.specs.List.{range_with_len}
 use Rattle.std.proofs.lemmas.List.{length-map, get_or_append_left, get_or-append-add, get_or-map, ext_get_or}
@@ -15,14 +15,6 @@ AllSmall_at (v ∷ vs) (suc k) h = AllSmall_at vs k h.1
 pub AllSmall_from : (vs : List ℤ) → ((k : ℕ) → k < length vs → IsSmall (get_or vs k (pos 0))) → AllSmall vs
 AllSmall_from [] h = tt
 AllSmall_from (v ∷ vs) h = (h 0 (omega arith), AllSmall_from vs (λ k l. h (suc k) (omega arith)))
-
-pub AllSmall_left : (a b : List ℤ) → AllSmall (a ++ b) → AllSmall a
-AllSmall_left [] b h = tt
-AllSmall_left (v ∷ a) b h = (h.0, AllSmall_left a b h.1)
-
-pub AllSmall_right : (a b : List ℤ) → AllSmall (a ++ b) → AllSmall b
-AllSmall_right [] b h = h
-AllSmall_right (v ∷ a) b h = AllSmall_right a b h.1
 
 pub AllSmall_both : (a b : List ℤ) → AllSmall a → AllSmall b → AllSmall (a ++ b)
 AllSmall_both [] b h k = k

@@ -1,4 +1,4 @@
-//! The books that earlier words name (SMPTE RDD 36, the adaptation tables of scanned coefficients).
+//! The codebooks by context (SMPTE RDD 36, the adaptation tables of scanned coefficients).
 
 ghost use Rattle.std.specs.Prelude.{◌≡◌, IsTrue};
 ghost use Rattle.pr_codes.specs.Words.{is_book};
@@ -6,14 +6,14 @@ ghost use Rattle.pr_coeff.specs.Component.{dc_book, run_book, level_book};
 
 use pr_codes::Codebook;
 
-/// A book by its three numbers.
+/// A codebook by its three parameters.
 const fn book(last: u8, rice: u8, exp: u8) -> Codebook
     ensures { result ≡ record { last = last; rice = rice; exp = exp } }
 {
     Codebook { last, rice, exp }
 }
 
-/// The book of the first DC coefficient.
+/// The codebook of the first DC coefficient.
 pub fn first_book() -> Codebook
     ensures value { result ≡ record { last = 0; rice = 5; exp = 6 } }
     ensures book { IsTrue (is_book result) }
@@ -21,7 +21,7 @@ pub fn first_book() -> Codebook
     book(0, 5, 6)
 }
 
-/// The book of a DC difference, by the code before it.
+/// The codebook of a DC difference, by the previous code.
 #[tactic(auto, unfolding(crate::specs::Component::dc_book))]
 pub fn book_of_difference(code: u32) -> Codebook
     ensures value { result ≡ dc_book code }
@@ -35,7 +35,7 @@ pub fn book_of_difference(code: u32) -> Codebook
     }
 }
 
-/// The book of a run, by the run before it.
+/// The codebook of a run, by the previous run.
 #[tactic(auto, unfolding(crate::specs::Component::run_book))]
 pub fn book_of_run(run: u32) -> Codebook
     ensures value { result ≡ run_book run }
@@ -51,7 +51,7 @@ pub fn book_of_run(run: u32) -> Codebook
     }
 }
 
-/// The book of a level, by the magnitude before it.
+/// The codebook of a level, by the previous magnitude.
 #[tactic(auto, unfolding(crate::specs::Component::level_book))]
 pub fn book_of_level(magnitude: u32) -> Codebook
     ensures value { result ≡ level_book magnitude }

@@ -17,8 +17,8 @@ use crate::write::{Differences, below_zero, turn};
 use pw_bits::BitReader;
 use pw_outside::ByteSource;
 
-/// The number of a code.
-fn unfold(code: u32) -> i32
+/// The signed number of a code, which is at most 2^20.
+pub fn unfold(code: u32) -> i32
     requires { code ≤ 2 ^ 20 }
     ensures value { result ≡ unfolded code }
     ensures small { nat_abs result ≤ 2 ^ 20 }
@@ -69,7 +69,7 @@ fn get_first<S: ByteSource>(reader: &mut BitReader, source: &mut S) -> Result<i1
     }
 }
 
-/// Reads a DC coefficient behind another.
+/// Reads a DC coefficient after another.
 fn get_difference<S: ByteSource>(
     reader: &mut BitReader,
     source: &mut S,
@@ -101,7 +101,7 @@ fn get_difference<S: ByteSource>(
     }
 }
 
-/// Writes a coefficient at a number in the order of the scan, where each place goes over all blocks.
+/// Writes a coefficient at an index in scan order, in which each position runs over all blocks.
 fn set_value(blocks: &mut [Block], scan: Scan, index: u32, value: i16)
     requires inside { index < 64 * length blocks.old }
     requires few { length blocks.old ≤ 32 }
@@ -115,7 +115,7 @@ fn set_value(blocks: &mut [Block], scan: Scan, index: u32, value: i16)
     blocks[(index % count) as usize][usize::from(place)] = value;
 }
 
-/// Makes all coefficients 0.
+/// Sets all coefficients to 0.
 fn clear(blocks: &mut [Block])
     ensures blocks { AreBlocks blocks.new }
     ensures zeros { (scan : Scan) → listed (places scan) blocks.new ≡ replicate (64 * length blocks.new) (pos 0) }
@@ -158,7 +158,7 @@ fn get_firsts<S: ByteSource>(
     Ok(())
 }
 
-/// Reads the coefficients at the other places, which are 0 before.
+/// Reads the coefficients at the other positions, which are 0 before.
 fn get_values<S: ByteSource>(
     reader: &mut BitReader,
     source: &mut S,
@@ -195,8 +195,8 @@ fn get_values<S: ByteSource>(
     }
 }
 
-/// Reads the blocks for which all that is left of the source stands. There are 1 to 32 blocks, and the source
-/// tells a number that its bytes never pass. After a refusal the blocks have any coefficients.
+/// Reads the blocks of a component from all remaining bytes of the source. There are 1 to 32 blocks, and the
+/// source's contract bounds its number of bytes. After an error the coefficients of the blocks are arbitrary.
 pub fn read_component<S: ByteSource>(
     source: &mut S,
     scan: Scan,

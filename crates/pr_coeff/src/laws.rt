@@ -8,7 +8,7 @@ ghost use Rattle.pr_coeff.specs.Known.{KnownAtFirst, KnownBehindZero, KnownBehin
 ghost use Rattle.pr_coeff.specs.Lengths.{ClassesNameBooks};
 ghost use Rattle.pr_coeff.specs.Triples.{HaveOneListOfTriples, StandsAreTriples, ComponentIsOfTriples, CoefficientsAreShort};
 
-/// Both scans have each place once.
+/// Both scans visit each position once.
 pub fn scans_have_each_place()
     ensures { (scan : Scan) → IsScan (places scan) }
 {}
@@ -19,7 +19,7 @@ pub fn component_is_read()
         (component_at count (places scan) l ≡ Ok blocks) ↔ ((length blocks ≡ count) × Stands l blocks (places scan)) }
 {}
 
-/// Bits stand for exactly one list of so many blocks, or have a fault, and never both.
+/// Bits stand for exactly one list of n blocks, or have a fault, and never both.
 pub fn one_list_or_fault()
     ensures one { (scan : Scan) (l : List Bool) (a b : List Block) → 0 < length a → length a ≤ 32 → length b ≡ length a →
         Stands l a (places scan) → Stands l b (places scan) → a ≡ b }
@@ -29,37 +29,38 @@ pub fn one_list_or_fault()
         Stands l a (places scan) → component_at (length a) (places scan) l ≡ Err fault → ⊥ }
 {}
 
-/// Coefficients of magnitude at most 8,191 cost fewer than 57 bits each, all zeros that fill the last byte counted.
+/// Coefficients of magnitude at most 8,191 cost fewer than 57 bits each, including the zeros that fill the last
+/// byte.
 pub fn components_are_short()
     ensures { (scan : Scan) (blocks : List Block) → 0 < length blocks → length blocks ≤ 32 →
         ((i place : ℕ) → nat_abs (get_or (get_or blocks i []) place (pos 0)) ≤ 8191) →
         8 * length (component (places scan) blocks) < 57 * (64 * length blocks) }
 {}
 
-/// Coefficients are written out by one list of triples of a run, a level and a sign.
+/// Every list of coefficients is written as exactly one list of triples of a run, a level and a sign.
 pub fn one_list_of_triples()
     ensures { (vs : List ℤ) → HaveOneListOfTriples vs }
 {}
 
-/// The words of a component are those of its DC coefficients' codes and of the triples of its other coefficients, each word
-/// in the book that the code, the run or the magnitude before it names.
+/// The codewords of a component are those of its DC coefficients' codes and of the triples of its other
+/// coefficients, each in the codebook that the previous code, run or magnitude selects.
 pub fn components_are_of_triples()
     ensures stands { StandsAreTriples }
     ensures written { ComponentIsOfTriples }
 {}
 
-/// Of magnitude at most 8,191 each coefficient costs fewer than 57 bits.
+/// Each coefficient of magnitude at most 8,191 costs fewer than 57 bits.
 pub fn coefficients_are_short()
     ensures { CoefficientsAreShort }
 {}
 
-/// The class of a run, and that of a magnitude, is all that names the next book.
+/// The class of a run, or of a magnitude, alone selects the next codebook.
 pub fn classes_name_books()
     ensures { ClassesNameBooks }
 {}
 
-/// The bits of words are counted coefficient by coefficient, of which only the number of zeros since the last that isn't 0
-/// is kept, and the classes of the run and the magnitude before them.
+/// The bits of codewords are counted coefficient by coefficient. The state is the number of zeros since the last
+/// nonzero coefficient, and the classes of the run and the magnitude before them.
 pub fn bits_are_counted()
     ensures first { KnownAtFirst }
     ensures zero { KnownBehindZero }

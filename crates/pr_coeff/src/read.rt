@@ -1,4 +1,4 @@
-//! Reading a word, a sign, and where the data ends.
+//! Reading a codeword, a sign, and the end of the data.
 
 ghost use Rattle.std.specs.Prelude.{◌≡◌, ◌≢◌, ◌≤◌, ◌^◌, ℕ, Bool, false, [], ◌∷◌, ◌++◌, Ok, Err, IfOk, IfErr, IfSome, IsSome, IsTrue};
 ghost use Rattle.pw_outside.specs.Ports.{CountsFault, Lowers, GoesOn};
@@ -14,9 +14,9 @@ use pw_outside::ByteSource;
 /// Why a component is not read.
 #[derive(Clone, Copy, Debug, PartialEq, Eq)]
 pub enum CoeffFault {
-    /// A word isn't there or is too large, or a sign is wanting.
+    /// A codeword is missing or too large, or a sign is missing.
     Codeword,
-    /// Behind the zeros of a run no place is left.
+    /// A run of zeros passes the last coefficient.
     RunPast,
     /// A coefficient is of magnitude above 32,767.
     LevelRange,
@@ -24,7 +24,7 @@ pub enum CoeffFault {
     Failed,
 }
 
-/// Reads the number whose word stands at the front.
+/// Reads the next codeword and returns its number.
 pub(crate) fn get_word<S: ByteSource>(
     reader: &mut BitReader,
     source: &mut S,
@@ -67,7 +67,7 @@ pub(crate) fn get_sign<S: ByteSource>(
     }
 }
 
-/// Takes the zeros and the 1 of a word of the book, unless the data has ended before it.
+/// Reads the zeros and the 1 of a codeword, unless the data has ended before it.
 fn begin_word<S: ByteSource>(
     reader: &mut BitReader,
     source: &mut S,
@@ -95,7 +95,7 @@ fn begin_word<S: ByteSource>(
     }
 }
 
-/// Reads the number whose word stands at the front, unless the data has ended before it.
+/// Reads the next codeword and returns its number, unless the data has ended before it.
 pub(crate) fn get_word_or_end<S: ByteSource>(
     reader: &mut BitReader,
     source: &mut S,

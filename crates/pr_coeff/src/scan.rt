@@ -28,7 +28,7 @@ const INTERLACED: [u8; 64] = [
 ];
 
 impl Scan {
-    /// The raster places in the scan's order.
+    /// The raster positions in scan order.
     pub fn places(self) -> &'static [u8; 64]
         ensures { result.now ≡ places self }
     {
@@ -38,7 +38,7 @@ impl Scan {
         }
     }
 
-    /// The raster places behind the first in the scan's order.
+    /// The raster positions after the first in scan order.
     pub(crate) fn other_places(self) -> &'static [u8]
         ensures value { result.now ≡ drop 1 (places self) }
         ensures count { length result.now ≡ 63 }

@@ -11,16 +11,19 @@ use crate::read::{CoeffFault, get_sign, get_word, get_word_or_end};
 use pw_bits::BitReader;
 use pw_outside::ByteSource;
 
-/// A run of zeros, and the magnitude, minus 1, and the sign of the coefficient behind it.
+/// A run of zeros, and the magnitude, minus 1, and the sign of the coefficient after it.
 #[derive(Clone, Copy)]
-pub(crate) struct RunLevel {
-    pub(crate) run: u32,
-    pub(crate) level: u32,
-    pub(crate) negative: bool,
+pub struct RunLevel {
+    /// The run of zeros.
+    pub run: u32,
+    /// The magnitude, minus 1.
+    pub level: u32,
+    /// Whether the coefficient is negative.
+    pub negative: bool,
 }
 
-/// A level with its sign.
-pub(crate) fn signed_level(level: u32, negative: bool) -> i16
+/// The coefficient of a level below 32,767 and a sign.
+pub fn signed_level(level: u32, negative: bool) -> i16
     requires { level < 32767 }
     ensures value { result ≡ signed negative level }
     ensures small { nat_abs result ≤ 32767 }
@@ -29,7 +32,7 @@ pub(crate) fn signed_level(level: u32, negative: bool) -> i16
     if negative { -magnitude } else { magnitude }
 }
 
-/// Reads a level and a sign, behind a magnitude.
+/// Reads a level and a sign, after a magnitude.
 fn get_level<S: ByteSource>(
     reader: &mut BitReader,
     source: &mut S,
@@ -57,8 +60,8 @@ fn get_level<S: ByteSource>(
     }
 }
 
-/// Reads a run, a level and a sign with so many places left, behind a run and a magnitude, unless the data
-/// has ended.
+/// Reads a run, a level and a sign with `room` positions left, after a run and a magnitude, unless the data has
+/// ended.
 pub(crate) fn get_triple<S: ByteSource>(
     reader: &mut BitReader,
     source: &mut S,

@@ -1,8 +1,8 @@
-//! The transforms between samples and coefficients, and the samples that are shown.
+//! The forward and the inverse transform between samples and coefficients, and the samples that are shown.
 //!
-//! Both transforms are sums over all 64 pairs of a row and a column, with one rounding for each
-//! answer. They go by rows and then by columns, in sums that are exact; each row by halves, since
-//! the cosines of a row mirror each other.
+//! Both transforms are sums over all 64 pairs of a row and a column, with one rounding per result. They are
+//! computed by rows and then by columns, in exact sums; each row by halves, since the cosines of a row mirror each
+//! other.
 #![tactic(auto)]
 
 ghost use Rattle.std.specs.Prelude.{◌≡◌, IsTrue, map, ◌+◌, ◌*◌, ◌^◌, ◌<◌, ◌≤◌, ℕ, ℤ, pos, ◌*ℤ◌, ◌+ℤ◌, get_or, nat_abs};
@@ -11,8 +11,6 @@ ghost use Rattle.pr_dct.specs.Transform.{total, AreWithin, rounded, coefficients
 mod by_rows;
 mod halves;
 mod shown;
-#[cfg(test)]
-mod tests;
 
 use by_rows::{rows_of_coefficients, rows_of_samples};
 use halves::plus_product;
@@ -26,7 +24,7 @@ fn round(sum: i64) -> i32
     ((sum + (1 << 29)) >> 30) as i32
 }
 
-/// The numbers of a block in more bits.
+/// The numbers of a block, widened.
 fn widened(block: &[i32; 64]) -> [i64; 64]
     ensures { result ≡ block.now }
 {
@@ -49,8 +47,8 @@ fn rounded_each(sums: &[i64; 64]) -> [i32; 64]
     block
 }
 
-/// The coefficients of a block of samples, which are signed and of 12 bits: of magnitude at most
-/// 2,048. No coefficient's magnitude passes 16,383.
+/// The coefficients of a block of signed 12-bit samples, of magnitude at most 2,048. The coefficients are of
+/// magnitude at most 16,383.
 pub fn forward(block: &[i32; 64]) -> [i32; 64]
     requires { AreWithin 2048 block.now }
     ensures value { result ≡ coefficients block.now }
@@ -74,7 +72,7 @@ fn is_flat(products: &[i32; 64]) -> bool
     true
 }
 
-/// The sample of a block in which only the first product is other than zero: it is the same at each place.
+/// The sample of a block whose only nonzero product is the first: it is the same at every position.
 pub fn flat_sample(product: i32) -> i32
     requires { nat_abs product ≤ 2 ^ 19 }
     ensures { result ≡ rounded (flat product) }

@@ -1,4 +1,4 @@
--- What the call that reads a frame answers.
+-- What the call that reads a frame returns.
 use Rattle.std.proofs.Common.{◌≡◌, ℕ, List, length, Option, Some, Result, Ok, Err, ap}
 use Rattle.std.specs.Prelude.{IfOk, IfErr, IfSome}
 use Rattle.std.specs.Result.{result_err}

@@ -15,7 +15,7 @@ use Rattle.pr_head.specs.declared.picture.PictureHeader.{PictureHeader}
 use Rattle.pr_head.specs.Picture.{slices_in, sizes_of}
 use Rattle.pr_frame.specs.Forms.{places_in, block_count}
 
--- how many blocks a part has
+-- the number of blocks of a part
 pub record HasBlocksOf (h : FrameHeader) (place : SlicePlace) : Type 0 where
   pub some : (part : Part) → 0 < block_count h place part
   pub few : (part : Part) → block_count h place part ≤ 32

@@ -1,4 +1,4 @@
--- What a block shows whose values are all 0 but the first.
+-- The samples of a block whose values are all 0 but the first.
 use Rattle.std.proofs.Common.{◌≡◌, ◌*◌, ◌-◌, ◌^◌, ◌<◌, ℕ, List, neg_ℤ, get_or, replicate, ℤ, pos, ◌*ℤ◌, nat_abs, ap, ◌∙◌, arith}
 use Rattle.std.proofs.lemmas.Int.{ints}
 use Rattle.std.proofs.lemmas.List.FromFn.{get_or-map-range_with_len}

@@ -25,7 +25,7 @@ picture-ahead F h s x t e =
     let e3 = bind-ok _ _ e2.2 in
     (e1.0.0.size, (ok-both e3.2).1)
 
--- the frame's end stays within the bytes that are left
+-- the frame's end is within the remaining bytes
 pub end-kept : (F n : ℕ) (s t : Rest) → t ≡ ahead n s → F ≤ s.place + length s.bytes → F ≤ t.place + length t.bytes
 end-kept F n s t e le = omega (arith, ap (λ (r : Rest). r.place) e, ahead-length n s t e)
 
@@ -80,7 +80,7 @@ pub sample-fault : (n : ℕ) (bytes : List ℕ) (fault : FrameFault) → length 
 unfolding frame_of bind
 sample-fault n bytes fault e told = fails-whole told_fault fault (frame_at n (record { place = 0; bytes = bytes })) (frame_of bytes) (λ f read. rw (e, read) refl) told
 
--- ---- behind the frame's header
+-- ---- after the frame's header
 
 pub head-at : (n : ℕ) (left new : Option (List ℕ)) (o : Opened) (after place : ℕ) → header_at n (bytes_of left) ≡ Ok (o, rest_of after new) → place ≡ o.taken
     → header_at n (bytes_of left) ≡ Ok (o, rest_of place new)

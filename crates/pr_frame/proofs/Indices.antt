@@ -1,4 +1,4 @@
--- The least and the greatest of numbers behind others.
+-- The least and the greatest of numbers after others.
 use Rattle.std.proofs.Common.{◌≡◌, ℕ, ◌≤◌, min, max, List, [], ◌∷◌, ◌++◌, arith}
 use Rattle.pr_frame.specs.Shown.{least, greatest}
 

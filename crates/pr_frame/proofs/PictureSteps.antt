@@ -63,7 +63,7 @@ module _ (F : ℕ) (h : FrameHeader) (s : Rest) (r : PictureHeader) (t1 : Rest) 
     pub behind-table : t2 ≡ ahead (r.header + 2 * slices_in h r) s
     behind-table = (table-rest r (slices_in h r) t1 sizes t2 table).1 ∙ ap (ahead (2 * slices_in h r)) (picture-rest F h s r t1 head).1 ∙ ahead-ahead (2 * slices_in h r) r.header s
 
--- behind the slices, up to the picture's end
+-- after the slices, up to the picture's end
 pub picture-end : (s t : Rest) (k size place : ℕ) (left new : Option (List ℕ)) → t ≡ ahead k s → t ≡ rest_of place left → k ≤ size → bytes_of new ≡ drop (s.place + size - place) (bytes_of left) → rest_of (s.place + size) new ≡ ahead size s
 picture-end s t k size place left new e f le g =
     let p : place ≡ s.place + k = sym (ap (λ (r : Rest). r.place) f) ∙ ap (λ (r : Rest). r.place) e in

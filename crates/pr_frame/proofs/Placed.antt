@@ -1,4 +1,4 @@
--- Blocks written into a plane one after the other are the plane of these blocks, where no place has two of them.
+-- Blocks written into a plane in order are the plane of these blocks, if no position is in two of them.
 use Rattle.std.proofs.Common.{◌≡◌, refl, ℕ, zero, suc, ◌+◌, ◌-◌, ◌*◌, ◌/◌, ◌%◌, ◌<◌, ◌≤◌, min, replicate, true, cond, List, [], ◌∷◌, ◌++◌, length, get_or, drop, map, ap, sym, ◌∙◌, subst, inl, inr, arith}
 use Rattle.std.proofs.lemmas.Bool.{cases_Bool, cases_lt, cond-true, cond-false, and_parts, leb-true, ltb-true}
 use Rattle.std.proofs.lemmas.List.{get_or-replicate, get_or_past, length-replicate, get_or-map, length-map, map-append, drop_more, drop_all}
@@ -15,7 +15,7 @@ use Rattle.pr_frame.specs.inner.Placing.{with_placed, IsInSlice}
 pub no_block : Placed
 no_block = record { corner = (0, 0); samples = [] }
 
--- no two blocks have one place
+-- no two blocks have the same position
 unfoldable pub Apart : List Placed → Type 0
 Apart bs = (m n column row : ℕ) → m < length bs → n < length bs → has (get_or bs m no_block) column row ≡ true → has (get_or bs n no_block) column row ≡ true → m ≡ n
 
@@ -23,7 +23,7 @@ apart_rest : (b : Placed) (bs : List Placed) → Apart (b ∷ bs) → Apart bs
 unfolding Apart
 apart_rest b bs apart m n column row h l p q = omega (arith, apart (suc m) (suc n) column row (omega arith) (omega arith) p q)
 
--- the sample at a place, or another one where no block has it
+-- the sample at a position, or another one if no block has it
 among_or : ℕ → List Placed → ℕ → ℕ → ℕ
 among_or other [] column row = other
 among_or other (b ∷ bs) column row = cond (has b column row) (get_or b.samples (8 * (row - b.corner.1) + (column - b.corner.0)) 0) (among_or other bs column row)
@@ -33,7 +33,7 @@ unfolding among_or
 among_none [] column row = refl
 among_none (b ∷ bs) column row = ap (cond (has b column row) (get_or b.samples (8 * (row - b.corner.1) + (column - b.corner.0)) 0)) (among_none bs column row)
 
--- none of the blocks has the place
+-- none of the blocks has the position
 no_one : (other : ℕ) (bs : List Placed) (column row : ℕ) → ((n : ℕ) → n < length bs → has (get_or bs n no_block) column row ≡ true → ⊥) → among_or other bs column row ≡ other
 unfolding among_or
 no_one other [] column row none = refl
@@ -114,7 +114,7 @@ all_placed w h bs apart = by_parts (with_placed (uniform w h 0) bs) w h (raster 
             subst (λ v. get_or q.samples k 0 ≡ sample_at q (k % v) (k / v)) (placed_width (uniform w h 0) bs)
             (sample_numbered q k (subst (λ v. k < q.height * v) (sym (placed_width (uniform w h 0) bs)) (subst (λ v. k < v * w) (sym (placed_height (uniform w h 0) bs)) l)))
 
--- ---- blocks at corners that are each a place once
+-- ---- blocks at corners that are each a position once
 
 unfoldable pub corners_in : List Placed → List (ℕ × ℕ)
 corners_in bs = map (λ (b : Placed). b.corner) bs
@@ -124,7 +124,7 @@ among_parts a n k e =
     let parts = and_parts _ _ e in
     (leb-true a k parts.0, ltb-true k (a + n) parts.1)
 
--- a block that has a place stands at the corner of that place
+-- a block that has a position is at the corner of that position
 corner_is : (b : Placed) (i j column row : ℕ) → b.corner ≡ (8 * i, 8 * j) → has b column row ≡ true → b.corner ≡ (8 * (column / 8), 8 * (row / 8))
 corner_is b i j column row e h =
     let parts = and_parts _ _ h in
@@ -158,7 +158,7 @@ pub corners_behind : (xs ys : List Placed) → corners_in (xs ++ ys) ≡ corners
 unfolding corners_in
 corners_behind xs ys = map-append (λ (b : Placed). b.corner) xs ys
 
--- ---- blocks in turn
+-- ---- blocks in order
 
 length-placed : (cs : List (ℕ × ℕ)) (bs : List (List ℕ)) → length bs ≡ length cs → length (placed cs bs) ≡ length cs
 length-placed [] [] e = refl
@@ -188,7 +188,7 @@ pub placed_end : (cs : List (ℕ × ℕ)) (bs : List (List ℕ)) (k : ℕ) → l
 unfolding with_placed
 placed_end cs bs k e h p = ap (with_placed p) (drop_all k (placed cs bs) (omega (arith, length-placed cs bs e)))
 
--- where an alpha value of a block stands in those of its slice
+-- the index of an alpha value of a block in those of its slice
 pub value_at : (place : SlicePlace) (x y column row at width : ℕ) → IsInSlice place x y → at ≡ 16 * place.width * (y - 16 * place.row) + (x - 16 * place.column) → width ≡ 16 * place.width
     → at + row * width + column ≡ 16 * place.width * (y + row - 16 * place.row) + (x + column - 16 * place.column)
 value_at place x y column row at width ok e w =
@@ -199,7 +199,7 @@ value_at place x y column row at width ok e w =
     let down : y + row - 16 * place.row ≡ y - 16 * place.row + row = omega arith in
     omega (arith, ok.left, ap (λ j. 16 * place.width * j) down, ap (λ j. row * j) w)
 
--- a block of luma lies in its slice
+-- a block of luma is in its slice
 pub in_slice : (place : SlicePlace) (k : ℕ) (corner : ℕ × ℕ) → k < 4 * place.width → (16 * (place.column + k / 4) + 8 * (k % 2), 16 * place.row + 8 * (k % 4 / 2)) ≡ corner → IsInSlice place corner.0 corner.1
 in_slice place k corner h e =
     let x : 16 * (place.column + k / 4) + 8 * (k % 2) ≡ corner.0 = ap (λ (p : ℕ × ℕ). p.0) e in

@@ -21,14 +21,6 @@ use Rattle.pr_frame.proofs.SliceLoop.{sum-front}
 use Rattle.pr_frame.specs.Forms.{has_alpha}
 use Rattle.pr_frame.specs.Written.{component_bytes, alpha_bytes, slice_header_of, slice_bytes, slice_length, picture_length, picture_bytes, frame_length_of, coded_bytes}
 
-pub on-ok : {X E P Q : Type 0} (r : Result X E) → (P → Q) → OnOk r P → OnOk r Q
-on-ok (Ok x) f p = f p
-on-ok (Err e) f p = tt
-
-pub on-err : {X E P Q : Type 0} (r : Result X E) → (P → Q) → OnErr r P → OnErr r Q
-on-err (Ok x) f p = tt
-on-err (Err e) f p = f p
-
 -- ---- a slice
 
 module _ (mode : Interlace) (alpha : AlphaKind) (s : CodedSlice) (head : SliceHeader) (flag : Bool) (head_is : head ≡ slice_header_of mode alpha s) (flag_is : flag ≡ has_alpha alpha) where
@@ -79,7 +71,7 @@ pub picture-whole : (mode : Interlace) (alpha : AlphaKind) (p : CodedPicture) (s
 unfolding picture_bytes
 picture-whole mode alpha p size count slices e f g = λ j. picture_header_bytes (e j) (f j) p.log2 ++ sizes_bytes (map (slice_length mode alpha) (g j)) ++ flat_map (slice_bytes mode alpha) (g j)
 
--- ---- a list, one behind the other
+-- ---- a list in order
 
 flat-more : {X : Type 0} (f : X → List ℕ) (xs : List X) (x : X) → flat_map f (xs ++ x ∷ []) ≡ flat_map f xs ++ f x
 flat-more f [] x = append-nil (f x)
@@ -137,10 +129,6 @@ module _ (f : CodedFrame) (size : ℕ) (pictures : List CodedPicture) (size_is :
 
   pub frame-pictures : {a b c : SinkState} → Puts a b (frame_header_bytes f.header size) → PutsFront b c (flat_map (picture_bytes f.header.interlace f.header.alpha) pictures) → PutsFront a c (coded_bytes f)
   frame-pictures {a} {b} {c} p q = subst (PutsFront a c) frame-whole (then_front p q)
-
-pub err-any : {X E P : Type 0} (r : Result X E) → P → OnErr r P
-err-any (Ok x) p = tt
-err-any (Err e) p = p
 
 -- one of several lengths is at most their sum
 pub one-length : (f : CodedPicture → ℕ) (xs : List CodedPicture) (i : ℕ) (x : CodedPicture) → i < length xs → x ≡ get_or xs i x → f x ≤ sum (map f xs)

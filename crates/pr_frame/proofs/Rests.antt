@@ -1,6 +1,6 @@
--- What reading leaves: the bytes behind what was read.
+-- What reading leaves: the bytes after what was read.
 use Rattle.std.proofs.Common.{◌≡◌, ℕ, ◌+◌, ◌*◌, ◌≤◌, Bool, true, false, ◌||◌, if◌then◌else◌, List, drop, Ok, refl, sym, ap, ◌∙◌, subst, arith}
-use Rattle.std.proofs.lemmas.Bool.{ltb-false, eqb-false}
+use Rattle.std.proofs.lemmas.Bool.{ltb-false, eqb-false, or_parts}
 use Rattle.pw_planes.specs.declared.kinds.AlphaKind.{AlphaKind}
 use Rattle.pw_planes.specs.declared.kinds.AlphaKind.TheVariants.{Absent, Eight, Sixteen}
 use Rattle.pr_frame.specs.Forms.{has_alpha}
@@ -22,11 +22,11 @@ use Rattle.pr_head.proofs.Passing.{ahead-ahead, ahead-none}
 use Rattle.pr_frame.specs.declared.coded.CodedSlice.{CodedSlice}
 use Rattle.pr_frame.specs.Reading.{ahead, blocks_at, values_at, alpha_at, components_at, coded_slice_at}
 
--- a value and the rest behind it
+-- a value and the rest after it
 abbrev found : {A : Type 0} → A → Rest → Read FrameKind A
 found x s = Ok (x, s)
 
--- what two equal answers give
+-- what two equal results give
 pub ok-both : {A : Type 0} {x y : A} {s t : Rest} → found x s ≡ found y t → (y ≡ x) × (t ≡ s)
 ok-both {A} {x} {y} {s} {t} e = let q : (x, s) ≡ (y, t) = cc e in (sym (ap (λ (p : A × Rest). p.0) q), sym (ap (λ (p : A × Rest). p.1) q))
 
@@ -52,10 +52,6 @@ table-rest r count s sizes t e =
     let e1 = bind-ok _ _ e in
     let e2 = bind-ok _ _ e1.2 in
     ok-both e2.2
-
-false-or : (a b : Bool) → (a || b) ≡ false → (a ≡ false) × (b ≡ false)
-false-or true b e = absurd cc
-false-or false b e = (refl, e)
 
 -- the header of a slice that was read
 pub record IsHead (alpha : Bool) (size : ℕ) (s : Rest) (r : SliceHeader) (t : Rest) : Type 0 where
@@ -103,7 +99,7 @@ head-found alpha size s t r e =
     let f2 = bind-ok _ _ f1.2 in
     let f3 = bind-ok _ _ f2.2 in
     let f4 = bind-ok _ _ f3.2 in
-    let index = false-or _ _ (refuse-ok _ _ _ f3.1) in
+    let index = or_parts _ _ (refuse-ok _ _ _ f3.1) in
     let none = stated-none alpha s.bytes in
     let both = ok-both e2.2 in
     let is = head-of alpha size s q (ltb-false _ _ (refuse-ok _ _ _ f1.1)) (ltb-false _ _ (refuse-ok _ _ _ f4.1)) none.0 none.1 (omega (arith, eqb-false _ _ index.0)) (ltb-false _ _ index.1) refl in
@@ -147,7 +143,7 @@ coded-rest h place size s x t e =
     let behind = cr ∙ ap (ahead r.cr) (cb ∙ ap (ahead r.cb) (y ∙ ap (ahead r.y) found.rest ∙ ahead-ahead r.y r.header s) ∙ ahead-ahead r.cb (r.header + r.y) s) ∙ ahead-ahead r.cr (r.header + r.y + r.cb) s in
     last ∙ alpha ∙ ap (ahead r.alpha) behind ∙ ahead-ahead r.alpha (r.header + r.y + r.cb + r.cr) s ∙ ap (λ n. ahead n s) found.whole
 
--- behind the header of a slice the components are read
+-- after the header of a slice the components are read
 pub coded-is : (h : FrameHeader) (place : SlicePlace) (size : ℕ) (s : Rest) (r : SliceHeader) (t : Rest) → slice_at size (has_alpha h.alpha) s ≡ Ok (r, t) → coded_slice_at h place size s ≡ components_at h place (r, t)
 unfolding coded_slice_at
 coded-is h place size s r t e = bind-step _ _ e

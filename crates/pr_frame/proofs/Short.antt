@@ -1,8 +1,10 @@
--- How many bytes are written.
+-- The number of bytes that are written.
 use Rattle.std.proofs.Common.{◌≡◌, ℕ, zero, suc, ◌+◌, ◌*◌, ◌^◌, ◌<◌, ◌≤◌, Bool, true, false, List, [], ◌∷◌, ◌++◌, length, map, sum, get_or, pos, nat_abs, refl, sym, ap, ◌∙◌, arith, length-append}
 use Rattle.std.specs.List.{All, flat_map}
 use Rattle.std.specs.Int.{w16, to_be_bytes}
 use Rattle.std.proofs.lemmas.List.Elements.{All-head, All-tail, All-nil, All-cons}
+use Rattle.std.proofs.lemmas.List.{nil_from_length}
+use Rattle.pw_outside.proofs.Lists.{below-all}
 use Rattle.pw_planes.specs.declared.kinds.AlphaKind.{AlphaKind}
 use Rattle.pw_planes.specs.declared.kinds.AlphaKind.TheVariants.{Absent, Eight, Sixteen}
 use Rattle.pw_planes.specs.declared.kinds.Interlace.{Interlace}
@@ -42,7 +44,7 @@ slice-is : (mode : Interlace) (alpha : AlphaKind) (s : CodedSlice) → slice_byt
 unfolding slice_bytes
 slice-is mode alpha s = refl
 
--- the bytes of alpha values stand behind the others
+-- the bytes of alpha values follow the others
 pub with-size : (alpha : AlphaKind) (l : List ℕ) (n : ℕ) → with_alpha_size alpha l n ≡ n + alpha_size alpha l
 with-size Absent l n = omega arith
 with-size Eight l n = refl
@@ -166,17 +168,8 @@ slices-short h (p ∷ places) (x ∷ xs) have are small =
 pub part-short : (mode : Interlace) (blocks : List Block) → IsReadyPart blocks → length (component_bytes mode blocks) < 14592
 part-short mode blocks r = component-short mode blocks r.some r.few r.values
 
-below-all : (bound : ℕ) (l : List ℕ) → 0 < bound → All (λ value. value < bound) l → (i : ℕ) → get_or l i 0 < bound
-below-all bound [] some all i = some
-below-all bound (x ∷ l) some all zero = All-head (λ value. value < bound) x l all
-below-all bound (x ∷ l) some all (suc i) = below-all bound l some (All-tail (λ value. value < bound) x l all) i
-
-no-values : (l : List ℕ) → length l ≡ 0 → l ≡ []
-no-values [] e = refl
-no-values (x ∷ l) e = absurd (omega arith)
-
-alpha-ready : (kind : AlphaKind) (place : SlicePlace) (l : List ℕ) → 0 < place.width → place.width ≤ 8 → length l ≡ alpha_count kind place → All (λ value. value < 2 ^ alpha_depth kind) l → IsReadyAlpha kind l
-alpha-ready Absent place l some narrow number all = no-values l number
+pub alpha-ready : (kind : AlphaKind) (place : SlicePlace) (l : List ℕ) → 0 < place.width → place.width ≤ 8 → length l ≡ alpha_count kind place → All (λ value. value < 2 ^ alpha_depth kind) l → IsReadyAlpha kind l
+alpha-ready Absent place l some narrow number all = nil_from_length l number
 alpha-ready Eight place l some narrow number all = record { some = omega arith; few = omega arith; below = below-all 256 l (omega arith) all }
 alpha-ready Sixteen place l some narrow number all = record { some = omega arith; few = omega arith; below = below-all 65536 l (omega arith) all }
 

@@ -20,12 +20,12 @@ use Rattle.pr_head.specs.Faults.{told_fault}
 use Rattle.pr_head.specs.Header.{HasLayoutSize}
 use Rattle.pr_frame.specs.declared.coded.CodedPicture.{CodedPicture}
 use Rattle.pr_frame.specs.declared.coded.CodedFrame.{CodedFrame}
-use Rattle.pr_frame.specs.declared.screen.Screen.{Screen}
+use Rattle.pr_frame.specs.declared.output.OutputPlanes.{OutputPlanes}
 use Rattle.pr_frame.specs.declared.showing.Shown.{Shown}
 use Rattle.pr_frame.specs.Coded.{IsCodedPicture}
 use Rattle.pr_frame.specs.Reading.{coded_picture_at, coded_pictures_at, frame_at, frame_fault}
 use Rattle.pr_frame.specs.Shown.{slice_indices, indices_of, least, greatest, height_of, part_plane, alpha_plane, woven, shown_plane, shown_alpha, shown, HasHeaderForm, IsShownBy}
-use Rattle.pr_frame.specs.inner.Screen.{HasFieldSize, picture_alpha, picture_screen, woven_alpha, woven_screen, frame_screen, shown_with, IsPictureOf, ArePicturesOf, IsFrameOf, Finds}
+use Rattle.pr_frame.specs.inner.Output.{HasFieldSize, picture_alpha, picture_output, woven_alpha, woven_output, frame_output, shown_with, IsPictureOf, ArePicturesOf, IsFrameOf, Finds}
 use Rattle.pr_frame.proofs.Indices.{least_behind, greatest_behind}
 use Rattle.pr_frame.proofs.ShownForm.{plane_sized, shown_form}
 use Rattle.pr_frame.proofs.Answered.{fault-told}
@@ -40,8 +40,8 @@ module _ (h : FrameHeader) (depth : Depth) where
   picture_sized x Eight = plane_sized _ _ _
   picture_sized x Sixteen = plane_sized _ _ _
 
-  pub field_size : (p : Screen) (x : CodedPicture) → p ≡ picture_screen h depth x → HasFieldSize h p
-  field_size p x e = subst (λ (q : Screen). HasFieldSize h q) (sym e) (record { y = plane_sized _ _ _; cb = plane_sized _ _ _; cr = plane_sized _ _ _; alpha = picture_sized x h.alpha })
+  pub field_size : (p : OutputPlanes) (x : CodedPicture) → p ≡ picture_output h depth x → HasFieldSize h p
+  field_size p x e = subst (λ (q : OutputPlanes). HasFieldSize h q) (sym e) (record { y = plane_sized _ _ _; cb = plane_sized _ _ _; cr = plane_sized _ _ _; alpha = picture_sized x h.alpha })
 
   -- ---- one picture, and two
 
@@ -57,8 +57,8 @@ module _ (h : FrameHeader) (depth : Depth) where
     one_index : indices_of (record { header = h; pictures = x ∷ [] }) ≡ slice_indices x.slices
     one_index = append-nil (slice_indices x.slices)
 
-    pub one_screen : picture_screen h depth x ≡ frame_screen depth (record { header = h; pictures = x ∷ [] })
-    one_screen = λ i. record {
+    pub one_output : picture_output h depth x ≡ frame_output depth (record { header = h; pictures = x ∷ [] })
+    one_output = λ i. record {
       y = one_plane (part_plane h depth Y) i;
       cb = one_plane (part_plane h depth Cb) i;
       cr = one_plane (part_plane h depth Cr) i;
@@ -85,8 +85,8 @@ module _ (h : FrameHeader) (depth : Depth) where
         let last : greatest (ys ++ []) ≡ greatest ys = ap greatest (append-nil ys) in
         omega (arith, greatest_behind (slice_indices x.slices) (ys ++ []), last)
 
-    pub two_screens : woven_screen h.interlace (picture_screen h depth x) (picture_screen h depth y) ≡ frame_screen depth (record { header = h; pictures = x ∷ y ∷ [] })
-    two_screens = λ i. record {
+    pub two_outputs : woven_output h.interlace (picture_output h depth x) (picture_output h depth y) ≡ frame_output depth (record { header = h; pictures = x ∷ y ∷ [] })
+    two_outputs = λ i. record {
       y = shown_plane (record { header = h; pictures = x ∷ y ∷ [] }) depth Y;
       cb = shown_plane (record { header = h; pictures = x ∷ y ∷ [] }) depth Cb;
       cr = shown_plane (record { header = h; pictures = x ∷ y ∷ [] }) depth Cr;
@@ -95,11 +95,11 @@ module _ (h : FrameHeader) (depth : Depth) where
       greatest = two_greatest i;
     }
 
-  pub one_picture : (p : Screen) (x : CodedPicture) → h.interlace ≡ Progressive → IsPictureOf h depth p x → ArePicturesOf h depth p (x ∷ [])
+  pub one_picture : (p : OutputPlanes) (x : CodedPicture) → h.interlace ≡ Progressive → IsPictureOf h depth p x → ArePicturesOf h depth p (x ∷ [])
   one_picture p x one ok = record {
     number = ap pictures_of (sym one);
     coded = All-cons (IsCodedPicture h) x [] ok.coded (All-nil (IsCodedPicture h));
-    is = ok.is ∙ one_screen x one;
+    is = ok.is ∙ one_output x one;
   }
 
   two_fields : (mode : Interlace) → (mode ≡ Progressive → ⊥) → 2 ≡ pictures_of mode
@@ -107,11 +107,11 @@ module _ (h : FrameHeader) (depth : Depth) where
   two_fields TopFirst two = refl
   two_fields BottomFirst two = refl
 
-  pub two_pictures : (p q r : Screen) (x y : CodedPicture) → (h.interlace ≡ Progressive → ⊥) → IsPictureOf h depth p x → IsPictureOf h depth q y → r ≡ woven_screen h.interlace p q → ArePicturesOf h depth r (x ∷ y ∷ [])
+  pub two_pictures : (p q r : OutputPlanes) (x y : CodedPicture) → (h.interlace ≡ Progressive → ⊥) → IsPictureOf h depth p x → IsPictureOf h depth q y → r ≡ woven_output h.interlace p q → ArePicturesOf h depth r (x ∷ y ∷ [])
   two_pictures p q r x y two a b e = record {
     number = two_fields h.interlace two;
     coded = All-cons (IsCodedPicture h) x (y ∷ []) a.coded (All-cons (IsCodedPicture h) y [] b.coded (All-nil (IsCodedPicture h)));
-    is = e ∙ (λ i. woven_screen h.interlace (a.is i) (b.is i)) ∙ two_screens x y;
+    is = e ∙ (λ i. woven_output h.interlace (a.is i) (b.is i)) ∙ two_outputs x y;
   }
 
 some_pictures : (mode : Interlace) → 0 < pictures_of mode
@@ -158,10 +158,10 @@ module _ (F : ℕ) (h : FrameHeader) (s : Rest) where
       read_two BottomFirst two = two_read
 
 -- both fields are there: their planes as one are the frame's, unless memory runs out
-pub woven_found : (h : FrameHeader) (depth : Depth) (F : ℕ) (result : Result Screen FrameFault) (p q : Screen) (x y : CodedPicture) (E : Type 0) (left new : Option (List ℕ)) (before after : ℕ)
+pub woven_found : (h : FrameHeader) (depth : Depth) (F : ℕ) (result : Result OutputPlanes FrameFault) (p q : OutputPlanes) (x y : CodedPicture) (E : Type 0) (left new : Option (List ℕ)) (before after : ℕ)
     → (h.interlace ≡ Progressive → ⊥) → IsPictureOf h depth p x → IsPictureOf h depth q y
     → (E → IsSome left → IsSome new × (coded_pictures_at (pictures_of h.interlace) F h (rest_of before left) ≡ Ok (x ∷ y ∷ [], rest_of after new)))
-    → IfOk result (λ r. r ≡ woven_screen h.interlace p q) → IfErr result (λ e. e ≡ NoMemory)
+    → IfOk result (λ r. r ≡ woven_output h.interlace p q) → IfErr result (λ e. e ≡ NoMemory)
     → Finds (ArePicturesOf h depth) E left new before after result (coded_pictures_at (pictures_of h.interlace) F h)
 woven_found h depth F (Ok r) p q x y E left new before after two a b read value error = (x ∷ y ∷ [], two_pictures h depth p q r x y two a b value, read)
 woven_found h depth F (Err e) p q x y E left new before after two a b read value error =
@@ -169,14 +169,14 @@ woven_found h depth F (Err e) p q x y E left new before after two a b read value
 
 -- ---- a frame
 
-pub frame_shown : (h : FrameHeader) (depth : Depth) (p : Screen) (xs : List CodedPicture) → HasLayoutSize h → ArePicturesOf h depth p xs → IsFrameOf depth (shown_with h depth p) (record { header = h; pictures = xs })
+pub frame_shown : (h : FrameHeader) (depth : Depth) (p : OutputPlanes) (xs : List CodedPicture) → HasLayoutSize h → ArePicturesOf h depth p xs → IsFrameOf depth (shown_with h depth p) (record { header = h; pictures = xs })
 unfolding shown
 frame_shown h depth p xs layout ok = record {
   coded = record { layout = layout; number = ok.number; pictures = ok.coded };
   is = ap (shown_with h depth) ok.is;
 }
 
--- ---- what the call answers
+-- ---- what the call returns
 
 module _ (depth : Depth) (size place : ℕ) (left new : Option (List ℕ)) (told : Told left (λ bytes. length bytes ≡ size)) where
   enough : Told left (λ bytes. size ≤ length bytes)

@@ -7,6 +7,7 @@ use Rattle.std.proofs.lemmas.Bool.{cases_lt, cond_both}
 use Rattle.std.proofs.lemmas.Int.{ints, int_max_is, int_min_is}
 use Rattle.std.proofs.lemmas.List.{get_or_past}
 use Rattle.std.proofs.lemmas.List.Elements.{All-map}
+use Rattle.pr_geom.proofs.SliceLemmas.{pictures_whole, height_small}
 use Rattle.pw_planes.specs.declared.kinds.AlphaKind.{AlphaKind}
 use Rattle.pw_planes.specs.declared.kinds.AlphaKind.TheVariants.{Absent, Eight, Sixteen}
 use Rattle.pw_planes.specs.declared.kinds.Chroma.{Chroma}
@@ -63,7 +64,7 @@ unfolding value_block
 values_below place values corner limit some small =
     All-raster (λ s. s < limit) 8 8 (λ column row. alpha_value place values (corner.0 + column) (corner.1 + row)) (λ column row _ _. small_or_zero limit _ values some small)
 
--- ---- blocks at their places
+-- ---- blocks at their positions
 
 -- the samples of all blocks are below a limit
 AreBelow : ℕ → List Placed → Type 0
@@ -125,16 +126,6 @@ alpha_below h x ok =
     (places_in h x.log2) x.slices ok.slices)
 
 -- ---- planes of coded pictures
-
-some_rows : (mode : Interlace) (v : ℕ) → 0 < v → v % pictures_of mode ≡ 0 → 0 < v / pictures_of mode
-some_rows Progressive v h e = omega arith
-some_rows TopFirst v h e = omega arith
-some_rows BottomFirst v h e = omega arith
-
-few_rows : (mode : Interlace) (v : ℕ) → v / pictures_of mode ≤ v
-few_rows Progressive v = omega arith
-few_rows TopFirst v = omega arith
-few_rows BottomFirst v = omega arith
 
 -- two fields are no higher than the frame
 pub fields_fit : (mode : Interlace) (v : ℕ) → (mode ≡ Progressive → ⊥) → v ≤ 4320 → 2 * (v / pictures_of mode) ≤ 4320
@@ -214,7 +205,7 @@ woven_two BottomFirst g [] a b p q two n hp hq ha hb = absurd (omega arith)
 woven_two BottomFirst g (x ∷ []) a b p q two n hp hq ha hb = absurd (omega arith)
 woven_two BottomFirst g (x ∷ y ∷ z ∷ xs) a b p q two n hp hq ha hb = absurd (omega arith)
 
--- the plane of alpha of a frame of two fields
+-- the alpha plane of a frame of two fields
 pub alpha_of_fields : (f : CodedFrame) (a b c : Raster) (p q : CodedPicture) → (f.header.interlace ≡ Progressive → ⊥) → (f.header.alpha ≡ Absent → ⊥) → length f.pictures ≡ pictures_of f.header.interlace
     → p ≡ get_or f.pictures 0 p → q ≡ get_or f.pictures 1 q → a ≡ alpha_plane f.header p → b ≡ alpha_plane f.header q → c ≡ woven f.header.interlace (a ∷ b ∷ []) → Some c ≡ shown_alpha f f.header.alpha
 alpha_of_fields f a b c p q two some n hp hq ha hb hc =
@@ -231,10 +222,10 @@ each_picture xs f all = λ k d h. f _ (all k d h)
 
 module _ (f : CodedFrame) (depth : Depth) (ok : IsCodedFrame f) where
   rows_some : 0 < height_of f.header
-  rows_some = some_rows f.header.interlace f.header.height ok.layout.some_rows ok.layout.whole
+  rows_some = pictures_whole f.header.interlace f.header.height ok.layout.some_rows ok.layout.whole
 
   rows_few : height_of f.header ≤ 4320
-  rows_few = omega (arith, few_rows f.header.interlace f.header.height, ok.layout.rows)
+  rows_few = omega (arith, height_small f.header.interlace f.header.height, ok.layout.rows)
 
   part_sized : (part : Part) → IsSized (shown_plane f depth part) (width_of f.header part) f.header.height
   part_sized part =

@@ -1,4 +1,4 @@
--- The blocks of all slices of a coded picture, each at its place.
+-- The blocks of all slices of a coded picture, each at its position.
 use Rattle.std.proofs.Common.{◌≡◌, refl, ℕ, zero, suc, ◌+◌, ◌*◌, ◌/◌, ◌<◌, ◌≤◌, List, [], ◌∷◌, ◌++◌, length, get_or, drop, map, ap, sym, ◌∙◌, subst, arith}
 use Rattle.std.specs.List.{flat_map}
 use Rattle.std.proofs.lemmas.List.{length-map, drop_more, drop_all}
@@ -6,6 +6,7 @@ use Rattle.pw_planes.specs.declared.kinds.AlphaKind.{AlphaKind}
 use Rattle.pw_planes.specs.declared.kinds.AlphaKind.TheVariants.{Absent, Eight, Sixteen}
 use Rattle.pw_planes.specs.declared.kinds.Depth.{Depth}
 use Rattle.pw_planes.specs.Plane.{Raster, uniform}
+use Rattle.pr_geom.specs.declared.places.TheConstants.{MAX_SLICES}
 use Rattle.pr_geom.specs.declared.places.Part.{Part}
 use Rattle.pr_geom.specs.declared.places.Part.TheVariants.{Y, Cb, Cr}
 use Rattle.pr_geom.specs.declared.places.SlicePlace.{SlicePlace}
@@ -54,7 +55,7 @@ all_corners h part f each (p ∷ ps) [] ok = absurd ok
 all_corners h part f each (p ∷ ps) (s ∷ ss) ok =
     corners_behind (f p s) (all_shown f ps ss) ∙ (λ i. each p s ok.0 i ++ all_corners h part f each ps ss ok.1 i)
 
--- no two blocks of a coded picture have one place
+-- no two blocks of a coded picture have the same position
 shown_apart : (h : FrameHeader) (part : Part) (f : SlicePlace → CodedSlice → List Placed) → ((place : SlicePlace) (s : CodedSlice) → IsCodedSlice h place s → corners_in (f place s) ≡ blocks_of h.chroma part place)
     → (x : CodedPicture) → IsCodedPicture h x → Apart (all_shown f (places_in h x.log2) x.slices)
 shown_apart h part f each x ok =
@@ -71,14 +72,14 @@ part_written h depth part x ok =
     all_placed (width_of h part) (height_of h) (all_shown (shown_part h depth part) (places_in h x.log2) x.slices)
     (shown_apart h part (shown_part h depth part) (part_corners h depth part) x ok)
 
--- and the plane of alpha
+-- and the alpha plane
 pub values_written : (h : FrameHeader) (x : CodedPicture) → IsCodedPicture h x
     → with_placed (uniform h.width (height_of h) 0) (all_shown (shown_values h) (places_in h x.log2) x.slices) ≡ alpha_plane h x
 values_written h x ok =
     all_placed h.width (height_of h) (all_shown (shown_values h) (places_in h x.log2) x.slices)
     (shown_apart h Y (shown_values h) (λ place s _. values_corners h place s) x ok)
 
--- ---- slices in turn
+-- ---- slices in order
 
 pub coded_count : (h : FrameHeader) (places : List SlicePlace) (slices : List CodedSlice) → AreCodedSlices h places slices → length slices ≡ length places
 coded_count h [] [] ok = refl
@@ -114,7 +115,7 @@ shown_end f places slices n h p =
 pub layout_places : (l : Layout) (h : FrameHeader) (log2 : ℕ) → IsLayoutOf l h.width h.height log2 h.interlace h.chroma → slices_of l ≡ places_in h log2
 layout_places l h log2 e = λ i. picture_slices (macroblocks (e.width i)) (macroblocks (e.height i / pictures_of (e.interlace i))) (e.log2 i)
 
-pub few_slices : (h : FrameHeader) (x : CodedPicture) → IsAllowed h.width h.height x.log2 h.interlace → length (places_in h x.log2) ≤ 65535
+pub few_slices : (h : FrameHeader) (x : CodedPicture) → IsAllowed h.width h.height x.log2 h.interlace → length (places_in h x.log2) ≤ MAX_SLICES
 unfolding slice_count
 few_slices h x ok = ok.slices
 

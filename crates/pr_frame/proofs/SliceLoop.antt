@@ -59,6 +59,6 @@ pub coded-more : (h : FrameHeader) (places : List SlicePlace) (front : List Code
 coded-more h places front i place x lt e a b =
     subst (λ ps. AreCodedSlices h ps (front ++ x ∷ [])) (sym (take_more places i no_slice lt ∙ ap (λ (p : SlicePlace). take i places ++ p ∷ []) (sym e))) (are-more h (take i places) front place x a b)
 
--- fewer bytes are left behind n
+-- fewer bytes are left after n
 pub ahead-length : (n : ℕ) (s t : Rest) → t ≡ ahead n s → length t.bytes + n ≡ length s.bytes + (n - length s.bytes)
 ahead-length n s t e = omega (arith, ap (λ (r : Rest). length r.bytes) e, length-drop n s.bytes)

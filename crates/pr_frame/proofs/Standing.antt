@@ -1,6 +1,6 @@
 -- What is read stands for the bytes, and what stands for the bytes is read.
 use Rattle.std.proofs.Common.{◌≡◌, ℕ, ◌+◌, ◌<◌, ◌≤◌, Bool, true, false, ◌||◌, ◌==◌, nat_lt, if◌then◌else◌, List, take, drop, Result, Ok, Err, refl, sym, ap, ◌∙◌, subst, arith}
-use Rattle.std.proofs.lemmas.Bool.{le-ltb, ne_eqb}
+use Rattle.std.proofs.lemmas.Bool.{le-ltb, ne_eqb, or_from}
 use Rattle.pw_outside.specs.Reading.{Rest}
 use Rattle.pw_bits.specs.Bits.{bits}
 use Rattle.pw_planes.specs.declared.kinds.AlphaKind.{AlphaKind}
@@ -20,19 +20,12 @@ use Rattle.pr_head.proofs.Passing.{ahead-ahead, ahead-none}
 use Rattle.pr_frame.specs.declared.coded.CodedSlice.{CodedSlice}
 use Rattle.pr_frame.specs.Forms.{scan_of, has_alpha, block_count, alpha_count}
 use Rattle.pr_frame.specs.Stands.{ComponentStands, ValuesStand, AlphaStands, slice_header_in, HasSlice, SliceStands}
-use Rattle.pr_frame.specs.Reading.{ahead, placed, placed_alpha, blocks_at, values_at, alpha_at, components_at, coded_slice_at}
+use Rattle.pr_frame.specs.Reading.{ahead, located, located_alpha, blocks_at, values_at, alpha_at, components_at, coded_slice_at}
 use Rattle.pr_frame.proofs.Rests.{ok-both, blocks-rest, head-found, head-of-coded, coded-is, stated-none}
 use Rattle.pr_frame.proofs.Steps.{blocks-value, values-value}
 use Rattle.pr_frame.proofs.Counts.{HasBlocksOf}
 use Rattle.pw_planes.specs.declared.kinds.Interlace.{Interlace}
 use Rattle.pw_planes.specs.declared.kinds.Interlace.TheVariants.{Progressive, TopFirst, BottomFirst}
-
-pub or-false : (a b : Bool) → a ≡ false → b ≡ false → (a || b) ≡ false
-or-false a b e f = rw (e, f) refl
-
-pub false-or : (a b : Bool) → (a || b) ≡ false → (a ≡ false) × (b ≡ false)
-false-or true b e = absurd cc
-false-or false b e = (refl, e)
 
 pub scan-is : (mode : Interlace) → IsScan (scan_of mode)
 scan-is Progressive = progressive_is_scan
@@ -41,13 +34,13 @@ scan-is BottomFirst = interlaced_is_scan
 
 -- ---- a component
 
-placed-ok : {A : Type 0} (place : ℕ) (r : Result A coefficients.Fault) {x : A} → placed place r ≡ Ok x → r ≡ Ok x
-placed-ok place (Ok y) e = cc
-placed-ok place (Err f) e = absurd cc
+located-ok : {A : Type 0} (place : ℕ) (r : Result A coefficients.Fault) {x : A} → located place r ≡ Ok x → r ≡ Ok x
+located-ok place (Ok y) e = cc
+located-ok place (Err f) e = absurd cc
 
-placed-alpha : {A : Type 0} (place : ℕ) (r : Result A reading.Fault) {x : A} → placed_alpha place r ≡ Ok x → r ≡ Ok x
-placed-alpha place (Ok y) e = cc
-placed-alpha place (Err f) e = absurd cc
+located-alpha : {A : Type 0} (place : ℕ) (r : Result A reading.Fault) {x : A} → located_alpha place r ≡ Ok x → r ≡ Ok x
+located-alpha place (Ok y) e = cc
+located-alpha place (Err f) e = absurd cc
 
 pub blocks-found : (scan : List ℕ) (count size : ℕ) (s t : Rest) (blocks : List Block) → IsScan scan → 0 < count → blocks_at scan count size s ≡ Ok (blocks, t)
     → ComponentStands scan count (take size s.bytes) blocks
@@ -55,7 +48,7 @@ unfolding blocks_at
 blocks-found scan count size s t blocks is some e =
     let e1 = bind-ok _ _ e in
     let same : e1.0 ≡ blocks = sym (ok-both e1.2).0 in
-    let read : coefficients.component_at count scan (bits (take size s.bytes)) ≡ Ok blocks = placed-ok s.place _ e1.1 ∙ ap (λ (x : List Block). Ok x) same in
+    let read : coefficients.component_at count scan (bits (take size s.bytes)) ≡ Ok blocks = located-ok s.place _ e1.1 ∙ ap (λ (x : List Block). Ok x) same in
     let found = component_found scan (bits (take size s.bytes)) blocks count is some read in
     record { number = found.0; stands = found.1 }
 
@@ -71,7 +64,7 @@ unfolding values_at
 values-found n count size s t l e =
     let e1 = bind-ok _ _ e in
     let same : e1.0 ≡ l = sym (ok-both e1.2).0 in
-    let read : reading.alpha_at count n (bits (take size s.bytes)) ≡ Ok l = placed-alpha s.place _ e1.1 ∙ ap (λ (x : List ℕ). Ok x) same in
+    let read : reading.alpha_at count n (bits (take size s.bytes)) ≡ Ok l = located-alpha s.place _ e1.1 ∙ ap (λ (x : List ℕ). Ok x) same in
     let found = alpha_found n count (bits (take size s.bytes)) l read in
     record { number = found.0; stands = found.1 }
 
@@ -118,7 +111,7 @@ stated-found alpha size s least whole from to =
     refuse-step _ _ _ _ (le-ltb size (least_slice_header alpha) (omega (arith, low, within)))
     ∙ bind-step _ _ (refuse-step _ _ _ _ (le-ltb q.header (least_slice_header alpha) low)
     ∙ refuse-step _ _ _ _ (le-ltb size q.header (omega (arith, within)))
-    ∙ refuse-step _ _ _ _ (or-false (q.index == 0) (nat_lt 224 q.index) (ne_eqb q.index 0 (λ e. omega (arith, some, e))) (le-ltb 224 q.index (subst (λ n. n ≤ 224) same.1 to)))
+    ∙ refuse-step _ _ _ _ (or_from (q.index == 0) (nat_lt 224 q.index) (ne_eqb q.index 0 (λ e. omega (arith, some, e))) (le-ltb 224 q.index (subst (λ n. n ≤ 224) same.1 to)))
     ∙ refuse-step _ _ _ _ (le-ltb size (slice_size q) within))
     ∙ ap (λ n. Ok (with_last size alpha q, ahead n s)) (sym same.0)
 

@@ -25,7 +25,7 @@ use Rattle.pr_head.specs.declared.fault.FrameFault.TheVariants as faults
 use Rattle.pr_head.specs.Faults.{told_fault}
 use Rattle.pr_frame.specs.Reading.{ahead, blocks_at, IsHeldFault, values_at, IsAlphaFaultOf}
 
--- what is left behind n bytes
+-- the bytes left after n bytes
 pub rest-ahead : (at n : ℕ) (old new : Option (List ℕ)) → bytes_of new ≡ drop n (bytes_of old) → ahead n (rest_of at old) ≡ rest_of (at + n) new
 rest-ahead at n old new e = λ j. record { place = at + n; bytes = sym e j }
 
@@ -42,10 +42,6 @@ window-bytes n None h = absurd cc
 pub window-told : (n : ℕ) (o : Option (List ℕ)) → IsSome o → IsSome (first_bytes n o)
 window-told n (Some l) h = refl
 window-told n None h = absurd cc
-
-pub told-window : (n : ℕ) (o : Option (List ℕ)) → IsSome (first_bytes n o) → IsSome o
-told-window n (Some l) h = refl
-told-window n None h = absurd cc
 
 -- blocks for which the bits of a component stand are read from them
 pub blocks-stand : (scan : Scan) (count size at : ℕ) (o : Option (List ℕ)) (held : List ℕ) (blocks : List Block) → held ≡ take size (bytes_of o) → length blocks ≡ count → count ≤ 32
@@ -64,7 +60,7 @@ blocks-fault scan count size s held (faults.Bad kind at) is w =
 blocks-fault scan count size s held faults.Failed is w = absurd w
 blocks-fault scan count size s held faults.NoMemory is w = absurd w
 
--- the component of which a piece holds the bytes
+-- the component whose bytes a piece holds
 pub component-value : (scan : Scan) (count size at : ℕ) (old new : Option (List ℕ)) (held : List ℕ) (blocks : List Block) (result : Result (Unit {0}) FrameFault) → held ≡ take size (bytes_of old) → bytes_of new ≡ drop size (bytes_of old)
     → length blocks ≡ count → count ≤ 32 → OnOk result (Stands (bits held) blocks (places scan)) → OnOk result (blocks_at (places scan) count size (rest_of at old) ≡ Ok (blocks, rest_of (at + size) new))
 component-value scan count size at old new held blocks (Ok u) is rest number few stands =
@@ -126,14 +122,9 @@ values-window-fault n count size at o k e f told number found is =
     (subst (λ b. calls.IsFault e (reading.alpha_at count n (bits b))) (window-bytes size o told)
     (subst (λ m. calls.IsFault e (reading.alpha_at m n (bits (bytes_of (first_bytes size o))))) number found)) is
 
--- values below a bound, one by one, are all below it
-pub all-below : (bound : ℕ) (l : List ℕ) → ((i : ℕ) → get_or l i 0 < bound) → All (λ value. value < bound) l
-all-below bound [] below = All-nil (λ value. value < bound)
-all-below bound (x ∷ l) below = All-cons (λ value. value < bound) x l (below 0) (all-below bound l (λ i. below (suc i)))
+-- ---- offsets
 
--- ---- places
-
--- the place behind what was read
+-- the offset after what was read
 pub value-at : {X : Type 0} (read : Read FrameKind X) (x : X) (after n m : ℕ) (new : Option (List ℕ)) (s : Rest) → read ≡ Ok (x, rest_of after new) → rest_of after new ≡ ahead n s → s.place + n ≡ m
     → read ≡ Ok (x, rest_of m new)
 value-at read x after n m new s e r p = e ∙ ap (λ k. Ok (x, rest_of k new)) (ap (λ (t : Rest). t.place) r ∙ p)

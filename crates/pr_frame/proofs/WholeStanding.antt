@@ -2,7 +2,7 @@
 use Rattle.std.proofs.Common.{◌≡◌, inl, inr, ℕ, zero, suc, ◌+◌, ◌-◌, ◌*◌, ◌%◌, ◌≤◌, Bool, true, false, not, ◌==◌, nat_lt, List, [], ◌∷◌, length, drop, sum, Some, Result, Ok, Err, refl, sym, ap, ◌∙◌, subst, arith}
 use Rattle.std.specs.Prelude.{◌⊎◌}
 use Rattle.std.specs.Result.{result_err}
-use Rattle.std.proofs.lemmas.Bool.{le-ltb, ltb-false, ne_eqb, eqb-false, eqb-true, eq-eqb}
+use Rattle.std.proofs.lemmas.Bool.{le-ltb, or_from, or_parts, not-false, ltb-false, ne_eqb, eqb-false, eqb-true, eq-eqb}
 use Rattle.pw_outside.specs.Reading.{Fault, Rest}
 use Rattle.pw_planes.specs.declared.plane.TheConstants.{MAX_WIDTH, MAX_HEIGHT}
 use Rattle.pr_geom.specs.declared.places.SlicePlace.{SlicePlace}
@@ -24,14 +24,10 @@ use Rattle.pr_frame.specs.Stands.{SlicesStand, table_of, behind_table, PictureSt
 use Rattle.pr_frame.specs.Reading.{ahead, coded_slices_at, coded_picture_at, coded_pictures_at, frame_at, frame_of, frame_fault}
 use Rattle.pr_frame.proofs.Rests.{ok-both, header-rest, picture-rest, table-rest, coded-rest}
 use Rattle.pr_frame.proofs.SliceLoop.{sum-front}
-use Rattle.pr_frame.proofs.Standing.{slice-found, slice-again, or-false, false-or}
+use Rattle.pr_frame.proofs.Standing.{slice-found, slice-again}
 use Rattle.pr_frame.proofs.Counts.{AllHave, places-have, length-sizes, count-places}
 
 -- ---- slices
-
-not-false : (b : Bool) → not b ≡ false → b ≡ true
-not-false true e = refl
-not-false false e = absurd cc
 
 pub slices-found : (h : FrameHeader) (places : List SlicePlace) (sizes : List ℕ) (s t : Rest) (xs : List CodedSlice) → AllHave h places → length sizes ≡ length places
     → coded_slices_at h places sizes s ≡ Ok (xs, t) → SlicesStand h places sizes s.bytes xs
@@ -219,8 +215,8 @@ header-found s o t e =
     let f5 = bind-ok _ _ f4.2 in
     let f6 = bind-ok _ _ f5.2 in
     let f7 = bind-ok _ _ f6.2 in
-    let some = false-or (r.width == 0) (r.height == 0) (refuse-ok _ _ _ f5.1) in
-    let most = false-or (nat_lt MAX_WIDTH r.width) (nat_lt MAX_HEIGHT r.height) (refuse-ok _ _ _ f6.1) in
+    let some = or_parts (r.width == 0) (r.height == 0) (refuse-ok _ _ _ f5.1) in
+    let most = or_parts (nat_lt MAX_WIDTH r.width) (nat_lt MAX_HEIGHT r.height) (refuse-ok _ _ _ f6.1) in
     let even : r.height % pictures_of (interlace_of (interlace_bits r)) ≤ 0 = ltb-false _ _ (refuse-ok _ _ _ f7.1) in
     let is = header-rest (length s) s o t e in
     record {
@@ -257,8 +253,8 @@ header-again s h p =
     ∙ refuse-step _ _ _ _ (le-ltb _ _ p.chroma)
     ∙ refuse-step _ _ _ _ (ne_eqb _ _ p.interlace)
     ∙ refuse-step _ _ _ _ (le-ltb _ _ p.alpha)
-    ∙ refuse-step _ _ _ _ (or-false (r.width == 0) (r.height == 0) (ne_eqb _ _ (λ e. omega (arith, p.form.some_columns))) (ne_eqb _ _ (λ e. omega (arith, p.form.some_rows))))
-    ∙ refuse-step _ _ _ _ (or-false (nat_lt MAX_WIDTH r.width) (nat_lt MAX_HEIGHT r.height) (le-ltb _ _ p.form.columns) (le-ltb _ _ p.form.rows))
+    ∙ refuse-step _ _ _ _ (or_from (r.width == 0) (r.height == 0) (ne_eqb _ _ (λ e. omega (arith, p.form.some_columns))) (ne_eqb _ _ (λ e. omega (arith, p.form.some_rows))))
+    ∙ refuse-step _ _ _ _ (or_from (nat_lt MAX_WIDTH r.width) (nat_lt MAX_HEIGHT r.height) (le-ltb _ _ p.form.columns) (le-ltb _ _ p.form.rows))
     ∙ refuse-step _ _ _ _ (le-ltb _ _ (omega (arith, even))))
     ∙ ap (λ (o : Opened). Ok (o, record { place = header_taken s; bytes = drop (header_taken s) s })) opened
 

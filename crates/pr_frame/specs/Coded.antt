@@ -1,4 +1,5 @@
--- When a coded frame is one: what every frame that is read has, and what is asked of one that is written.
+-- Validity of coded frames: what every frame that is read satisfies, and what a frame that is written has to
+-- satisfy.
 use Rattle.std.specs.Prelude.{◌≡◌, ◌^◌, ◌<◌, ◌≤◌, List, [], ◌∷◌, length, nat_abs}
 use Rattle.std.specs.List.{All}
 use Rattle.pr_geom.specs.declared.places.SlicePlace.{SlicePlace}
@@ -28,7 +29,7 @@ pub record IsCodedSlice (h : FrameHeader) (place : SlicePlace) (s : CodedSlice) 
   pub alpha : length s.alpha ≡ alpha_count h.alpha place
   pub values : All (λ value. value < 2 ^ alpha_depth h.alpha) s.alpha
 
--- slices that lie at these places, each at its own
+-- slices at these places, each at its own
 abbrev pub AreCodedSlices : FrameHeader → List SlicePlace → List CodedSlice → Type 0
 AreCodedSlices h [] [] = Unit {0}
 AreCodedSlices h [] (slice ∷ slices) = ⊥
@@ -46,7 +47,7 @@ pub record IsCodedFrame (f : CodedFrame) : Type 0 where
   pub number : length f.pictures ≡ pictures_of f.header.interlace
   pub pictures : All (IsCodedPicture f.header) f.pictures
 
--- ---- what is asked of a frame that is written
+-- ---- what a frame that is written has to satisfy
 
 -- a quantised value of magnitude at most 8,191
 abbrev pub IsWritableBlock : Block → Type 0
@@ -61,7 +62,7 @@ pub record IsWritableSlice (s : CodedSlice) : Type 0 where
 abbrev pub IsWritablePicture : CodedPicture → Type 0
 IsWritablePicture x = All IsWritableSlice x.slices
 
--- a header whose fields can be written: its version is the one that its form has
+-- a header whose fields can be written: its version is the one for its form
 pub record IsWritableHeader (h : FrameHeader) : Type 0 where
   pub version : h.version ≡ version_of h.chroma h.alpha
   pub aspect : h.aspect < 16
@@ -75,7 +76,7 @@ pub record IsWritable (f : CodedFrame) : Type 0 where
   pub header : IsWritableHeader f.header
   pub values : All IsWritablePicture f.pictures
 
--- A coded frame that can be written: its length is a number of 32 bits besides.
+-- A coded frame that can be written: also, its length is a number of 32 bits.
 pub record CanBeWritten (f : CodedFrame) : Type 0 where
   pub writable : IsWritable f
   pub short : frame_length_of f < 2 ^ 32

@@ -1,4 +1,4 @@
--- What the header of a frame says of its pictures and slices (SMPTE RDD 36, picture, slice and component).
+-- The pictures and slices that a frame header says (SMPTE RDD 36, picture, slice and component).
 use Rattle.std.specs.Prelude.{ℕ, ◌*◌, ◌/◌, Bool, true, false, List, length}
 use Rattle.pw_planes.specs.declared.kinds.AlphaKind.{AlphaKind}
 use Rattle.pw_planes.specs.declared.kinds.AlphaKind.TheVariants.{Absent, Eight, Sixteen}
@@ -11,7 +11,7 @@ use Rattle.pr_geom.specs.Blocks.{blocks_of}
 use Rattle.pr_coeff.specs.Component.{progressive, interlaced}
 use Rattle.pr_head.specs.declared.frame.FrameHeader.{FrameHeader}
 
--- the places of a block in the order of the scan: fields have one of their own
+-- the positions of a block in scan order: fields have one of their own
 abbrev pub scan_of : Interlace → List ℕ
 scan_of Progressive = progressive
 scan_of TopFirst = interlaced
@@ -23,15 +23,15 @@ has_alpha Absent = false
 has_alpha Eight = true
 has_alpha Sixteen = true
 
--- where the slices of each picture lie, in order, at this binary logarithm of a slice's desired width
+-- the places of the slices of each picture, in order, at this binary logarithm of a slice's desired width
 abbrev pub places_in : FrameHeader → ℕ → List SlicePlace
 places_in h log2 = picture_slices (macroblocks h.width) (macroblocks (h.height / pictures_of h.interlace)) log2
 
--- how many blocks a part of a slice has
+-- the number of blocks of a part of a slice
 abbrev pub block_count : FrameHeader → SlicePlace → Part → ℕ
 block_count h place part = length (blocks_of h.chroma part place)
 
--- how many alpha values a slice has: those of its 16 rows, 16 for each macroblock of a row
+-- the number of alpha values of a slice: those of its 16 rows, 16 for each macroblock of a row
 abbrev pub alpha_count : AlphaKind → SlicePlace → ℕ
 alpha_count Absent place = 0
 alpha_count Eight place = 256 * place.width

@@ -24,11 +24,11 @@ FrameOrFault = (sample : List ℕ) → ((f : CodedFrame) × FrameStands sample f
 abbrev pub FrameHasNoFault : Type 0
 FrameHasNoFault = (sample : List ℕ) (f : CodedFrame) → FrameStands sample f → frame_fault sample ≡ None
 
--- what was written stands for what was written
+-- the written bytes stand for the frame that was written
 abbrev pub WrittenStands : Type 0
 WrittenStands = (f : CodedFrame) → HasShape f → CanBeWritten f → FrameStands (coded_bytes f) f
 
--- how many bytes are written
+-- the number of bytes that are written
 abbrev pub WrittenHasLength : Type 0
 WrittenHasLength = (f : CodedFrame) → HasArrays f.header → length (coded_bytes f) ≡ frame_length_of f
 

@@ -1,6 +1,6 @@
--- Reading a frame from left to right: the coded frame, or the first fault and its place, in the order of reading (our own).
--- A slice's header is judged before its components are read, these in their order with alpha at last, and the slices of a
--- picture before the next picture.
+-- Reading a frame from left to right: the coded frame, or the first fault and its offset, in the order of reading
+-- (our own). A slice's header is validated before its components are read, these in their order with alpha last,
+-- and the slices of a picture before the next picture.
 use Rattle.std.specs.Prelude.{◌≡◌, ℕ, zero, suc, ◌+◌, List, [], ◌∷◌, length, take, drop, Option, Result, Ok, Err}
 use Rattle.std.specs.Result.{result_err}
 use Rattle.pw_outside.specs.Reading.{Fault, Rest, Read, ◌>>=◌, bad}
@@ -33,7 +33,7 @@ use Rattle.pr_frame.specs.Forms.{scan_of, has_alpha, places_in, block_count, alp
 
 -- ---- components
 
--- n bytes further on
+-- n bytes further
 abbrev pub ahead : ℕ → Rest → Rest
 ahead n s = record { place = s.place + n; bytes = drop n s.bytes }
 
@@ -44,27 +44,27 @@ kind_of coefficients.run_past = kinds.RunPast
 kind_of coefficients.level_range = kinds.LevelRange
 
 -- a fault of a component is at its first byte
-abbrev pub placed : {A : Type 0} → ℕ → Result A coefficients.Fault → Result A (Fault FrameKind)
-placed place (Ok blocks) = Ok blocks
-placed place (Err fault) = bad (kind_of fault) place
+abbrev pub located : {A : Type 0} → ℕ → Result A coefficients.Fault → Result A (Fault FrameKind)
+located place (Ok blocks) = Ok blocks
+located place (Err fault) = bad (kind_of fault) place
 
--- the error of a frame that an error of its component at this place is
+-- the frame's error for an error of its component at this offset
 abbrev pub IsFaultOf : CoeffFault → ℕ → FrameFault → Type 0
 IsFaultOf errors.Codeword place fault = fault ≡ faults.Bad kinds.Codeword place
 IsFaultOf errors.RunPast place fault = fault ≡ faults.Bad kinds.RunPast place
 IsFaultOf errors.LevelRange place fault = fault ≡ faults.Bad kinds.LevelRange place
 IsFaultOf errors.Failed place fault = fault ≡ faults.Failed
 
--- the error of a frame that the fault of a component's blocks is, which began at this place; no other error is one
+-- the frame's error for a fault of the component at this offset; no other error is one
 abbrev pub IsHeldFault : {A : Type 0} → ℕ → Result A coefficients.Fault → FrameFault → Type 0
 IsHeldFault place found (faults.Bad kind at) = (fault : coefficients.Fault) × (found ≡ Err fault) × (kind ≡ kind_of fault) × (at ≡ place)
 IsHeldFault place found faults.Failed = ⊥
 IsHeldFault place found faults.NoMemory = ⊥
 
--- a component of so many blocks in the next `size` bytes
+-- a component of n blocks in the next `size` bytes
 unfoldable pub blocks_at : List ℕ → ℕ → ℕ → Rest → Read FrameKind (List Block)
 blocks_at scan count size s = do
-  blocks ← placed s.place (coefficients.component_at count scan (bits (take size s.bytes)))
+  blocks ← located s.place (coefficients.component_at count scan (bits (take size s.bytes)))
   Ok (blocks, ahead size s)
 
 -- ---- alpha values
@@ -75,23 +75,23 @@ kind_of_alpha values.wanting = kinds.AlphaShort
 kind_of_alpha values.past = kinds.AlphaPast
 
 -- a fault of alpha values is at their first byte
-abbrev pub placed_alpha : {A : Type 0} → ℕ → Result A values.Fault → Result A (Fault FrameKind)
-placed_alpha place (Ok l) = Ok l
-placed_alpha place (Err fault) = bad (kind_of_alpha fault) place
+abbrev pub located_alpha : {A : Type 0} → ℕ → Result A values.Fault → Result A (Fault FrameKind)
+located_alpha place (Ok l) = Ok l
+located_alpha place (Err fault) = bad (kind_of_alpha fault) place
 
--- the error of a frame that an error of its alpha values at this place is
+-- the frame's error for an error of its alpha values at this offset
 abbrev pub IsAlphaFaultOf : AlphaFault → ℕ → FrameFault → Type 0
 IsAlphaFaultOf wrong.AlphaShort place fault = fault ≡ faults.Bad kinds.AlphaShort place
 IsAlphaFaultOf wrong.AlphaPast place fault = fault ≡ faults.Bad kinds.AlphaPast place
 IsAlphaFaultOf wrong.Failed place fault = fault ≡ faults.Failed
 
--- so many alpha values of n bits in the next `size` bytes
+-- `count` alpha values of n bits in the next `size` bytes
 unfoldable pub values_at : ℕ → ℕ → ℕ → Rest → Read FrameKind (List ℕ)
 values_at n count size s = do
-  l ← placed_alpha s.place (values.alpha_at count n (bits (take size s.bytes)))
+  l ← located_alpha s.place (values.alpha_at count n (bits (take size s.bytes)))
   Ok (l, ahead size s)
 
--- the alpha values of a slice, so many, in the next `size` bytes; none in a frame without alpha
+-- the alpha values of a slice, `count` of them, in the next `size` bytes; none in a frame without alpha
 abbrev pub alpha_at : AlphaKind → ℕ → ℕ → Rest → Read FrameKind (List ℕ)
 alpha_at Absent count size s = Ok ([], s)
 alpha_at Eight count size s = values_at 8 count size s
@@ -99,7 +99,7 @@ alpha_at Sixteen count size s = values_at 16 count size s
 
 -- ---- slices
 
--- the components of a slice, behind its header, with alpha at last
+-- the components of a slice, after its header, with alpha last
 unfoldable pub components_at : FrameHeader → SlicePlace → SliceHeader × Rest → Read FrameKind CodedSlice
 components_at h place head = do
   y ← blocks_at (scan_of h.interlace) (block_count h place Y) head.0.y head.1
@@ -130,7 +130,7 @@ coded_picture_at F h s = do
   slices ← coded_slices_at h (places_in h head.0.log2) sizes.0 sizes.1
   Ok (record { log2 = head.0.log2; slices = slices.0 }, ahead head.0.size s)
 
--- so many pictures, one behind the other
+-- n pictures in order
 unfoldable pub coded_pictures_at : ℕ → ℕ → FrameHeader → Rest → Read FrameKind (List CodedPicture)
 coded_pictures_at zero F h s = Ok ([], s)
 coded_pictures_at (suc count) F h s = do
@@ -149,6 +149,6 @@ frame_at n s = do
 unfoldable pub frame_of : List ℕ → Result CodedFrame (Fault FrameKind)
 frame_of sample = frame_at (length sample) (record { place = 0; bytes = sample }) >>= λ found. Ok found.0
 
--- the first fault of a sample; none where it stands for a coded frame
+-- the first fault of a sample; none if it stands for a coded frame
 abbrev pub frame_fault : List ℕ → Option (Fault FrameKind)
 frame_fault sample = result_err (frame_of sample)

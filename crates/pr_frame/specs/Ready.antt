@@ -1,8 +1,9 @@
--- What each step of writing asks of what it writes; a frame that can be written has it all (our own).
+-- The conditions of each step of writing; a frame that can be written satisfies all of them (our own).
 use Rattle.std.specs.Prelude.{◌≡◌, ℕ, ◌<◌, ◌≤◌, List, [], length}
 use Rattle.std.specs.List.{All}
 use Rattle.pw_planes.specs.declared.kinds.AlphaKind.{AlphaKind}
 use Rattle.pw_planes.specs.declared.kinds.AlphaKind.TheVariants.{Absent, Eight, Sixteen}
+use Rattle.pr_geom.specs.declared.places.TheConstants.{MAX_SLICES}
 use Rattle.pr_alpha.specs.Alpha.{AreBelow}
 use Rattle.pr_coeff.specs.Component.{Block}
 use Rattle.pr_frame.specs.declared.coded.CodedSlice.{CodedSlice}
@@ -21,7 +22,7 @@ pub record AreReadyValues (n : ℕ) (l : List ℕ) : Type 0 where
   pub few : length l ≤ 2048
   pub below : AreBelow n l
 
--- the alpha values of a slice in a frame of this kind of alpha; none where it has no alpha
+-- the alpha values of a slice in a frame of this kind of alpha; none if the frame has no alpha
 abbrev pub IsReadyAlpha : AlphaKind → List ℕ → Type 0
 IsReadyAlpha Absent l = l ≡ []
 IsReadyAlpha Eight l = AreReadyValues 8 l
@@ -34,6 +35,6 @@ pub record IsReady (alpha : AlphaKind) (s : CodedSlice) : Type 0 where
   pub alpha_values : IsReadyAlpha alpha s.alpha
 
 pub record IsReadyPicture (alpha : AlphaKind) (x : CodedPicture) : Type 0 where
-  pub few : length x.slices ≤ 65535
+  pub few : length x.slices ≤ MAX_SLICES
   pub log2 : x.log2 ≤ 3
   pub slices : All (IsReady alpha) x.slices

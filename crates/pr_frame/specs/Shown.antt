@@ -31,7 +31,7 @@ use Rattle.pr_frame.specs.Stands.{FrameStands}
 
 -- ---- a block
 
--- the products of quantised values, each with its weight and the factor of the index
+-- the products of quantised values, each with its weight and the scale of the index
 abbrev pub products : List ℕ → ℕ → Block → List ℤ
 products weights index block = map (λ p. dequantised (get_or block p (pos 0)) (get_or weights p 0 * scale_of index)) (range_with_len 0 64)
 
@@ -39,13 +39,13 @@ products weights index block = map (λ p. dequantised (get_or block p (pos 0)) (
 abbrev pub samples_shown : Depth → List ℤ → List ℕ
 samples_shown depth values = map (λ a. nat_abs (clipping.shown depth a)) values
 
--- the samples of a block: what its products transform to, clipped
+-- the samples of a block: the transform of its products, clipped
 unfoldable pub shown_block : Depth → List ℕ → ℕ → Block → List ℕ
 shown_block depth weights index block = samples_shown depth (samples (products weights index block))
 
--- ---- blocks at their places
+-- ---- blocks at their positions
 
--- eight rows of eight samples, with their corner at a place
+-- eight rows of eight samples, with their corner at a position
 pub record Placed : Type 0 where
   pub corner : ℕ × ℕ
   pub samples : List ℕ
@@ -83,7 +83,7 @@ abbrev pub placed : List (ℕ × ℕ) → List (List ℕ) → List Placed
 placed (corner ∷ corners) (block ∷ blocks) = record { corner = corner; samples = block } ∷ placed corners blocks
 placed _ _ = []
 
--- what a part of a slice shows, each block at its place
+-- the samples of a part of a slice, each block at its position
 unfoldable pub shown_part : FrameHeader → Depth → Part → SlicePlace → CodedSlice → List Placed
 shown_part h depth part place s = placed (blocks_of h.chroma part place) (map (shown_block depth (weights_of h part) s.index) (part_of part s))
 
@@ -95,13 +95,13 @@ alpha_value place values column row = slice_index values (16 * place.width * (ro
 unfoldable pub value_block : SlicePlace → List ℕ → ℕ × ℕ → List ℕ
 value_block place values corner = raster 8 8 (λ column row. alpha_value place values (corner.0 + column) (corner.1 + row))
 
--- the alpha values of a slice, in blocks that lie where luma's do
+-- the alpha values of a slice, in blocks at the positions of luma's
 unfoldable pub shown_values : FrameHeader → SlicePlace → CodedSlice → List Placed
 shown_values h place s = placed (blocks_of h.chroma Y place) (map (value_block place s.alpha) (blocks_of h.chroma Y place))
 
 -- ---- a coded picture
 
--- what slices show, each at its place
+-- the samples of slices, each block at its position
 abbrev pub all_shown : (SlicePlace → CodedSlice → List Placed) → List SlicePlace → List CodedSlice → List Placed
 all_shown f (place ∷ places) (slice ∷ slices) = f place slice ++ all_shown f places slices
 all_shown f _ _ = []
@@ -120,13 +120,13 @@ width_of h Cr = chroma_width h.chroma h.width
 abbrev pub part_plane : FrameHeader → Depth → Part → CodedPicture → Raster
 part_plane h depth part x = plane_of (width_of h part) (height_of h) (all_shown (shown_part h depth part) (places_in h x.log2) x.slices)
 
--- its plane of alpha
+-- its alpha plane
 abbrev pub alpha_plane : FrameHeader → CodedPicture → Raster
 alpha_plane h x = plane_of h.width (height_of h) (all_shown (shown_values h) (places_in h x.log2) x.slices)
 
 -- ---- a frame
 
--- a plane of a frame of those of its coded pictures: the one, or the fields, of which the first is the earlier
+-- a plane of a frame from those of its coded pictures: the one, or the two fields, the earlier first
 abbrev pub woven : Interlace → List Raster → Raster
 woven Progressive planes = slice_index_or planes 0 (uniform 1 1 0)
 woven TopFirst planes = frame_of (slice_index_or planes 0 (uniform 1 1 0)) (slice_index_or planes 1 (uniform 1 1 0))
@@ -136,7 +136,7 @@ woven BottomFirst planes = frame_of (slice_index_or planes 1 (uniform 1 1 0)) (s
 abbrev pub shown_plane : CodedFrame → Depth → Part → Raster
 shown_plane f depth part = woven f.header.interlace (map (part_plane f.header depth part) f.pictures)
 
--- the plane of alpha, where the frame has alpha: the values as they are, at every depth
+-- the alpha plane, if the frame has alpha: the values as they are, at every depth
 abbrev pub shown_alpha : CodedFrame → AlphaKind → Option Raster
 shown_alpha f Absent = None
 shown_alpha f Eight = Some (woven f.header.interlace (map (alpha_plane f.header) f.pictures))
@@ -153,7 +153,7 @@ shown f depth = record {
   depth = depth;
 }
 
--- ---- what is told of a sample
+-- ---- what is reported of a sample
 
 -- the indices of slices
 abbrev pub slice_indices : List CodedSlice → List ℕ
@@ -163,7 +163,7 @@ slice_indices slices = map (λ (s : CodedSlice). s.index) slices
 abbrev pub indices_of : CodedFrame → List ℕ
 indices_of f = flat_map (λ (x : CodedPicture). slice_indices x.slices) f.pictures
 
--- the least of some numbers of a byte
+-- the least of some bytes
 abbrev pub least : List ℕ → ℕ
 least [] = 255
 least (n ∷ ns) = min n (least ns)
@@ -173,11 +173,12 @@ abbrev pub greatest : List ℕ → ℕ
 greatest [] = 0
 greatest (n ∷ ns) = max n (greatest ns)
 
--- what is told of a frame that is shown: its header, the least and the greatest index of its slices, and its picture
+-- what is reported of a frame that is shown: its header, the least and the greatest index of its slices, and its
+-- picture
 abbrev pub shown_of : Depth → CodedFrame → Shown
 shown_of depth f = record { header = f.header; least_index = least (indices_of f); greatest_index = greatest (indices_of f); picture = shown f depth }
 
--- The sample stands for a coded frame, and this is told of it.
+-- The sample stands for a coded frame, and this is reported of it.
 pub record IsShownBy (depth : Depth) (sample : List ℕ) (p : Shown) : Type 0 where
   pub frame : CodedFrame
   pub stands : FrameStands sample frame

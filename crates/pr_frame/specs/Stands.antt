@@ -1,6 +1,7 @@
--- For which coded frame a sample stands: its fields are those of the coded frame, each at its place, and the bits of each
--- component stand for its blocks (SMPTE RDD 36). Reserved bits, the bytes of headers behind their known fields, the bytes of
--- a picture behind its slices, those of the frame behind its pictures and those of the sample behind the frame are free.
+-- For which coded frame a sample stands: its fields are those of the coded frame, each at its offset, and the bits
+-- of each component stand for its blocks (SMPTE RDD 36). These bytes are free: reserved bits, the bytes of headers
+-- after their known fields, those of a picture after its slices, those of the frame after its pictures and those of
+-- the sample after the frame.
 use Rattle.std.specs.Prelude.{◌≡◌, ◌≢◌, ℕ, ◌+◌, ◌-◌, ◌*◌, ◌≤◌, Bool, List, [], ◌∷◌, length, take, drop}
 use Rattle.pw_bits.specs.Bits.{bits}
 use Rattle.pw_planes.specs.declared.kinds.AlphaKind.{AlphaKind}
@@ -23,28 +24,28 @@ use Rattle.pr_frame.specs.Forms.{scan_of, has_alpha, places_in, block_count, alp
 
 -- ---- a slice
 
--- bytes that stand for so many blocks of a component
+-- bytes that stand for n blocks of a component
 pub record ComponentStands (scan : List ℕ) (count : ℕ) (bytes : List ℕ) (blocks : List Block) : Type 0 where
   pub number : length blocks ≡ count
   pub stands : Stands (bits bytes) blocks scan
 
--- the bytes stand for so many alpha values of n bits; no bytes stand for the greatest value everywhere
+-- the bytes stand for `count` alpha values of n bits; no bytes stand for the greatest value everywhere
 pub record ValuesStand (n : ℕ) (count : ℕ) (bytes : List ℕ) (l : List ℕ) : Type 0 where
   pub number : length l ≡ count
   pub stands : values.Stands (bits bytes) l n
 
--- the bytes stand for so many alpha values of a slice: 16 rows, each from the left; a frame without alpha has none
+-- the bytes stand for `count` alpha values of a slice: 16 rows, each from the left; a frame without alpha has none
 abbrev pub AlphaStands : AlphaKind → ℕ → List ℕ → List ℕ → Type 0
 AlphaStands Absent count bytes l = l ≡ []
 AlphaStands Eight count bytes l = ValuesStand 8 count bytes l
 AlphaStands Sixteen count bytes l = ValuesStand 16 count bytes l
 
--- the header of a slice of so many bytes, which begins here; the last component has what the others leave
+-- the header of a slice of `size` bytes, which begins here; the last component has the rest
 abbrev pub slice_header_in : Bool → ℕ → List ℕ → SliceHeader
 slice_header_in alpha size b = with_last size alpha (stated_of alpha b)
 
--- The slice at this place, of so many bytes, has this header: it is within the slice, and the components lie behind it, one
--- behind the other, with alpha at last.
+-- The slice at this place, of `size` bytes, has this header: it is within the slice, and the components follow it
+-- in order, with alpha last.
 pub record HasSlice (alpha : Bool) (h : FrameHeader) (place : SlicePlace) (size : ℕ) (r : SliceHeader) (b : List ℕ) (s : CodedSlice) : Type 0 where
   pub least : least_slice_header alpha ≤ r.header
   pub whole : slice_size r ≡ size
@@ -56,23 +57,23 @@ pub record HasSlice (alpha : Bool) (h : FrameHeader) (place : SlicePlace) (size 
   pub cr : ComponentStands (scan_of h.interlace) (block_count h place Cr) (take r.cr (drop (r.header + r.y + r.cb) b)) s.cr
   pub alpha_values : AlphaStands h.alpha (alpha_count h.alpha place) (take r.alpha (drop (r.header + r.y + r.cb + r.cr) b)) s.alpha
 
--- these bytes begin with the slice at this place, which has so many of them
+-- these bytes begin with the slice at this place, which has `size` bytes
 abbrev pub SliceStands : FrameHeader → SlicePlace → ℕ → List ℕ → CodedSlice → Type 0
 SliceStands h place size b s = HasSlice (has_alpha h.alpha) h place size (slice_header_in (has_alpha h.alpha) size b) b s
 
 -- ---- a picture
 
--- these bytes begin with the slices at these places, of these sizes, each behind the one before
+-- these bytes begin with the slices at these places, of these sizes, in order
 abbrev pub SlicesStand : FrameHeader → List SlicePlace → List ℕ → List ℕ → List CodedSlice → Type 0
 SlicesStand h [] [] b [] = Unit {0}
 SlicesStand h (place ∷ places) (size ∷ sizes) b (slice ∷ slices) = SliceStands h place size b slice × SlicesStand h places sizes (drop size b) slices
 SlicesStand h _ _ b _ = ⊥
 
--- the sizes in the table of a picture, which lies behind its header
+-- the sizes in the table of a picture, which follows its header
 abbrev pub table_of : FrameHeader → List ℕ → List ℕ
 table_of h b = sizes_of (slices_in h (picture_of b)) (drop (picture_of b).header b)
 
--- the bytes behind a picture's table
+-- the bytes after a picture's table
 abbrev pub behind_table : FrameHeader → List ℕ → List ℕ
 behind_table h b = drop ((picture_of b).header + 2 * slices_in h (picture_of b)) b
 
@@ -87,7 +88,7 @@ pub record PictureStands (h : FrameHeader) (room : ℕ) (b : List ℕ) (x : Code
   pub table : picture_size (picture_of b) (table_of h b) ≤ (picture_of b).size
   pub slices : SlicesStand h (places_in h x.log2) (table_of h b) (behind_table h b) x.slices
 
--- these bytes begin with the pictures, each behind the one before
+-- these bytes begin with the pictures, in order
 abbrev pub PicturesStand : FrameHeader → ℕ → List ℕ → List CodedPicture → Type 0
 PicturesStand h room b [] = Unit {0}
 PicturesStand h room b (x ∷ xs) = PictureStands h room b x × PicturesStand h (room - (picture_of b).size) (drop (picture_of b).size b) xs
@@ -105,7 +106,7 @@ pub record HeaderStands (s : List ℕ) (h : FrameHeader) : Type 0 where
   pub alpha : alpha_bits (start_of s) ≤ 2
   pub is : header_of (start_of s) (luma_of s) (chroma_weights_of s) ≡ h
 
--- how many bytes the header has, counted from the frame's first
+-- the number of bytes of the header, counted from the frame's first
 abbrev pub header_taken : List ℕ → ℕ
 header_taken s = 8 + (start_of s).header
 

@@ -1,5 +1,5 @@
--- The one spelling of a coded frame, and how many bytes it has (SMPTE RDD 36, frame syntax; the choices that the syntax leaves
--- open are our own: both matrices, the shortest headers, nothing behind the slices and behind the pictures).
+-- The canonical bytes of a coded frame, and their number (SMPTE RDD 36, frame syntax; the choices that the syntax
+-- leaves open are our own: both matrices, the shortest headers, nothing after the slices and after the pictures).
 use Rattle.std.specs.Prelude.{ℕ, ◌+◌, ◌*◌, List, [], length, map, sum, ◌++◌}
 use Rattle.std.specs.List.{flat_map}
 use Rattle.pw_planes.specs.declared.kinds.AlphaKind.{AlphaKind}
@@ -29,11 +29,11 @@ alpha_bytes Absent l = []
 alpha_bytes Eight l = values.alpha 8 l
 alpha_bytes Sixteen l = values.alpha 16 l
 
--- how many bytes alpha values have
+-- the number of bytes of alpha values
 abbrev pub alpha_size : AlphaKind → List ℕ → ℕ
 alpha_size alpha l = length (alpha_bytes alpha l)
 
--- how many bytes stand there with those of alpha values behind them
+-- a number of bytes, with those of alpha values after them
 abbrev pub with_alpha_size : AlphaKind → List ℕ → ℕ → ℕ
 with_alpha_size Absent l n = n
 with_alpha_size Eight l n = n + length (values.alpha 8 l)
@@ -57,7 +57,7 @@ slice_bytes mode alpha s =
     ++ component_bytes mode s.y ++ component_bytes mode s.cb ++ component_bytes mode s.cr
     ++ alpha_bytes alpha s.alpha
 
--- how many bytes a slice has
+-- the number of bytes of a slice
 abbrev pub slice_length : Interlace → AlphaKind → CodedSlice → ℕ
 slice_length mode alpha s = with_alpha_size alpha s.alpha
     (least_slice_header (has_alpha alpha)
@@ -65,11 +65,11 @@ slice_length mode alpha s = with_alpha_size alpha s.alpha
 
 -- ---- a picture
 
--- how many bytes each slice of a picture has
+-- the number of bytes of each slice of a picture
 abbrev pub slice_lengths : Interlace → AlphaKind → CodedPicture → List ℕ
 slice_lengths mode alpha x = map (slice_length mode alpha) x.slices
 
--- how many bytes a picture has: its header of 8 bytes, two bytes a slice in its table, and its slices
+-- the number of bytes of a picture: its header of 8 bytes, two bytes a slice in its table, and its slices
 abbrev pub picture_length : Interlace → AlphaKind → CodedPicture → ℕ
 picture_length mode alpha x = 8 + 2 * length x.slices + sum (slice_lengths mode alpha x)
 
@@ -82,7 +82,7 @@ picture_bytes mode alpha x =
 
 -- ---- a frame
 
--- how many bytes a frame has: its header of 156 bytes, and its pictures
+-- the number of bytes of a frame: its header of 156 bytes, and its pictures
 abbrev pub frame_length_of : CodedFrame → ℕ
 frame_length_of f = 156 + sum (map (picture_length f.header.interlace f.header.alpha) f.pictures)
 

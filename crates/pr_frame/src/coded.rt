@@ -1,10 +1,10 @@
-//! Frames as they are coded: quantised values in blocks, in slices, in pictures.
+//! Frames as they are coded: quantised values in blocks, slices and pictures.
 
 use pr_coeff::Block;
 use pr_head::FrameHeader;
 use std::marker::Model;
 
-/// The blocks of a component of a slice, one macroblock after the other from the left.
+/// The blocks of a component of a slice, macroblock by macroblock from the left.
 #[derive(Drop)]
 pub struct Blocks {
     blocks: Vec<Block>,
@@ -82,8 +82,8 @@ impl AlphaValues {
     }
 }
 
-/// A slice (SMPTE RDD 36, slice): the quantisation index and the quantised values of its components. The number of blocks
-/// of each component, and the number of alpha values, are those that the layout has for the slice.
+/// A slice (SMPTE RDD 36, slice): the quantisation index and the quantised values of its components. The layout
+/// gives the number of blocks of each component and the number of alpha values.
 #[derive(Drop)]
 pub struct CodedSlice {
     /// The quantisation index, from 1 to 224.
@@ -92,7 +92,7 @@ pub struct CodedSlice {
     pub y: Blocks,
     /// The first component of chroma, 1 to 32 blocks.
     pub cb: Blocks,
-    /// The second component of chroma, as many blocks.
+    /// The second component of chroma, with as many blocks as the first.
     pub cr: Blocks,
     /// The alpha values; none where the frame has no alpha.
     pub alpha: AlphaValues,
@@ -143,7 +143,7 @@ impl CodedSlices {
 pub struct CodedPicture {
     /// The binary logarithm of the desired width of a slice in macroblocks, from 0 to 3.
     pub log2: u8,
-    /// The slices of its layout, 1 to 65,535.
+    /// The slices of its layout, from 1 to `pr_geom::MAX_SLICES`.
     pub slices: CodedSlices,
 }
 

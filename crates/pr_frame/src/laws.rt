@@ -17,7 +17,7 @@ pub fn frame_has_no_fault()
     ensures { FrameHasNoFault }
 {}
 
-/// What is written stands for what was written.
+/// The written bytes stand for the frame that was written.
 pub fn written_stands()
     ensures { WrittenStands }
 {}
@@ -27,7 +27,7 @@ pub fn written_is_read_again()
     ensures { WrittenIsReadAgain }
 {}
 
-/// How many bytes are written.
+/// The number of bytes that are written.
 pub fn written_has_length()
     ensures { WrittenHasLength }
 {}

@@ -1,20 +1,19 @@
-//! Whole frames, both ways: the bytes of a coded frame, and the coded frame that a sample stands for, or its first fault.
+//! Whole frames, read and written: the bytes of a coded frame, and the coded frame that a sample stands for, or its
+//! first fault.
 #![tactic(auto)]
 
 mod coded;
-mod desk;
 mod laws;
+mod output;
 mod parts;
 mod pictures;
 mod placing;
 mod products;
 mod read;
-mod screen;
+mod scratch;
 mod showing;
 mod size;
 mod slices;
-#[cfg(test)]
-mod tests;
 mod write;
 
 pub use coded::{

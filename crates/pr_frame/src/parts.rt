@@ -15,7 +15,7 @@ ghost use Rattle.pr_frame.specs.Forms.{scan_of, has_alpha, alpha_count, alpha_de
 ghost use Rattle.pr_frame.specs.Reading.{blocks_at, IsFaultOf, IsHeldFault, values_at, alpha_at, IsAlphaFaultOf};
 
 use crate::coded::{AlphaValues, Blocks};
-use crate::desk::Desk;
+use crate::scratch::Scratch;
 use pr_alpha::{AlphaFault, read_alpha};
 use pr_coeff::{Block, CoeffFault, Scan};
 use pr_geom::{Layout, Part, SlicePlace};
@@ -46,7 +46,7 @@ pub(crate) fn has_alpha(alpha: AlphaKind) -> bool
     }
 }
 
-/// Why a component at this place was not read.
+/// Why the component at an offset was not read.
 fn fault_of(fault: CoeffFault, place: u64) -> FrameFault
     ensures bad { IsFaultOf fault place result }
 {
@@ -59,7 +59,7 @@ fn fault_of(fault: CoeffFault, place: u64) -> FrameFault
     FrameFault::Bad { kind, place }
 }
 
-/// Passes over the next bytes, so many or fewer where the source ends.
+/// Skips the next `count` bytes, or fewer if the source ends.
 pub(crate) fn pass<S: ByteSource>(source: &mut S, count: u64) -> Result<(), Failed>
     ensures told { IsSome (S.left source.old) → IsSome (S.left source.new) }
     ensures bytes { OnOk result (IsSome (S.left source.old) → bytes_of (S.left source.new) ≡ drop count (bytes_of (S.left source.old))) }
@@ -71,7 +71,7 @@ pub(crate) fn pass<S: ByteSource>(source: &mut S, count: u64) -> Result<(), Fail
     window.skip()
 }
 
-/// Fills the piece with the next bytes, and says how many came: fewer where the source ends.
+/// Fills the piece with the next bytes and returns how many were read: fewer if the source ends.
 fn next_bytes<S: ByteSource>(source: &mut S, piece: &mut [u8]) -> Result<usize, FrameFault>
     ensures count { IfOk result (λ n. n ≤ length piece.new) }
     ensures bytes { IsSome (S.left source.old) → IfOk result (λ n. take n piece.new ≡ take (length piece.old) (bytes_of (S.left source.old))) }
@@ -85,7 +85,8 @@ fn next_bytes<S: ByteSource>(source: &mut S, piece: &mut [u8]) -> Result<usize, 
     Ok(fill(source, piece)?)
 }
 
-/// Reads the component that has these first bytes of a piece and eight behind them, which began at the place `at`.
+/// Reads the component of these first bytes of a piece, with eight bytes after them. The component is at the offset
+/// `at`.
 fn read_held(
     piece: &[u8],
     count: usize,
@@ -107,14 +108,14 @@ fn read_held(
     }
 }
 
-/// Reads the component that has the next `size` bytes, from the place `at` on.
+/// Reads the component of the next `size` bytes, at the offset `at`.
 fn component<S: ByteSource>(
     source: &mut S,
     at: u64,
     size: u16,
     scan: Scan,
     blocks: &mut [Block],
-    desk: &mut Desk,
+    scratch: &mut Scratch,
 ) -> Result<(), FrameFault>
     requires count { (0 < length blocks.old) × (length blocks.old ≤ 32) }
     ensures told { IsSome (S.left source.old) → OnOk result (IsSome (S.left source.new)) }
@@ -124,12 +125,12 @@ fn component<S: ByteSource>(
     ensures becomes { GoesOn S.becomes source.old source.new }
     ensures cause { CountsFault (S.faults source.old) (S.faults source.new) (is_failed result) }
 {
-    let count = next_bytes(source, &mut desk.piece[..usize::from(size)])?;
-    read_held(&desk.piece, count, at, scan, blocks, &desk.words)
+    let count = next_bytes(source, &mut scratch.piece[..usize::from(size)])?;
+    read_held(&scratch.piece, count, at, scan, blocks, &scratch.words)
 }
 
-/// Reads the blocks of a part of a slice in the next `size` bytes. The slice lies at this place of the layout, which is that
-/// of a frame with this header.
+/// Reads the blocks of a part of a slice from the next `size` bytes. `slice` is its place in the layout, which is
+/// that of a frame with this header.
 pub(crate) fn read_part<S: ByteSource>(
     source: &mut S,
     place: &mut u64,
@@ -137,7 +138,7 @@ pub(crate) fn read_part<S: ByteSource>(
     layout: &Layout,
     slice: &SlicePlace,
     part: Part,
-    desk: &mut Desk,
+    scratch: &mut Scratch,
 ) -> Result<Blocks, FrameFault>
     requires slice { IsSlice layout.now slice.now }
     requires room { place.old + size < 2 ^ 64 }
@@ -149,20 +150,20 @@ pub(crate) fn read_part<S: ByteSource>(
     ensures cause { CountsFault (S.faults source.old) (S.faults source.new) (is_failed result) }
 {
     let count = layout.blocks(slice, part);
-    let mut blocks = Vec::from_elem(desk.alloc, [0; 64], usize::from(count))?;
+    let mut blocks = Vec::from_elem(scratch.alloc, [0; 64], usize::from(count))?;
     component(
         source,
         *place,
         size,
         scan_of(layout.interlace),
         &mut blocks,
-        desk,
+        scratch,
     )?;
     *place += u64::from(size);
     Ok(Blocks::from_vec(blocks))
 }
 
-/// Why alpha values at this place were not read.
+/// Why the alpha values at an offset were not read.
 fn alpha_fault_of(fault: AlphaFault, place: u64) -> FrameFault
     ensures bad { IsAlphaFaultOf fault place result }
 {
@@ -174,7 +175,7 @@ fn alpha_fault_of(fault: AlphaFault, place: u64) -> FrameFault
     FrameFault::Bad { kind, place }
 }
 
-/// Reads the alpha values that the window has, from the place `at` on, and passes over what is left of it.
+/// Reads the alpha values of the window, at the offset `at`, and skips what is left of the window.
 fn read_alpha_window<S: ByteSource>(
     window: &mut Window<'_, S>,
     at: u64,
@@ -187,7 +188,7 @@ fn read_alpha_window<S: ByteSource>(
     ensures fault { IsSome (S.left window.old.source.now) → IfErr result (λ e. Fails told_fault e (values_at bits (length values.old) window.old.left (rest_of at (S.left window.old.source.now)))) }
     ensures below { OnOk result (AreBelow bits values.new) }
     ensures told { IsSome (S.left window.old.source.now) → IsSome (S.left window.new.source.now) }
-    // The port behind it is the same.
+    // The port of the window is the same.
     ensures same_source { window.new.source.ghost_name ≡ window.old.source.ghost_name }
     ensures most { Lowers (S.most window.old.source.now) (S.most window.new.source.now) 0 }
     ensures becomes { GoesOn S.becomes window.old.source.now window.new.source.now }
@@ -199,7 +200,7 @@ fn read_alpha_window<S: ByteSource>(
     }
 }
 
-/// Reads the alpha values that have the next `size` bytes, from the place `at` on.
+/// Reads the alpha values of the next `size` bytes, at the offset `at`.
 fn alpha_values<S: ByteSource>(
     source: &mut S,
     at: u64,
@@ -221,7 +222,7 @@ fn alpha_values<S: ByteSource>(
     read_alpha_window(&mut window, at, bits, values)
 }
 
-/// Reads the alpha values of a slice, of 8 or 16 bits, in the next `size` bytes.
+/// Reads the alpha values of a slice, of 8 or 16 bits, from the next `size` bytes.
 fn read_values<S: ByteSource>(
     alloc: Global,
     source: &mut S,
@@ -249,7 +250,8 @@ fn read_values<S: ByteSource>(
     Ok(AlphaValues::from_vec(values))
 }
 
-/// Reads the alpha values of a slice in the next `size` bytes, in a frame of this kind of alpha; none where it has no alpha.
+/// Reads the alpha values of a slice from the next `size` bytes, in a frame of this kind of alpha; none if the
+/// frame has no alpha.
 pub(crate) fn read_alpha_part<S: ByteSource>(
     alloc: Global,
     source: &mut S,

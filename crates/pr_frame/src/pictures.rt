@@ -55,7 +55,7 @@ fn weights_of(header: &FrameHeader, part: Part) -> &[u8; 64]
     }
 }
 
-/// Writes what a part of a slice shows into the plane of the part.
+/// Writes the samples of a part of a slice into the plane of the part.
 pub(crate) fn put_slice_part(
     plane: &mut Plane,
     depth: Depth,
@@ -194,8 +194,8 @@ fn shown_alpha(alloc: Global, frame: &CodedFrame) -> Result<Option<Plane>, NoMem
     Ok(Some(woven(alloc, frame.header.interlace, &first, &second)?))
 }
 
-/// The picture that a coded frame shows, with samples of this depth (SMPTE RDD 36, decoding; the product without a division,
-/// the transform and the clipping are our own). Alpha values are shown as they are, whatever the depth is.
+/// The picture that a coded frame shows, with samples of this depth (SMPTE RDD 36, decoding; the product without a
+/// division, the transform and the clipping are our own). Alpha values are shown as they are, at every depth.
 pub fn show(alloc: Global, frame: &CodedFrame, depth: Depth) -> Result<Picture, NoMemory>
     requires { IsCodedFrame frame.now }
     ensures value { IfOk result (λ p. p ≡ shown frame.now depth) }

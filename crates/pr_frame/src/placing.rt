@@ -1,4 +1,4 @@
-//! Blocks, put into planes.
+//! Blocks, written into planes.
 
 ghost use Rattle.std.specs.Prelude.{◌≡◌, ◌≤◌, ◌+◌, ◌-◌, ◌*◌, length, map};
 ghost use Rattle.pr_geom.specs.Blocks.{blocks_of};
@@ -12,7 +12,7 @@ use pr_coeff::Block;
 use pr_geom::{Layout, Part, SlicePlace};
 use pw_planes::{Depth, Plane};
 
-/// Writes what the blocks of a part of a slice show into the plane of the part.
+/// Writes the samples of the blocks of a part of a slice into the plane of the part.
 pub(crate) fn put_part(
     plane: &mut Plane,
     depth: Depth,
@@ -36,7 +36,7 @@ pub(crate) fn put_part(
     }
 }
 
-/// Where the alpha values of the block with this corner begin, in those of a slice.
+/// The index, in the alpha values of a slice, of the first value of the block with this corner.
 fn value_place(slice: &SlicePlace, x: u32, y: u32) -> usize
     requires { IsInSlice slice.now x y }
     ensures value { result ≡ 16 * slice.now.width * (y - 16 * slice.now.row) + (x - 16 * slice.now.column) }
@@ -48,7 +48,7 @@ fn value_place(slice: &SlicePlace, x: u32, y: u32) -> usize
     width * row + column
 }
 
-/// The alpha values of a slice that stand in the block with this corner.
+/// The alpha values of a slice in the block with this corner.
 fn value_block(slice: &SlicePlace, values: &[u16], x: u32, y: u32) -> [u16; 64]
     requires narrow { slice.now.width ≤ 8 }
     requires count { length values.now ≡ 256 * slice.now.width }

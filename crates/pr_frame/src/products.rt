@@ -10,7 +10,7 @@ use pr_dct::{flat_sample, inverse, sample_out};
 use pr_quant::{dequantise, scale};
 use pw_planes::Depth;
 
-/// The products of the quantised values of a block, each with its weight and the factor of the index.
+/// The products of the quantised values of a block, each with its weight and the scale of the index.
 fn wide_products(weights: &[u8; 64], index: u8, block: &Block) -> [i32; 64]
     requires least { 1 ≤ index }
     requires most { index ≤ 224 }
@@ -25,7 +25,7 @@ fn wide_products(weights: &[u8; 64], index: u8, block: &Block) -> [i32; 64]
     products
 }
 
-/// What `dequantise` answers where the multiplier is below 2^16, in 32 bits.
+/// The result of `dequantise` for multipliers below 2^16, in 32 bits.
 fn narrow_product(q: i16, m: u16) -> i32
     ensures value { result ≡ dequantised q m }
     ensures within { nat_abs result ≤ 2 ^ 19 }
@@ -33,7 +33,7 @@ fn narrow_product(q: i16, m: u16) -> i32
     (i32::from(q) * i32::from(m)).clamp(-524_288, 524_287)
 }
 
-/// The products where no multiplier passes 16 bits, whatever the weights are: several are made together.
+/// The products if no multiplier passes 16 bits, whatever the weights are: several are computed together.
 fn narrow_products(weights: &[u8; 64], index: u8, block: &Block) -> [i32; 64]
     requires least { 1 ≤ index }
     requires small { scale_of index ≤ 257 }
@@ -48,7 +48,7 @@ fn narrow_products(weights: &[u8; 64], index: u8, block: &Block) -> [i32; 64]
     products
 }
 
-/// The products of the quantised values of a block, each with its weight and the factor of the index.
+/// The products of the quantised values of a block, each with its weight and the scale of the index.
 fn products_of(weights: &[u8; 64], index: u8, block: &Block) -> [i32; 64]
     requires least { 1 ≤ index }
     requires most { index ≤ 224 }
@@ -73,8 +73,8 @@ fn samples_of(depth: Depth, values: &[i32; 64]) -> [u16; 64]
     samples
 }
 
-/// Whether all values of a block but the first are 0. The loop has no early way out, so that several values are looked at
-/// together.
+/// Whether all values of a block but the first are 0. The loop has no early exit, so that several values are
+/// compared together.
 fn is_flat(block: &Block) -> bool
     ensures { IsTrue result → (p : ℕ) → p < 64 → 0 < p → get_or block.now p (pos 0) ≡ pos 0 }
 {
@@ -85,7 +85,7 @@ fn is_flat(block: &Block) -> bool
     any == 0
 }
 
-/// The samples that a block shows whose values are all 0 but the first.
+/// The samples of a block whose values are all 0 but the first.
 fn flat_block(depth: Depth, weights: &[u8; 64], index: u8, block: &Block) -> [u16; 64]
     requires least { 1 ≤ index }
     requires most { index ≤ 224 }
@@ -96,7 +96,7 @@ fn flat_block(depth: Depth, weights: &[u8; 64], index: u8, block: &Block) -> [u1
     [sample_out(depth, flat_sample(product)); 64]
 }
 
-/// The samples that a block shows.
+/// The samples of a block.
 pub(crate) fn shown_block(depth: Depth, weights: &[u8; 64], index: u8, block: &Block) -> [u16; 64]
     requires least { 1 ≤ index }
     requires most { index ≤ 224 }

@@ -14,8 +14,8 @@ ghost use Rattle.pr_frame.specs.Reading.{coded_picture_at, coded_pictures_at, fr
 ghost use Rattle.pr_frame.specs.Stands.{FrameStands};
 
 use crate::coded::{CodedFrame, CodedPicture, CodedPictures};
-use crate::desk::{Desk, new_desk};
 use crate::parts::pass;
+use crate::scratch::{Scratch, new_scratch};
 use crate::slices::read_slices;
 use pr_geom::{Layout, pictures_of};
 use pr_head::{
@@ -48,7 +48,7 @@ pub(crate) fn picture_header<S: ByteSource>(
     Ok((picture, layout))
 }
 
-/// Reads the sizes of so many slices, behind the picture's header.
+/// Reads the sizes of `slices` slices, after the picture's header.
 pub(crate) fn slice_sizes<S: ByteSource>(
     alloc: Global,
     source: &mut S,
@@ -73,7 +73,7 @@ pub(crate) fn slice_sizes<S: ByteSource>(
     Ok(sizes)
 }
 
-/// Passes over the bytes up to this place.
+/// Skips the bytes up to this offset.
 pub(crate) fn pass_to<S: ByteSource>(
     source: &mut S,
     place: &mut u64,
@@ -93,14 +93,14 @@ pub(crate) fn pass_to<S: ByteSource>(
     Ok(())
 }
 
-/// Reads the picture that begins here, in a frame of `frame` bytes with this header, and passes over what is left of it.
+/// Reads the picture that begins here, in a frame of `frame` bytes with this header, and skips what is left of it.
 #[tactic(auto, using(pr_head::proofs::Bounds::lowers_then))]
 fn read_picture<S: ByteSource>(
     source: &mut S,
     place: &mut u64,
     frame: u32,
     header: &FrameHeader,
-    desk: &mut Desk,
+    scratch: &mut Scratch,
 ) -> Result<CodedPicture, FrameFault>
     requires header { HasLayoutSize header.now }
     requires room { place.old ≤ frame }
@@ -113,8 +113,8 @@ fn read_picture<S: ByteSource>(
 {
     let at = *place;
     let (picture, layout) = picture_header(source, place, frame, header)?;
-    let sizes = slice_sizes(desk.alloc, source, place, &picture, layout.slices())?;
-    let slices = read_slices(source, place, &sizes, header, &layout, desk)?;
+    let sizes = slice_sizes(scratch.alloc, source, place, &picture, layout.slices())?;
+    let slices = read_slices(source, place, &sizes, header, &layout, scratch)?;
     pass_to(source, place, at + u64::from(picture.size))?;
     Ok(CodedPicture {
         log2: picture.log2,
@@ -122,7 +122,7 @@ fn read_picture<S: ByteSource>(
     })
 }
 
-/// Reads so many pictures, one behind the other, in a frame of `frame` bytes with this header.
+/// Reads `count` pictures in order, in a frame of `frame` bytes with this header.
 #[tactic(auto, using(pr_head::proofs::Bounds::lowers_then))]
 fn read_pictures<S: ByteSource>(
     source: &mut S,
@@ -130,7 +130,7 @@ fn read_pictures<S: ByteSource>(
     count: u8,
     frame: u32,
     header: &FrameHeader,
-    desk: &mut Desk,
+    scratch: &mut Scratch,
 ) -> Result<CodedPictures, FrameFault>
     requires header { HasLayoutSize header.now }
     requires room { place.old ≤ frame }
@@ -141,15 +141,15 @@ fn read_pictures<S: ByteSource>(
     ensures becomes { GoesOn S.becomes source.old source.new }
     ensures cause { CountsFault (S.faults source.old) (S.faults source.new) (is_failed result) }
 {
-    let mut pictures = Vec::new(desk.alloc);
+    let mut pictures = Vec::new(scratch.alloc);
     for _ in 0..count {
-        let picture = read_picture(source, place, frame, header, desk)?;
+        let picture = read_picture(source, place, frame, header, scratch)?;
         pictures.push(picture)?;
     }
     Ok(CodedPictures::from_vec(pictures))
 }
 
-/// Reads the frame at the front of a sample of `size` bytes.
+/// Reads the frame at the start of a sample of `size` bytes.
 #[tactic(auto, using(pr_head::proofs::Bounds::lowers_then))]
 fn frame_from<S: ByteSource>(
     alloc: Global,
@@ -168,33 +168,33 @@ fn frame_from<S: ByteSource>(
     let (header, taken, frame) = read_frame_header(source, size)?;
     *place = u64::from(taken);
     let count = pictures_of(header.interlace);
-    let mut desk = new_desk(alloc);
-    let pictures = read_pictures(source, place, count, frame, &header, &mut desk)?;
+    let mut scratch = new_scratch(alloc);
+    let pictures = read_pictures(source, place, count, frame, &header, &mut scratch)?;
     Ok(CodedFrame { header, pictures })
 }
 
 /// Reads the coded frame for which a sample of `size` bytes stands. The source holds the sample.
 ///
-/// The errors are `Bad` with the first fault of the sample and its place, counted from the sample's first byte; `Failed`
-/// where a call of the source failed; and `NoMemory`. Of a source that doesn't tell its bytes, what is answered has the
+/// The errors are `Bad` with the first fault of the sample and its offset, counted from the sample's first byte;
+/// `Failed` if a call of the source failed; and `NoMemory`. For a source whose bytes are opaque, the result has the
 /// counts of its header's layout.
 pub fn read_frame<S: ByteSource>(
     alloc: Global,
     source: &mut S,
     size: u32,
 ) -> Result<CodedFrame, FrameFault>
-    // Where the source tells its bytes, they are the sample.
+    // If the source's bytes are visible, they are the sample.
     requires { Told (S.left source.old) (λ bytes. length bytes ≡ size) }
-    // Where the source tells its bytes, the sample stands for the frame that is answered.
+    // If the source's bytes are visible, the sample stands for the returned frame.
     ensures stands { IfOk result (λ f. Told (S.left source.old) (λ sample. FrameStands sample f)) }
-    // Where it tells them, a fault that is answered is the sample's first.
+    // If they are visible, a reported fault is the sample's first.
     ensures fault { IfErr result (λ e. Told (S.left source.old) (λ sample. IfSome (told_fault e) (λ fault. frame_fault sample ≡ Some fault))) }
-    // What is answered is a coded frame.
+    // What is returned is a coded frame.
     ensures coded { IfOk result IsCodedFrame }
     ensures told { IsSome (S.left source.old) → OnOk result (IsSome (S.left source.new)) }
     ensures most { Lowers (S.most source.old) (S.most source.new) 0 }
     ensures becomes { GoesOn S.becomes source.old source.new }
-    // The error is `Failed` only where a call of the source failed, and each such call is answered by it.
+    // The error is `Failed` only if a call of the source failed, and each such call is reported.
     ensures cause { CountsFault (S.faults source.old) (S.faults source.new) (is_failed result) }
 {
     let mut place = 0;

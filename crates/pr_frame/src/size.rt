@@ -1,7 +1,8 @@
-//! How many bytes are written.
+//! The number of bytes that are written.
 
 ghost use Rattle.std.specs.Prelude.{◌≡◌, ◌+◌, ◌*◌, ◌<◌, ◌≤◌, ◌^◌, length, map, sum};
 ghost use Rattle.std.specs.List.{All};
+ghost use Rattle.pr_geom.specs.declared.places.TheConstants.{MAX_SLICES};
 ghost use Rattle.pr_head.specs.Slice.{least_slice_header};
 ghost use Rattle.pr_frame.specs.Forms.{has_alpha};
 ghost use Rattle.pr_frame.specs.Coded.{IsWritable};
@@ -14,7 +15,7 @@ use pr_alpha::alpha_length;
 use pr_coeff::{Block, component_length};
 use pw_planes::{AlphaKind, Interlace};
 
-/// How many bytes a component has.
+/// The number of bytes of a component.
 pub(crate) fn part_size(blocks: &[Block], mode: Interlace) -> u16
     requires { IsReadyPart blocks.now }
     ensures value { result ≡ length (component_bytes mode blocks.now) }
@@ -23,7 +24,7 @@ pub(crate) fn part_size(blocks: &[Block], mode: Interlace) -> u16
     component_length(blocks, scan_of(mode)) as u16
 }
 
-/// How many bytes alpha values have.
+/// The number of bytes of alpha values.
 pub(crate) fn alpha_part_size(values: &[u16], alpha: AlphaKind) -> u16
     requires { IsReadyAlpha alpha values.now }
     ensures value { result ≡ alpha_size alpha values.now }
@@ -36,7 +37,7 @@ pub(crate) fn alpha_part_size(values: &[u16], alpha: AlphaKind) -> u16
     }
 }
 
-/// How many bytes the header of a slice has.
+/// The number of bytes of a slice header.
 pub(crate) fn least_header(alpha: AlphaKind) -> u8
     ensures value { result ≡ least_slice_header (has_alpha alpha) }
     ensures small { result ≤ 8 }
@@ -47,7 +48,7 @@ pub(crate) fn least_header(alpha: AlphaKind) -> u8
     }
 }
 
-/// How many bytes a slice has.
+/// The number of bytes of a slice.
 pub(crate) fn slice_size(slice: &CodedSlice, mode: Interlace, alpha: AlphaKind) -> u16
     requires { IsReady alpha slice.now }
     ensures value { result ≡ slice_length mode alpha slice.now }
@@ -60,9 +61,9 @@ pub(crate) fn slice_size(slice: &CodedSlice, mode: Interlace, alpha: AlphaKind) 
         + alpha_part_size(slice.alpha.as_slice(), alpha)
 }
 
-/// How many bytes slices have together.
+/// The number of bytes of slices together.
 fn slices_size(slices: &[CodedSlice], mode: Interlace, alpha: AlphaKind) -> u64
-    requires few { length slices.now ≤ 65535 }
+    requires few { length slices.now ≤ MAX_SLICES }
     requires ready { All (IsReady alpha) slices.now }
     ensures value { result ≡ sum (map (slice_length mode alpha) slices.now) }
     ensures short { result ≤ 65535 * length slices.now }
@@ -74,7 +75,7 @@ fn slices_size(slices: &[CodedSlice], mode: Interlace, alpha: AlphaKind) -> u64
     size
 }
 
-/// How many bytes a picture has.
+/// The number of bytes of a picture.
 pub(crate) fn picture_size(picture: &CodedPicture, mode: Interlace, alpha: AlphaKind) -> u64
     requires { IsReadyPicture alpha picture.now }
     ensures value { result ≡ picture_length mode alpha picture.now }
@@ -84,7 +85,7 @@ pub(crate) fn picture_size(picture: &CodedPicture, mode: Interlace, alpha: Alpha
     8 + 2 * slices.len() as u64 + slices_size(slices, mode, alpha)
 }
 
-/// How many bytes pictures have together.
+/// The number of bytes of pictures together.
 fn pictures_size(pictures: &[CodedPicture], mode: Interlace, alpha: AlphaKind) -> u64
     requires few { length pictures.now ≤ 2 }
     requires ready { All (IsReadyPicture alpha) pictures.now }
@@ -98,7 +99,7 @@ fn pictures_size(pictures: &[CodedPicture], mode: Interlace, alpha: AlphaKind) -
     size
 }
 
-/// How many bytes [`crate::write_frame`] writes.
+/// The number of bytes that [`crate::write_frame`] writes.
 pub fn frame_length(frame: &CodedFrame) -> u64
     requires { IsWritable frame.now }
     ensures { result ≡ frame_length_of frame.now }

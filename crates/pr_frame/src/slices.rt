@@ -15,14 +15,14 @@ ghost use Rattle.pr_frame.specs.Coded.{IsCodedSlice, AreCodedSlices};
 ghost use Rattle.pr_frame.specs.Reading.{components_at, coded_slice_at, coded_slices_at};
 
 use crate::coded::{CodedSlice, CodedSlices};
-use crate::desk::Desk;
 use crate::parts::{has_alpha, read_alpha_part, read_part};
+use crate::scratch::Scratch;
 use pr_geom::{Layout, Part, SlicePlace};
 use pr_head::{FrameFault, FrameHeader, SliceHeader, read_slice_header};
 use pw_outside::ByteSource;
 use pw_planes::AlphaKind;
 
-/// Reads the header of the slice that has the next `size` bytes.
+/// Reads the header of the slice of the next `size` bytes.
 fn slice_header<S: ByteSource>(
     source: &mut S,
     place: &mut u64,
@@ -51,7 +51,7 @@ fn read_components<S: ByteSource>(
     layout: &Layout,
     alpha: AlphaKind,
     slice: &SlicePlace,
-    desk: &mut Desk,
+    scratch: &mut Scratch,
 ) -> Result<CodedSlice, FrameFault>
     requires slice { IsSlice layout.now slice.now }
     requires inside { IsInside layout.now slice.now }
@@ -68,10 +68,10 @@ fn read_components<S: ByteSource>(
     ensures becomes { GoesOn S.becomes source.old source.new }
     ensures cause { CountsFault (S.faults source.old) (S.faults source.new) (is_failed result) }
 {
-    let y = read_part(source, place, head.y, layout, slice, Part::Y, desk)?;
-    let cb = read_part(source, place, head.cb, layout, slice, Part::Cb, desk)?;
-    let cr = read_part(source, place, head.cr, layout, slice, Part::Cr, desk)?;
-    let alpha = read_alpha_part(desk.alloc, source, place, head.alpha, alpha, slice)?;
+    let y = read_part(source, place, head.y, layout, slice, Part::Y, scratch)?;
+    let cb = read_part(source, place, head.cb, layout, slice, Part::Cb, scratch)?;
+    let cr = read_part(source, place, head.cr, layout, slice, Part::Cr, scratch)?;
+    let alpha = read_alpha_part(scratch.alloc, source, place, head.alpha, alpha, slice)?;
     Ok(CodedSlice {
         index: head.index,
         y,
@@ -81,7 +81,8 @@ fn read_components<S: ByteSource>(
     })
 }
 
-/// Reads the slice at this place of the layout, in the next `size` bytes. The layout is that of a frame with this header.
+/// Reads the slice at this place of the layout, from the next `size` bytes. The layout is that of a frame with this
+/// header.
 #[tactic(auto, using(pr_head::proofs::Bounds::lowers_then))]
 pub(crate) fn read_slice<S: ByteSource>(
     source: &mut S,
@@ -90,7 +91,7 @@ pub(crate) fn read_slice<S: ByteSource>(
     header: &FrameHeader,
     layout: &Layout,
     slice: &SlicePlace,
-    desk: &mut Desk,
+    scratch: &mut Scratch,
 ) -> Result<CodedSlice, FrameFault>
     requires layout { IsLayoutOf layout.now header.now.width header.now.height layout.now.log2 header.now.interlace header.now.chroma }
     requires slice { IsSlice layout.now slice.now }
@@ -104,7 +105,7 @@ pub(crate) fn read_slice<S: ByteSource>(
     ensures cause { CountsFault (S.faults source.old) (S.faults source.new) (is_failed result) }
 {
     let head = slice_header(source, place, size, header.alpha)?;
-    read_components(source, place, &head, layout, header.alpha, slice, desk)
+    read_components(source, place, &head, layout, header.alpha, slice, scratch)
 }
 
 /// Reads the slices of a picture with this layout, which have these sizes. The layout is that of a frame with this header.
@@ -115,7 +116,7 @@ pub(crate) fn read_slices<S: ByteSource>(
     sizes: &[u16],
     header: &FrameHeader,
     layout: &Layout,
-    desk: &mut Desk,
+    scratch: &mut Scratch,
 ) -> Result<CodedSlices, FrameFault>
     requires layout { IsLayoutOf layout.now header.now.width header.now.height layout.now.log2 header.now.interlace header.now.chroma }
     requires count { length sizes.now ≡ length (slices_of layout.now) }
@@ -128,10 +129,10 @@ pub(crate) fn read_slices<S: ByteSource>(
     ensures becomes { GoesOn S.becomes source.old source.new }
     ensures cause { CountsFault (S.faults source.old) (S.faults source.new) (is_failed result) }
 {
-    let mut slices = Vec::new(desk.alloc);
+    let mut slices = Vec::new(scratch.alloc);
     for (number, size) in sizes.iter().enumerate() {
         let slice = layout.slice(number as u32);
-        let coded = read_slice(source, place, *size, header, layout, &slice, desk)?;
+        let coded = read_slice(source, place, *size, header, layout, &slice, scratch)?;
         slices.push(coded)?;
     }
     Ok(CodedSlices::from_vec(slices))

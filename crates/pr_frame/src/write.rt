@@ -32,7 +32,7 @@ fn write_part<K: ByteSink>(blocks: &[Block], mode: Interlace, sink: &mut K) -> R
     write_component(blocks, scan_of(mode), sink)
 }
 
-/// Writes alpha values; none where the frame has no alpha.
+/// Writes alpha values; none if the frame has no alpha.
 fn write_values<K: ByteSink>(values: &[u16], alpha: AlphaKind, sink: &mut K) -> Result<(), Failed>
     requires { IsReadyAlpha alpha values.now }
     ensures ok { OnOk result (Puts (sink_state (K.held sink.old) (K.taken sink.old)) (sink_state (K.held sink.new) (K.taken sink.new)) (alpha_bytes alpha values.now)) }
@@ -73,11 +73,12 @@ fn header_of(
     }
 }
 
-/// Writes one slice of a frame of this interlace mode and this kind of alpha: its header, and the data of its components
-/// and of its alpha values. The index is one from 1 to 224. Each component has 1 to 32 blocks of values of magnitude at most
-/// 8,191. There are no alpha values where the frame has no alpha, and else 1 to 2,048 of 8 or 16 bits. It takes no memory.
+/// Writes one slice of a frame of this interlace mode and this kind of alpha: its header, and the data of its
+/// components and of its alpha values. The index is from 1 to 224. Each component has 1 to 32 blocks of values of
+/// magnitude at most 8,191. There are no alpha values if the frame has no alpha, and else 1 to 2,048 of 8 or 16
+/// bits. It takes no memory.
 ///
-/// `Failed` where a call of the sink failed; it then has taken a front of the slice's bytes.
+/// `Failed` if a call of the sink failed; the sink then has taken a prefix of the slice's bytes.
 pub fn write_slice<K: ByteSink>(
     mode: Interlace,
     alpha: AlphaKind,
@@ -94,10 +95,10 @@ pub fn write_slice<K: ByteSink>(
     requires values { IsReadyAlpha alpha values.now }
     // The sink took the bytes of the slice, and no others.
     ensures ok { OnOk result (Puts (sink_state (K.held sink.old) (K.taken sink.old)) (sink_state (K.held sink.new) (K.taken sink.new)) (slice_bytes mode alpha (record { index = index; y = y.now; cb = cb.now; cr = cr.now; alpha = values.now }))) }
-    // Where a call failed, it took a front of them.
+    // If a call failed, it took a prefix of them.
     ensures err { OnErr result (PutsFront (sink_state (K.held sink.old) (K.taken sink.old)) (sink_state (K.held sink.new) (K.taken sink.new)) (slice_bytes mode alpha (record { index = index; y = y.now; cb = cb.now; cr = cr.now; alpha = values.now }))) }
     ensures settled { K.settled sink.old ≤ K.settled sink.new }
-    // The call fails only where a call of the sink failed, and each such call is answered by it.
+    // The call fails only if a call of the sink failed, and each such call is reported.
     ensures cause { CountsFault (K.faults sink.old) (K.faults sink.new) (is_err result) }
 {
     let header = header_of(mode, alpha, index, y, cb, cr, values);
@@ -128,7 +129,7 @@ fn write_coded<K: ByteSink>(
     write_slice(mode, alpha, slice.index, y, cb, cr, values, sink)
 }
 
-/// Writes slices, one behind the other.
+/// Writes slices in order.
 fn write_slices<K: ByteSink>(
     slices: &[CodedSlice],
     mode: Interlace,
@@ -167,7 +168,7 @@ fn write_size<K: ByteSink>(
     }
 }
 
-/// Writes the sizes of slices, one behind the other.
+/// Writes the sizes of slices in order.
 fn write_table<K: ByteSink>(
     slices: &[CodedSlice],
     mode: Interlace,
@@ -207,7 +208,7 @@ fn write_picture<K: ByteSink>(
     write_slices(slices, mode, alpha, sink)
 }
 
-/// Writes pictures, one behind the other.
+/// Writes pictures in order.
 fn write_pictures<K: ByteSink>(
     pictures: &[CodedPicture],
     mode: Interlace,
@@ -227,17 +228,17 @@ fn write_pictures<K: ByteSink>(
     Ok(())
 }
 
-/// Writes a frame: its header, and its pictures one behind the other. It takes no memory.
+/// Writes a frame: its header, and its pictures in order. It takes no memory.
 ///
-/// `Failed` where a call of the sink failed; it then has taken a front of the frame's bytes.
+/// `Failed` if a call of the sink failed; the sink then has taken a prefix of the frame's bytes.
 pub fn write_frame<K: ByteSink>(frame: &CodedFrame, sink: &mut K) -> Result<(), Failed>
     requires { CanBeWritten frame.now }
     // The sink took the bytes of the frame, and no others.
     ensures ok { OnOk result (Puts (sink_state (K.held sink.old) (K.taken sink.old)) (sink_state (K.held sink.new) (K.taken sink.new)) (coded_bytes frame.now)) }
-    // Where a call failed, it took a front of them.
+    // If a call failed, it took a prefix of them.
     ensures err { OnErr result (PutsFront (sink_state (K.held sink.old) (K.taken sink.old)) (sink_state (K.held sink.new) (K.taken sink.new)) (coded_bytes frame.now)) }
     ensures settled { K.settled sink.old ≤ K.settled sink.new }
-    // The call fails only where a call of the sink failed, and each such call is answered by it.
+    // The call fails only if a call of the sink failed, and each such call is reported.
     ensures cause { CountsFault (K.faults sink.old) (K.faults sink.new) (is_err result) }
 {
     let size = frame_length(frame) as u32;

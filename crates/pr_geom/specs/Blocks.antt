@@ -8,7 +8,7 @@ use Rattle.pr_geom.specs.declared.places.Part.{Part}
 use Rattle.pr_geom.specs.declared.places.Part.TheVariants.{Y, Cb, Cr}
 use Rattle.pr_geom.specs.Slices.{slice_columns}
 
--- how many samples wide a macroblock is in the plane of a part
+-- the width in samples of a macroblock in the plane of a part
 abbrev pub macroblock_width : Chroma → Part → ℕ
 macroblock_width chroma Y = 16
 macroblock_width C422 Cb = 8
@@ -44,8 +44,8 @@ macroblock_blocks width corners row column = map (λ corner. (width * column + c
 unfoldable pub blocks_of : Chroma → Part → SlicePlace → List (ℕ × ℕ)
 blocks_of chroma part slice = flat_map (macroblock_blocks (macroblock_width chroma part) (corners chroma part) slice.row) (slice_columns slice)
 
--- A list of corners has each place of a block, of so many columns and rows of blocks, once: each corner is such a place, each
--- place is there, and no place is there twice.
+-- A list of corners has each block position of a plane of `columns` by `rows` blocks once: each corner is such a
+-- position, each position is in the list, and none is in it twice.
 pub record EachOnce (places : List (ℕ × ℕ)) (columns rows : ℕ) : Type 0 where
   pub inside : (n : ℕ) → n < length places → (i : ℕ) × (j : ℕ) × (i < columns) × (j < rows) × (slice_index_or places n (0, 0) ≡ (8 * i, 8 * j))
   pub there : (i j : ℕ) → i < columns → j < rows → Contains places (8 * i, 8 * j)

@@ -7,7 +7,7 @@ use Rattle.pr_geom.specs.declared.places.GeomFault.TheVariants.{SizeZero, SizeLi
 use Rattle.pr_geom.specs.declared.places.TheConstants.{MAX_SLICES}
 use Rattle.pr_geom.specs.Slices.{pictures_of, macroblocks, picture_slices}
 
--- how many slices each picture of a frame has
+-- the number of slices of each picture of a frame
 unfoldable pub slice_count : ℕ → ℕ → ℕ → Interlace → ℕ
 slice_count width height log2 interlace = length (picture_slices (macroblocks width) (macroblocks (height / pictures_of interlace)) log2)
 

@@ -3,6 +3,7 @@ use Rattle.std.specs.Prelude.{◌≡◌, ℕ, ◌+◌, ◌*◌, ◌/◌, ◌<◌
 use Rattle.std.specs.List.{flat_map, range_with_len, Contains}
 use Rattle.pw_planes.specs.declared.kinds.Interlace.{Interlace}
 use Rattle.pw_planes.specs.declared.kinds.Chroma.{Chroma}
+use Rattle.pr_geom.specs.declared.places.TheConstants.{MAX_SLICES}
 use Rattle.pr_geom.specs.declared.places.SlicePlace.{SlicePlace}
 use Rattle.pr_geom.specs.declared.places.Part.{Part}
 use Rattle.pr_geom.specs.declared.layout.Layout.{Layout}
@@ -14,11 +15,11 @@ use Rattle.pr_geom.specs.Blocks.{macroblock_width, blocks_of, EachOnce}
 abbrev pub picture_height_of : Layout → ℕ
 picture_height_of l = l.height / pictures_of l.interlace
 
--- how many columns of macroblocks each picture has
+-- the number of columns of macroblocks of each picture
 abbrev pub columns_of : Layout → ℕ
 columns_of l = macroblocks l.width
 
--- how many rows of macroblocks each picture has
+-- the number of rows of macroblocks of each picture
 abbrev pub rows_of : Layout → ℕ
 rows_of l = macroblocks (picture_height_of l)
 
@@ -53,10 +54,10 @@ HasNoFault l = first_fault l.width l.height l.log2 l.interlace ≡ None
 abbrev pub SlicesCoverRows : Layout → Type 0
 SlicesCoverRows l = (row : ℕ) → flat_map slice_columns (row_slices (columns_of l) l.log2 row) ≡ range_with_len 0 (columns_of l)
 
--- the law that the blocks of a part of all slices of a picture are each place of a block once
+-- the law that the blocks of a part of all slices of a picture are each block position once
 abbrev pub BlocksAreOnce : Layout → Part → Type 0
 BlocksAreOnce l part = EachOnce (flat_map (blocks_of l.chroma part) (slices_of l)) (columns_of l * (macroblock_width l.chroma part / 8)) (rows_of l * 2)
 
--- the law that all pictures of a frame have at most 131,070 slices
+-- the law that all pictures of a frame have at most 2 · MAX_SLICES slices
 abbrev pub FrameSlicesAreFew : Layout → Type 0
-FrameSlicesAreFew l = pictures_of l.interlace * length (slices_of l) ≤ 131070
+FrameSlicesAreFew l = pictures_of l.interlace * length (slices_of l) ≤ 2 * MAX_SLICES

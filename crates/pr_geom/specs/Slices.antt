@@ -5,18 +5,18 @@ use Rattle.pw_planes.specs.declared.kinds.Interlace.{Interlace}
 use Rattle.pw_planes.specs.declared.kinds.Interlace.TheVariants.{Progressive, TopFirst, BottomFirst}
 use Rattle.pr_geom.specs.declared.places.SlicePlace.{SlicePlace}
 
--- how many pictures a frame has: one, or a field of each parity
+-- the number of pictures of a frame: one, or a field of each parity
 abbrev pub pictures_of : Interlace → ℕ
 pictures_of Progressive = 1
 pictures_of TopFirst = 2
 pictures_of BottomFirst = 2
 
--- how many macroblocks of 16 samples it takes to hold so many samples
+-- the number of macroblocks of 16 samples that hold this many samples
 abbrev pub macroblocks : ℕ → ℕ
 macroblocks samples = (samples + 15) / 16
 
--- the widths of the slices of a row of so many macroblocks: as many of the desired width, 2 ^ log2, as there is room for, and
--- what is left of the row in the same way with half that width
+-- the widths of the slices of a row of macroblocks: as many of the desired width, 2 ^ log2, as fit, and the rest of
+-- the row in the same way with half that width
 abbrev pub row_widths : ℕ → ℕ → List ℕ
 row_widths columns zero = replicate columns 1
 row_widths columns (suc log2) = replicate (columns / 2 ^ suc log2) (2 ^ suc log2) ++ row_widths (columns % 2 ^ suc log2) log2
@@ -30,7 +30,7 @@ side_by_side row column (width ∷ widths) = record { column = column; row = row
 unfoldable pub row_slices : ℕ → ℕ → ℕ → List SlicePlace
 row_slices columns log2 row = side_by_side row 0 (row_widths columns log2)
 
--- the slices of a picture of so many columns and rows of macroblocks: row by row, from left to right
+-- the slices of a picture of columns and rows of macroblocks: row by row, from left to right
 unfoldable pub picture_slices : ℕ → ℕ → ℕ → List SlicePlace
 picture_slices columns rows log2 = flat_map (row_slices columns log2) (range_with_len 0 rows)
 

@@ -10,7 +10,7 @@ ghost use Rattle.pr_geom.specs.Blocks.{blocks_of};
 use crate::places::{GeomFault, MAX_SLICES, Part, SlicePlace};
 use pw_planes::{Chroma, Interlace, MAX_HEIGHT, MAX_WIDTH};
 
-/// How many pictures a frame of this mode has: 1, or 2 where it is interlaced (SMPTE RDD 36, frame syntax).
+/// The number of pictures of a frame of this mode: 1, or 2 where it is interlaced (SMPTE RDD 36, frame syntax).
 pub fn pictures_of(interlace: Interlace) -> u8
     ensures { result ≡ pictures_of interlace }
 {
@@ -20,14 +20,14 @@ pub fn pictures_of(interlace: Interlace) -> u8
     }
 }
 
-/// How many macroblocks it takes to hold so many samples.
+/// The number of macroblocks that hold `samples` samples.
 fn macroblocks_for(samples: u16) -> u32
     ensures { result ≡ macroblocks samples }
 {
     u32::from(samples).div_ceil(16)
 }
 
-/// How many slices a row of so many macroblocks has.
+/// The number of slices of a row of `macroblocks` macroblocks.
 #[tactic(auto, using(crate::proofs::SliceLemmas::row_counts))]
 fn slices_in_row(columns: u32, log2: u32) -> u32
     requires size { log2 ≤ 3 }
@@ -41,7 +41,7 @@ fn slices_in_row(columns: u32, log2: u32) -> u32
     }
 }
 
-/// The column and the width of a slice of a row of so many macroblocks.
+/// The column and the width of a slice of a row of macroblocks.
 fn spot_in_row(columns: u32, log2: u32, number: u32) -> (u32, u32)
     requires size { log2 ≤ 3 }
     requires columns { columns ≤ 512 }
@@ -61,7 +61,7 @@ fn spot_in_row(columns: u32, log2: u32, number: u32) -> (u32, u32)
     }
 }
 
-/// How many slices each picture of a frame has.
+/// The number of slices of each picture of a frame.
 fn slices_in_picture(width: u16, height: u16, log2: u8, interlace: Interlace) -> u32
     requires columns { width ≤ MAX_WIDTH }
     requires rows { height ≤ MAX_HEIGHT }
@@ -73,7 +73,7 @@ fn slices_in_picture(width: u16, height: u16, log2: u8, interlace: Interlace) ->
 }
 
 /// How a frame is cut into pictures, slices and blocks (SMPTE RDD 36, picture structure). Each layout is one that
-/// [`Layout::new`] answers.
+/// [`Layout::new`] returns.
 #[derive(Clone, Copy, Debug, PartialEq, Eq)]
 pub struct Layout {
     /// The width of the frame in samples, from 1 to [`MAX_WIDTH`].
@@ -92,7 +92,7 @@ pub struct Layout {
 impl Layout {
     ghost use Rattle.pr_geom.specs.Layout.{picture_height_of, slices_of, IsSlice, IsInside, IsLayoutOf, HasNoFault, SlicesCoverRows, BlocksAreOnce, FrameSlicesAreFew};
 
-    /// The layout of a frame, or the first cause why there is none.
+    /// The layout of a frame, or the first cause, in the order of [`GeomFault`], why there is none.
     pub fn new(
         width: u16,
         height: u16,
@@ -125,7 +125,7 @@ impl Layout {
         })
     }
 
-    /// How many pictures the frame has: 1, or 2 fields.
+    /// The number of pictures of the frame: 1, or 2 fields.
     pub fn pictures(&self) -> u8
         ensures { result ≡ pictures_of self.now.interlace }
     {
@@ -139,7 +139,7 @@ impl Layout {
         self.height / u16::from(self.pictures())
     }
 
-    /// How many slices each picture has, from 1 to [`MAX_SLICES`].
+    /// The number of slices of each picture, from 1 to [`MAX_SLICES`].
     pub fn slices(&self) -> u32
         ensures value { result ≡ length (slices_of self.now) }
         ensures some { 0 < result }
@@ -148,7 +148,7 @@ impl Layout {
         slices_in_picture(self.width, self.height, self.log2, self.interlace)
     }
 
-    /// The slice of a number.
+    /// The slice of this number.
     pub fn slice(&self, number: u32) -> SlicePlace
         requires { number < length (slices_of self.now) }
         ensures value { result ≡ slice_index_or (slices_of self.now) number no_slice }
@@ -166,7 +166,7 @@ impl Layout {
         }
     }
 
-    /// How many blocks a part of a slice has, from 1 to 32.
+    /// The number of blocks of a part of a slice, from 1 to 32.
     pub fn blocks(&self, slice: &SlicePlace, part: Part) -> u8
         requires { IsSlice self.now slice.now }
         ensures value { result ≡ length (blocks_of self.now.chroma part slice.now) }
@@ -196,7 +196,7 @@ impl Layout {
         }
     }
 
-    /// The law that each layout is one that [`Layout::new`] answers.
+    /// The law that each layout is one that [`Layout::new`] returns.
     pub fn has_no_fault(&self)
         ensures { HasNoFault self.now }
     {}
@@ -206,12 +206,12 @@ impl Layout {
         ensures { SlicesCoverRows self.now }
     {}
 
-    /// The law that the blocks of a part of all slices of a picture are each place of a block once.
+    /// The law that the blocks of a part of all slices of a picture are each block position once.
     pub fn blocks_are_once(&self, part: Part)
         ensures { BlocksAreOnce self.now part }
     {}
 
-    /// The law that all pictures of a frame have at most 131,070 slices.
+    /// The law that all pictures of a frame have at most `2 * MAX_SLICES` slices.
     pub fn frame_slices_are_few(&self)
         ensures { FrameSlicesAreFew self.now }
     {

@@ -6,6 +6,3 @@ mod places;
 
 pub use layout::{Layout, pictures_of};
 pub use places::{GeomFault, MAX_SLICES, Part, SlicePlace};
-
-#[cfg(test)]
-mod tests;

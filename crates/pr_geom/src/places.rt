@@ -3,7 +3,7 @@
 /// The largest number of slices of one picture.
 pub const MAX_SLICES: u32 = 65_535;
 
-/// Why there is no layout, in the order in which it is asked.
+/// Why there is no layout, in the order in which the causes are checked.
 #[derive(Clone, Copy, Debug, PartialEq, Eq)]
 pub enum GeomFault {
     /// The width or the height is 0.
@@ -16,24 +16,24 @@ pub enum GeomFault {
     TooManySlices,
 }
 
-/// A part of a slice: luma or one of the two of chroma.
+/// A part of a slice: luma or one of the two chroma components.
 #[derive(Clone, Copy, Debug, PartialEq, Eq)]
 pub enum Part {
     /// Luma.
     Y,
-    /// The first of chroma.
+    /// The first chroma component.
     Cb,
-    /// The second of chroma.
+    /// The second chroma component.
     Cr,
 }
 
-/// Where a slice stands in its picture, in macroblocks.
+/// The position of a slice in its picture, in macroblocks.
 #[derive(Clone, Copy, Debug, PartialEq, Eq)]
 pub struct SlicePlace {
     /// The column of its first macroblock.
     pub column: u16,
     /// Its row.
     pub row: u16,
-    /// How many macroblocks it has.
+    /// The number of its macroblocks, from 1 to 8.
     pub width: u8,
 }

@@ -1,10 +1,10 @@
 -- What was written is read again.
-use Rattle.std.proofs.Common.{◌≡◌, ℕ, suc, ◌+◌, ◌-◌, ◌*◌, ◌/◌, ◌%◌, ◌^◌, ◌<◌, ◌≤◌, Bool, true, false, not, ◌||◌, ◌==◌, nat_lt, if◌then◌else◌, List, [], ◌∷◌, ◌++◌, length, take, drop, get_or, replicate, sum, Ok, refl, sym, ap, ◌∙◌, subst, arith, length-append, append_assoc, lit<, lit≤}
+use Rattle.std.proofs.Common.{◌≡◌, ℕ, suc, ◌+◌, ◌-◌, ◌*◌, ◌/◌, ◌%◌, ◌^◌, ◌<◌, ◌≤◌, Bool, true, false, not, ◌==◌, nat_lt, if◌then◌else◌, List, [], ◌∷◌, ◌++◌, length, take, drop, get_or, replicate, sum, Ok, refl, sym, ap, ◌∙◌, subst, arith, length-append, append_assoc, lit<, lit≤}
 use Rattle.std.specs.Int.{w16, w32, to_be_bytes}
 use Rattle.std.specs.List.{All}
 use Rattle.std.proofs.lemmas.List.Elements.{All-head, All-tail}
 use Rattle.std.proofs.lemmas.Nat.{from_be_bytes-to_be_bytes_2, from_be_bytes-to_be_bytes_4}
-use Rattle.std.proofs.lemmas.Bool.{le-ltb, ne_eqb}
+use Rattle.std.proofs.lemmas.Bool.{le-ltb, ne_eqb, or_from}
 use Rattle.pw_planes.specs.declared.kinds.Chroma.{Chroma}
 use Rattle.pw_planes.specs.declared.kinds.Chroma.TheVariants.{C422, C444}
 use Rattle.pw_planes.specs.declared.kinds.AlphaKind.{AlphaKind}
@@ -67,9 +67,6 @@ sizes-none n r mark h =
     ∙ refuse-step _ _ _ _ (le-ltb _ _ h.header)
     ∙ refuse-step _ _ _ _ (le-ltb _ _ h.within)
 
-or-false : (a b : Bool) → a ≡ false → b ≡ false → (a || b) ≡ false
-or-false a b e f = rw (e, f) refl
-
 form-none : (r : Start) → 2 ≤ chroma_bits r → interlace_bits r < 3 → alpha_bits r < 3 → HasForm r → form_fault r ≡ Ok tt
 unfolding form_fault
 form-none r chroma interlace alpha h =
@@ -77,8 +74,8 @@ form-none r chroma interlace alpha h =
     ∙ refuse-step _ _ _ _ (le-ltb _ _ chroma)
     ∙ refuse-step _ _ _ _ (ne_eqb _ _ (λ e. omega arith))
     ∙ refuse-step _ _ _ _ (le-ltb _ _ (omega arith))
-    ∙ refuse-step _ _ _ _ (or-false (r.width == 0) (r.height == 0) (ne_eqb _ _ (λ e. omega (arith, h.some_columns))) (ne_eqb _ _ (λ e. omega (arith, h.some_rows))))
-    ∙ refuse-step _ _ _ _ (or-false (nat_lt MAX_WIDTH r.width) (nat_lt MAX_HEIGHT r.height) (le-ltb _ _ h.columns) (le-ltb _ _ h.rows))
+    ∙ refuse-step _ _ _ _ (or_from (r.width == 0) (r.height == 0) (ne_eqb _ _ (λ e. omega (arith, h.some_columns))) (ne_eqb _ _ (λ e. omega (arith, h.some_rows))))
+    ∙ refuse-step _ _ _ _ (or_from (nat_lt MAX_WIDTH r.width) (nat_lt MAX_HEIGHT r.height) (le-ltb _ _ h.columns) (le-ltb _ _ h.rows))
     ∙ refuse-step _ _ _ _ (le-ltb _ _ (let e : r.height % pictures_of (interlace_of (interlace_bits r)) ≡ 0 = h.whole in omega (arith, e)))
 
 -- ---- the frame
@@ -342,7 +339,7 @@ unfolding slice_fault
 slice-none size at alpha r least most from to within =
     refuse-step _ _ _ _ (le-ltb _ _ least)
     ∙ refuse-step _ _ _ _ (le-ltb _ _ most)
-    ∙ refuse-step _ _ _ _ (or-false (r.index == 0) (nat_lt 224 r.index) (ne_eqb _ _ (λ e. omega arith)) (le-ltb _ _ to))
+    ∙ refuse-step _ _ _ _ (or_from (r.index == 0) (nat_lt 224 r.index) (ne_eqb _ _ (λ e. omega arith)) (le-ltb _ _ to))
     ∙ refuse-step _ _ _ _ (le-ltb _ _ within)
 
 fields-again : (alpha : Bool) (r : SliceHeader) → ((stated_again alpha r).header ≡ r.header) × ((stated_again alpha r).index ≡ r.index)

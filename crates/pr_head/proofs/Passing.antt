@@ -1,4 +1,4 @@
--- Passing over bytes in parts.
+-- Skipping bytes in parts.
 use Rattle.std.proofs.Common.{◌≡◌, ℕ, ◌+◌, ◌-◌, ◌<◌, ◌≤◌, inl, inr, length, drop, Ok, Err, refl, sym, ap, ◌∙◌, subst, arith, length-drop}
 use Rattle.std.proofs.lemmas.Bool.{lt-ltb, le-ltb, cases_lt}
 use Rattle.std.proofs.lemmas.List.{drop-drop}
@@ -9,7 +9,7 @@ use Rattle.pr_head.specs.declared.fault.FrameFault.{FrameFault}
 use Rattle.pr_head.specs.Faults.{told_fault}
 use Rattle.pr_head.specs.inner.Steps.{passed}
 
--- n bytes further on
+-- n bytes further
 abbrev pub ahead : ℕ → Rest → Rest
 ahead n s = record { place = s.place + n; bytes = drop n s.bytes }
 

@@ -1,4 +1,4 @@
--- Fields at a place of a list, and of the front of a list.
+-- Fields at an offset of a list, and of a prefix of a list.
 use Rattle.std.proofs.Common.{◌≡◌, ℕ, zero, suc, ◌+◌, ◌-◌, ◌≤◌, List, [], ◌∷◌, ◌++◌, length, take, drop, get_or, refl, ap, sym, ◌∙◌, arith}
 use Rattle.std.specs.Int.{w16, w32, from_be_bytes}
 use Rattle.std.proofs.lemmas.List.{take-take, drop-take}
@@ -24,7 +24,7 @@ four_at (a ∷ []) zero h = absurd (omega arith)
 four_at (a ∷ b ∷ []) zero h = absurd (omega arith)
 four_at (a ∷ b ∷ c ∷ []) zero h = absurd (omega arith)
 
--- ---- the front of a list has the same fields
+-- ---- a prefix of a list has the same fields
 
 pub front_piece : (j k n : ℕ) (l : List ℕ) → k + j ≤ n → take j (drop k (take n l)) ≡ take j (drop k l)
 front_piece j k n l h =
@@ -44,7 +44,7 @@ pub number16-drop : (k : ℕ) (l : List ℕ) → number16 (take 2 (drop k l)) 0 
 unfolding number16
 number16-drop k l = ap (from_be_bytes w16) (take-take 2 2 (drop k l) (omega arith))
 
--- ---- a list behind another
+-- ---- a list after another
 
 pub take_front : (a b : List ℕ) (n : ℕ) → length a ≡ n → take n (a ++ b) ≡ a
 take_front [] b zero e = refl

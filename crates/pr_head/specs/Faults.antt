@@ -1,11 +1,11 @@
--- Which errors of a call tell a fault of the bytes.
+-- The faults of the bytes that errors of a call report.
 use Rattle.std.specs.Prelude.{Option, None, Some, Bool, true, false, Result, Err}
 use Rattle.pw_outside.specs.Reading.{Fault}
 use Rattle.pr_head.specs.declared.fault.FrameKind.{FrameKind}
 use Rattle.pr_head.specs.declared.fault.FrameFault.{FrameFault}
 use Rattle.pr_head.specs.declared.fault.FrameFault.TheVariants as faults
 
--- the fault that an error of reading tells
+-- the fault that an error of reading reports
 abbrev pub told_fault : FrameFault → Option (Fault FrameKind)
 told_fault (faults.Bad kind place) = Some (record { kind = kind; place = place })
 told_fault faults.Failed = None

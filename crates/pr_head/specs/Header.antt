@@ -45,9 +45,9 @@ interlace_of code = if code == 0 then Progressive else (if code == 1 then TopFir
 abbrev pub alpha_of : ℕ → AlphaKind
 alpha_of code = if code == 0 then Absent else (if code == 1 then Eight else Sixteen)
 
--- ---- the fields in front of the matrices
+-- ---- the fields before the matrices
 
--- the fields of the first 28 bytes by their places; reserved bits are passed over
+-- the fields of the first 28 bytes by their offsets; reserved bits are skipped
 unfoldable pub start_of : List ℕ → Start
 start_of s = record {
   size = number32 s 0;
@@ -82,25 +82,25 @@ loads_luma r = r.loads / 2 % 2 == 1
 abbrev pub loads_chroma : Start → Bool
 loads_chroma r = r.loads % 2 == 1
 
--- how many bytes a matrix takes
+-- the number of bytes of a matrix
 abbrev pub matrix_size : Bool → ℕ
 matrix_size loaded = if loaded then 64 else 0
 
--- how many bytes the matrices take
+-- the number of bytes of the matrices
 abbrev pub matrices_size : Start → ℕ
 matrices_size r = matrix_size (loads_luma r) + matrix_size (loads_chroma r)
 
 -- ---- the matrices
 
--- a matrix that stands at the front of these bytes where it is loaded, and the other one else
+-- the matrix at the start of these bytes if it is loaded, and the other one else
 abbrev pub matrix_at : Bool → List ℕ → List ℕ → List ℕ
 matrix_at loaded other s = if loaded then take 64 s else other
 
--- the luma matrix; 4 everywhere where none is loaded
+-- the luma matrix; 4 everywhere if none is loaded
 abbrev pub luma_of : List ℕ → List ℕ
 luma_of s = matrix_at (loads_luma (start_of s)) (replicate 64 4) (drop 28 s)
 
--- the chroma matrix, behind the luma matrix; the luma matrix in use where none is loaded (our own)
+-- the chroma matrix, after the luma matrix; the luma matrix in use if none is loaded (our own)
 abbrev pub chroma_weights_of : List ℕ → List ℕ
 chroma_weights_of s = matrix_at (loads_chroma (start_of s)) (luma_of s) (drop (28 + matrix_size (loads_luma (start_of s))) s)
 
@@ -125,7 +125,7 @@ header_of r luma chroma_weights = record {
   chroma_weights = chroma_weights;
 }
 
--- a header, the bytes that it takes from the first of the frame on, and the frame's size
+-- a header, the number of bytes that it takes from the first of the frame on, and the frame's size
 pub record Opened : Type 0 where
   pub header : FrameHeader
   pub taken : ℕ
@@ -162,7 +162,8 @@ form_fault r = do
   _ ← refuse (nat_lt 0 (r.height % pictures_of (interlace_of (interlace_bits r)))) kinds.OddInterlaced 16
   Ok tt
 
--- the header of the frame that a sample of n bytes begins with, or its first fault; places count from the sample's first byte
+-- the header of the frame that a sample of n bytes begins with, or its first fault; offsets count from the sample's
+-- first byte
 unfoldable pub header_at : ℕ → List ℕ → Read FrameKind Opened
 header_at n s = do
   _ ← refuse (nat_lt n 28) kinds.FrameShort 0
@@ -206,7 +207,7 @@ pub record IsHeader (h : FrameHeader) : Type 0 where
   pub luma : length h.luma ≡ 64
   pub chroma_weights : length h.chroma_weights ≡ 64
 
--- the one spelling of the header of a frame of this size: both matrices are loaded, reserved bits are 0
+-- the canonical header of a frame of this size: both matrices are loaded, reserved bits are 0
 unfoldable pub frame_header_bytes : FrameHeader → ℕ → List ℕ
 frame_header_bytes h size =
     to_be_bytes w32 size ++ to_be_bytes w32 icpf ++ to_be_bytes w16 148 ++ (0 ∷ h.version ∷ []) ++ h.encoder ++ to_be_bytes w16 h.width ++ to_be_bytes w16 h.height

@@ -10,7 +10,7 @@ use Rattle.pr_head.specs.Header.{IsHeader, frame_header_bytes, header_at}
 use Rattle.pr_head.specs.Picture.{slices_in, picture_header_bytes, picture_at, picture_size, table_at}
 use Rattle.pr_head.specs.Slice.{least_slice_header, IsSliceHeader, slice_header_bytes, slice_at}
 
--- the header of a frame that was written at the front of a sample of n bytes is read again
+-- the header of a frame that was written at the start of a sample of n bytes is read again
 abbrev pub FrameHeaderIsReadAgain : Type 0
 FrameHeaderIsReadAgain = (h : FrameHeader) (size n : ℕ) (rest : List ℕ) → IsHeader h → 156 ≤ size → size ≤ n → size < 2 ^ 32
     → header_at n (frame_header_bytes h size ++ rest) ≡ Ok (record { header = h; taken = 156; size = size }, record { place = 156; bytes = rest })
@@ -22,7 +22,7 @@ PictureHeaderIsReadAgain = (F at : ℕ) (h : FrameHeader) (size slices log2 : �
     → picture_at F h (record { place = at; bytes = picture_header_bytes size slices log2 ++ rest })
     ≡ Ok (record { header = 8; size = size; log2 = log2 }, record { place = at + 8; bytes = rest })
 
--- the bytes of sizes, one behind the other
+-- the bytes of sizes, in order
 abbrev pub sizes_bytes : List ℕ → List ℕ
 sizes_bytes sizes = flat_map (to_be_bytes w16) sizes
 

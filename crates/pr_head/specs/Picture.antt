@@ -10,8 +10,8 @@ use Rattle.pr_head.specs.declared.frame.FrameHeader.{FrameHeader}
 use Rattle.pr_head.specs.declared.picture.PictureHeader.{PictureHeader}
 use Rattle.pr_head.specs.Bytes.{byte, number16, number32}
 
--- the fields by their places: the header's size, the picture's size with header and table, and the binary logarithm
--- of a slice's desired width; the deprecated number of slices and reserved bits are passed over
+-- the fields by their offsets: the header's size, the picture's size with header and table, and the binary
+-- logarithm of a slice's desired width; the deprecated number of slices and reserved bits are skipped
 unfoldable pub picture_of : List ℕ → PictureHeader
 picture_of s = record {
   header = byte s 0 / 8;
@@ -19,11 +19,11 @@ picture_of s = record {
   log2 = byte s 7 / 16 % 4;
 }
 
--- how many slices a picture of the frame has
+-- the number of slices of a picture of the frame
 abbrev pub slices_in : FrameHeader → PictureHeader → ℕ
 slices_in h r = slice_count h.width h.height r.log2 h.interlace
 
--- the first fault of a picture at this place of a frame of F bytes (our own order)
+-- the first fault of a picture at an offset of a frame of F bytes (our own order)
 unfoldable pub picture_fault : ℕ → FrameHeader → ℕ → PictureHeader → Result (Unit {0}) (Fault FrameKind)
 picture_fault F h at r = do
   _ ← refuse (nat_lt r.header 8) kinds.PictureHeader at
@@ -39,16 +39,16 @@ picture_at F h s = do
   _ ← picture_fault F h s.place (picture_of s.bytes)
   Ok (picture_of s.bytes, record { place = s.place + (picture_of s.bytes).header; bytes = drop (picture_of s.bytes).header s.bytes })
 
--- the sizes of so many slices, one behind the other
+-- the sizes of n slices, in order
 unfoldable pub sizes_of : ℕ → List ℕ → List ℕ
 sizes_of zero s = []
 sizes_of (suc slices) s = number16 s 0 ∷ sizes_of slices (drop 2 s)
 
--- how many bytes the header, the table and slices of these sizes have
+-- the number of bytes of the header, the table and slices of these sizes
 abbrev pub picture_size : PictureHeader → List ℕ → ℕ
 picture_size r sizes = r.header + 2 * length sizes + sum sizes
 
--- the table of so many slices that begins here, behind the picture's header, or its first fault
+-- the table of n slices that begins here, after the picture's header, or its first fault
 unfoldable pub table_at : PictureHeader → ℕ → Rest → Read FrameKind (List ℕ)
 table_at r slices s = do
   _ ← refuse (nat_lt r.size (r.header + 2 * slices)) kinds.SliceTable s.place
@@ -62,6 +62,6 @@ pub record IsPicture (r : PictureHeader) : Type 0 where
   pub whole : r.header ≤ r.size
   pub log2 : r.log2 ≤ 3
 
--- the one spelling of a picture's header: 8 bytes, the number of slices in its deprecated field, reserved bits 0
+-- the canonical header of a picture: 8 bytes, the number of slices in its deprecated field, reserved bits 0
 unfoldable pub picture_header_bytes : ℕ → ℕ → ℕ → List ℕ
 picture_header_bytes size slices log2 = (64 ∷ []) ++ to_be_bytes w32 size ++ to_be_bytes w16 slices ++ ((log2 * 16) ∷ [])

@@ -12,7 +12,7 @@ use thiserror::Error;
 pub enum FrameKind {
     /// The sample has fewer bytes than the shortest frame.
     FrameShort,
-    /// The bytes `icpf` are others.
+    /// The mark isn't `icpf`.
     NoIcpf,
     /// The frame's size is below 28, or passes the sample.
     FrameSize,
@@ -50,7 +50,7 @@ pub enum FrameKind {
     RunPast,
     /// A coefficient is outside its range.
     LevelRange,
-    /// Alpha values are wanting.
+    /// Alpha values are missing.
     AlphaShort,
     /// Alpha values pass the slice.
     AlphaPast,
@@ -58,7 +58,7 @@ pub enum FrameKind {
     Differs,
 }
 
-/// Why a call has nothing of a frame to give.
+/// Why a call of a frame's reading failed.
 #[derive(Debug, Drop, Error)]
 pub enum FrameFault {
     /// The bytes are no frame; `place` counts from the first byte of the sample.

@@ -46,7 +46,7 @@ pub struct FrameHeader {
     pub chroma_weights: [u8; 64],
 }
 
-/// The next matrix where it is loaded, and the other one else.
+/// The next matrix if it is loaded, and `other` else.
 #[tactic(auto, using(crate::proofs::Bounds::lowers_same), unfolding(crate::specs::inner::Steps::matrix_in))]
 fn matrix_of<S: ByteSource>(
     source: &mut S,
@@ -93,7 +93,7 @@ fn start_of<S: ByteSource>(source: &mut S, place: &mut u64, size: u32) -> Result
     Ok(start)
 }
 
-/// The matrices in use of luma and of chroma. The bytes behind them, up to the header's end, are passed over.
+/// The luma and chroma matrices in use. The bytes after them, up to the header's end, are skipped.
 #[tactic(auto, using(crate::proofs::Bounds::lowers_then), unfolding(crate::specs::inner::Steps::matrices_in, pw_outside::specs::Reading::bind))]
 fn matrices_of<S: ByteSource>(
     source: &mut S,
@@ -137,26 +137,26 @@ fn header_of<S: ByteSource>(
     Ok((start.header(luma, chroma_weights), taken, start.size))
 }
 
-/// Reads the header of the frame at the front of a sample of `size` bytes, with the bytes behind its known fields.
-/// Gives the header, how many bytes it took from the sample, and the size of the frame in bytes.
+/// Reads the header of the frame at the start of a sample of `size` bytes, with the bytes after its known fields.
+/// Returns the header, the number of bytes that it took from the sample, and the size of the frame in bytes.
 ///
-/// The errors are `Bad` with the first fault of the bytes, and `Failed` where a call of the source failed. A source
-/// that doesn't tell its bytes and ends too early is `Bad` with `FrameShort` or `FrameSize`.
+/// The errors are `Bad` with the first fault of the bytes, and `Failed` if a call of the source failed. For a
+/// source whose bytes are opaque and which ends too early, the error is `Bad` with `FrameShort` or `FrameSize`.
 pub fn read_frame_header<S: ByteSource>(
     source: &mut S,
     size: u32,
 ) -> Result<(FrameHeader, u32, u32), FrameFault>
-    // Where the source tells its bytes, it has the whole sample.
+    // If the source's bytes are visible, it has the whole sample.
     requires { Told (S.left source.old) (λ bytes. size ≤ length bytes) }
-    // Where the source tells its bytes, the answer is what they stand for, or their first fault.
+    // If the source's bytes are visible, the result is what they stand for, or their first fault.
     ensures bytes { GivesValue told_fault (λ t. record { header = t.0; taken = t.1; size = t.2 }) (S.left source.old) (S.left source.new) 0 result (λ s. header_at size s.bytes) }
-    // What is answered has none of the faults.
+    // What is returned has none of the faults.
     ensures header { IfOk result (λ t. IsHeader t.0) }
     ensures taken { IfOk result (λ t. (28 ≤ t.1) × (t.1 ≤ t.2)) }
     ensures size { IfOk result (λ t. t.2 ≤ size) }
     ensures most { Lowers (S.most source.old) (S.most source.new) 0 }
     ensures becomes { GoesOn S.becomes source.old source.new }
-    // The error is `Failed` only where a call of the source failed, and each such call is answered by it.
+    // The error is `Failed` only if a call of the source failed, and each such call is reported.
     ensures cause { CountsFault (S.faults source.old) (S.faults source.new) (is_failed result) }
     // No memory is taken.
     ensures memory { is_out_of_memory result ≡ false }

@@ -9,8 +9,6 @@ mod picture;
 mod pieces;
 mod slice;
 mod start;
-#[cfg(test)]
-mod tests;
 mod writing;
 
 pub use fault::{FrameFault, FrameKind};

@@ -7,8 +7,8 @@ use crate::frame::FrameHeader;
 use pr_quant::Weights;
 use pw_planes::{AlphaKind, Chroma, Interlace};
 
-/// The header of a frame that this project makes: the identifier `pwk0`, no aspect ratio and no frame rate, colour
-/// codes that say nothing, and the least version that has the form.
+/// The header of a frame that this project makes: the identifier `pwk0`, no aspect ratio and no frame rate,
+/// unspecified colour codes, and the least version that has the form.
 pub fn own_header(
     width: u16,
     height: u16,

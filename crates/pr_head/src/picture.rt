@@ -111,11 +111,11 @@ fn picture_from<S: ByteSource>(
     Ok((picture, layout))
 }
 
-/// Reads the header of the picture at the place `at` of a frame of `frame` bytes, with the bytes behind its known
-/// fields. Gives the header and the layout of the picture.
+/// Reads the header of the picture at the offset `at` of a frame of `frame` bytes, with the bytes after its known
+/// fields. Returns the header and the layout of the picture.
 ///
-/// The errors are `Bad` with the first fault of the bytes, and `Failed` where a call of the source failed. A source
-/// that doesn't tell its bytes and ends too early is `Bad` with `PictureHeader`.
+/// The errors are `Bad` with the first fault of the bytes, and `Failed` if a call of the source failed. For a
+/// source whose bytes are opaque and which ends too early, the error is `Bad` with `PictureHeader`.
 pub fn read_picture_header<S: ByteSource>(
     source: &mut S,
     at: u32,
@@ -124,16 +124,16 @@ pub fn read_picture_header<S: ByteSource>(
 ) -> Result<(PictureHeader, Layout), FrameFault>
     // The frame's size has none of the faults.
     requires header { HasLayoutSize header.now }
-    // Where the source tells its bytes and has those up to the end of the frame, the answer is what they stand for, or their
-    // first fault.
+    // If the source's bytes are visible and reach to the end of the frame, the result is what they stand for, or
+    // their first fault.
     ensures bytes { Told (S.left source.old) (λ bytes. frame ≤ at + length bytes) → GivesValue told_fault (λ t. t.0) (S.left source.old) (S.left source.new) at result (picture_at frame header.now) }
     ensures layout { IfOk result (λ t. IsLayoutOf t.1 header.now.width header.now.height t.0.log2 header.now.interlace header.now.chroma) }
-    // What is answered has none of the faults.
+    // What is returned has none of the faults.
     ensures picture { IfOk result (λ t. IsPicture t.0) }
     ensures within { IfOk result (λ t. at + t.0.size ≤ frame) }
     ensures most { Lowers (S.most source.old) (S.most source.new) 0 }
     ensures becomes { GoesOn S.becomes source.old source.new }
-    // The error is `Failed` only where a call of the source failed, and each such call is answered by it.
+    // The error is `Failed` only if a call of the source failed, and each such call is reported.
     ensures cause { CountsFault (S.faults source.old) (S.faults source.new) (is_failed result) }
     // No memory is taken.
     ensures memory { is_out_of_memory result ≡ false }
@@ -222,11 +222,12 @@ fn table_of<S: ByteSource>(
     Ok(sizes)
 }
 
-/// Reads the table of the sizes of all slices of the picture at the place `at` of its frame. The source stands behind
+/// Reads the table of the sizes of all slices of the picture at the offset `at` of its frame. The source is after
 /// the picture's header.
 ///
-/// The errors are `Bad` with `SliceTable` behind the header, `Failed` where a call of the source failed, and
-/// `NoMemory`. A source that doesn't tell its bytes and ends too early is `Bad` with the same fault.
+/// The errors are `Bad` with `SliceTable` at the offset after the header, `Failed` if a call of the source failed,
+/// and `NoMemory`. For a source whose bytes are opaque and which ends too early, the error is `Bad` with the same
+/// fault.
 pub fn read_slice_sizes<S: ByteSource>(
     alloc: Global,
     source: &mut S,
@@ -234,14 +235,15 @@ pub fn read_slice_sizes<S: ByteSource>(
     picture: &PictureHeader,
     slices: u32,
 ) -> Result<Vec<u16>, FrameFault>
-    // Where the source tells its bytes and has the picture's behind the header, the answer is the table, or its fault.
+    // If the source's bytes are visible and include the picture's after the header, the result is the table, or its
+    // fault.
     ensures bytes { Told (S.left source.old) (λ bytes. picture.now.size ≤ picture.now.header + length bytes) → GivesValue told_fault (λ v. v.items) (S.left source.old) (S.left source.new) (at + picture.now.header) result (table_at picture.now slices) }
-    // What is answered has none of the faults.
+    // What is returned has none of the faults.
     ensures count { IfOk result (λ v. length v.items ≡ slices) }
     ensures within { IfOk result (λ v. picture_size picture.now v.items ≤ picture.now.size) }
     ensures most { Lowers (S.most source.old) (S.most source.new) 0 }
     ensures becomes { GoesOn S.becomes source.old source.new }
-    // The error is `Failed` only where a call of the source failed, and each such call is answered by it.
+    // The error is `Failed` only if a call of the source failed, and each such call is reported.
     ensures cause { CountsFault (S.faults source.old) (S.faults source.new) (is_failed result) }
 {
     let mut place = u64::from(at) + u64::from(picture.header);

@@ -1,4 +1,4 @@
-//! Bytes that come next, and numbers of them.
+//! The next bytes, and big-endian numbers in them.
 
 ghost use Rattle.std.specs.Prelude.{◌≡◌, ◌+◌, ◌<◌, ◌≤◌, ◌^◌, length, false};
 ghost use Rattle.pw_outside.specs.Ports.{CountsFault, Lowers, GoesOn};
@@ -10,7 +10,7 @@ ghost use Rattle.pr_head.specs.inner.Steps.{piece_at, passed};
 use crate::fault::{FrameFault, FrameKind, bad};
 use pw_outside::{ByteSource, fill};
 
-/// Fills the piece with the next bytes. Where fewer are left, the fault is of this kind at `at`.
+/// Fills the piece with the next bytes. If fewer are left, the fault is `kind` at `at`.
 #[tactic(auto, using(crate::proofs::Bounds::lowers_some))]
 pub(crate) fn whole<S: ByteSource>(
     source: &mut S,
@@ -35,7 +35,7 @@ pub(crate) fn whole<S: ByteSource>(
     Ok(())
 }
 
-/// Passes over some of the next bytes, at most 64.
+/// Skips some of the next bytes, at most 64.
 #[tactic(auto, unfolding(crate::specs::inner::Steps::passed))]
 fn pass_some<S: ByteSource>(
     source: &mut S,
@@ -57,7 +57,7 @@ fn pass_some<S: ByteSource>(
     whole(source, place, &mut piece[..count], kind, at)
 }
 
-/// Passes over the next bytes.
+/// Skips the next bytes.
 #[tactic(auto, using(crate::proofs::Bounds::lowers_then, crate::proofs::Bounds::lowers_same))]
 pub(crate) fn pass<S: ByteSource>(
     source: &mut S,

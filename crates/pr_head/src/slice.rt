@@ -29,7 +29,7 @@ pub struct SliceHeader {
     pub alpha: u16,
 }
 
-/// How many bytes the fields take.
+/// The number of bytes of the fields.
 fn least(alpha: bool) -> u8
     ensures { result ≡ least_slice_header alpha }
 {
@@ -54,7 +54,7 @@ impl SliceHeader {
         }
     }
 
-    /// How many bytes the header and the components have.
+    /// The number of bytes of the header and the components.
     fn size(&self) -> u32
         ensures { result ≡ slice_size self.now }
     {
@@ -65,7 +65,7 @@ impl SliceHeader {
             + u32::from(self.alpha)
     }
 
-    /// The first fault of a slice of so many bytes at this place.
+    /// The first fault of a slice of `size` bytes at the offset `at`.
     #[tactic(auto, unfolding(crate::specs::Slice::slice_fault, pw_outside::specs::Reading::bind))]
     fn judge(&self, at: u32, size: u16, alpha: bool) -> Result<(), FrameFault>
         ensures fault { Answers told_fault (λ x. x) result (slice_fault size alpha at self.now) }
@@ -89,7 +89,7 @@ impl SliceHeader {
         Ok(())
     }
 
-    /// With what remains of a slice of so many bytes as the size of the last component.
+    /// The header whose last component has the rest of a slice of `size` bytes.
     fn with_last(self, size: u16, alpha: bool) -> SliceHeader
         requires within { slice_size self ≤ size }
         requires none { self.alpha ≡ 0 }
@@ -109,7 +109,7 @@ impl SliceHeader {
     }
 }
 
-/// The two bytes of the size of Cr where it is stated, and zeros else.
+/// The two bytes of the size of Cr if it is stated, and zeros else.
 #[tactic(auto, using(crate::proofs::Bounds::lowers_same), unfolding(crate::specs::inner::Steps::cr_in, crate::specs::Bytes::number16))]
 fn cr_of<S: ByteSource>(
     source: &mut S,
@@ -163,24 +163,25 @@ fn slice_of<S: ByteSource>(
     Ok(stated.with_last(size, alpha))
 }
 
-/// Reads the header of the slice of `size` bytes at the place `at` of its frame, with the bytes behind its known
+/// Reads the header of the slice of `size` bytes at the offset `at` of its frame, with the bytes after its known
 /// fields; `alpha` says whether the frame has alpha.
 ///
-/// The errors are `Bad` with the first fault of the bytes, and `Failed` where a call of the source failed. A source
-/// that doesn't tell its bytes and ends too early is `Bad` with `SliceHeader`.
+/// The errors are `Bad` with the first fault of the bytes, and `Failed` if a call of the source failed. For a
+/// source whose bytes are opaque and which ends too early, the error is `Bad` with `SliceHeader`.
 pub fn read_slice_header<S: ByteSource>(
     source: &mut S,
     at: u32,
     size: u16,
     alpha: bool,
 ) -> Result<SliceHeader, FrameFault>
-    // Where the source tells its bytes and has the whole slice, the answer is what they stand for, or their first fault.
+    // If the source's bytes are visible and include the whole slice, the result is what they stand for, or their
+    // first fault.
     ensures bytes { Told (S.left source.old) (λ bytes. size ≤ length bytes) → GivesValue told_fault (λ x. x) (S.left source.old) (S.left source.new) at result (slice_at size alpha) }
-    // What is answered has none of the faults.
+    // What is returned has none of the faults.
     ensures slice { IfOk result (IsSliceHeader size alpha) }
     ensures most { Lowers (S.most source.old) (S.most source.new) 0 }
     ensures becomes { GoesOn S.becomes source.old source.new }
-    // The error is `Failed` only where a call of the source failed, and each such call is answered by it.
+    // The error is `Failed` only if a call of the source failed, and each such call is reported.
     ensures cause { CountsFault (S.faults source.old) (S.faults source.new) (is_failed result) }
     // No memory is taken.
     ensures memory { is_out_of_memory result ≡ false }

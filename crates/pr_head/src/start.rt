@@ -67,7 +67,7 @@ fn alpha(code: u8) -> AlphaKind
     }
 }
 
-/// How many pictures a frame has.
+/// The number of pictures of a frame.
 fn pictures(interlace: Interlace) -> u16
     ensures { result ≡ pictures_of interlace }
 {
@@ -113,7 +113,7 @@ impl Start {
         self.loads % 2 == 1
     }
 
-    /// How many bytes the matrices take.
+    /// The number of bytes of the matrices.
     pub(crate) fn matrices(&self) -> u16
         ensures value { result ≡ matrices_size self.now }
         ensures few { result ≤ 128 }

@@ -3,6 +3,7 @@
 ghost use Rattle.std.specs.Prelude.{◌≡◌, ◌+◌, ◌*◌, ◌<◌, ◌≤◌, ◌++◌, length, OnOk, OnErr, is_err};
 ghost use Rattle.pw_outside.specs.Ports.{CountsFault};
 ghost use Rattle.pw_outside.specs.Writing.{sink_state, Puts, PutsPart};
+ghost use Rattle.pr_geom.specs.declared.places.TheConstants.{MAX_SLICES};
 ghost use Rattle.pr_head.specs.Header.{chroma_code, interlace_code, alpha_code, frame_header_bytes};
 ghost use Rattle.pr_head.specs.Picture.{picture_header_bytes};
 ghost use Rattle.pr_head.specs.Slice.{least_slice_header, slice_header_bytes};
@@ -17,7 +18,7 @@ use pw_planes::{AlphaKind, Chroma, Interlace};
 /// The longest header.
 const MOST: usize = 156;
 
-/// Puts the piece behind the bytes.
+/// Appends `piece` to the bytes.
 fn append(bytes: &mut ArrayVec<u8, MOST>, piece: &[u8])
     requires { length bytes.old.items + length piece.now ≤ MOST }
     ensures { bytes.new.items ≡ bytes.old.items ++ piece.now }
@@ -95,7 +96,7 @@ fn frame_bytes(header: &FrameHeader, size: u32) -> ArrayVec<u8, MOST>
 /// Writes the header of a frame of `size` bytes, 156 bytes from the frame's first on: both matrices are loaded, and
 /// reserved bits are 0. The codes of aspect ratio and frame rate are below 16.
 ///
-/// `Failed` where a call of the sink failed; it then has taken a front of the bytes.
+/// `Failed` if a call of the sink failed; the sink then has taken a prefix of the bytes.
 pub fn write_frame_header<K: ByteSink>(
     sink: &mut K,
     header: &FrameHeader,
@@ -115,7 +116,7 @@ pub fn write_frame_header<K: ByteSink>(
 /// The bytes of the header of a picture.
 #[tactic(auto, unfolding(crate::specs::Picture::picture_header_bytes))]
 fn picture_bytes(size: u32, slices: u32, log2: u8) -> ArrayVec<u8, MOST>
-    requires slices { slices ≤ 65535 }
+    requires slices { slices ≤ MAX_SLICES }
     requires log2 { log2 ≤ 3 }
     ensures { result.items ≡ picture_header_bytes size slices log2 }
 {
@@ -127,17 +128,17 @@ fn picture_bytes(size: u32, slices: u32, log2: u8) -> ArrayVec<u8, MOST>
     bytes
 }
 
-/// Writes the header of a picture of `size` bytes with at most 65,535 slices, 8 bytes; `log2` is the binary logarithm
-/// of a slice's desired width in macroblocks, at most 3.
+/// Writes the header of a picture of `size` bytes with `slices` slices, at most `MAX_SLICES`; 8 bytes. `log2` is the
+/// binary logarithm of a slice's desired width in macroblocks, at most 3.
 ///
-/// `Failed` where a call of the sink failed; it then has taken a front of the bytes.
+/// `Failed` if a call of the sink failed; the sink then has taken a prefix of the bytes.
 pub fn write_picture_header<K: ByteSink>(
     sink: &mut K,
     size: u32,
     slices: u32,
     log2: u8,
 ) -> Result<(), Failed>
-    requires slices { slices ≤ 65535 }
+    requires slices { slices ≤ MAX_SLICES }
     requires log2 { log2 ≤ 3 }
     ensures ok { OnOk result (Puts (sink_state (K.held sink.old) (K.taken sink.old)) (sink_state (K.held sink.new) (K.taken sink.new)) (picture_header_bytes size slices log2)) }
     ensures err { OnErr result (PutsPart (sink_state (K.held sink.old) (K.taken sink.old)) (sink_state (K.held sink.new) (K.taken sink.new)) (picture_header_bytes size slices log2)) }
@@ -166,7 +167,7 @@ fn slice_bytes(slice: &SliceHeader, alpha: bool) -> ArrayVec<u8, MOST>
 
 /// Writes the header of a slice, whose own size is 6 bytes, or 8 with alpha. The index is from 1 to 224.
 ///
-/// `Failed` where a call of the sink failed; it then has taken a front of the bytes.
+/// `Failed` if a call of the sink failed; the sink then has taken a prefix of the bytes.
 pub fn write_slice_header<K: ByteSink>(
     sink: &mut K,
     slice: &SliceHeader,

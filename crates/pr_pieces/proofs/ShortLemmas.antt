@@ -1,4 +1,4 @@
--- Short words by a table.
+-- Short codewords by a table.
 use Rattle.std.proofs.Common.{◌≡◌, ℕ, zero, suc, ◌+◌, ◌-◌, ◌*◌, ◌/◌, ◌%◌, ◌^◌, ◌<◌, ◌≤◌, inl, inr, Bool, eqb, ltb, List, [], ◌∷◌, ◌++◌, length, drop, get_or, set, cond, replicate, pos, Result, Ok, Err, refl, ap, sym, ◌∙◌, subst, arith, length-append, append_assoc}
 use Rattle.std.proofs.lemmas.Bool.{cases_eq}
 use native.Mathlib.Nat.{mul_comm, mul_assoc, mul-add, add-mul}
@@ -50,7 +50,7 @@ short_is b b' front s same e few small =
       long = λ h. long;
     }
 
--- where no short word is known
+-- where no codeword is short
 none_is : (b : Codebook) (front : ℕ) → IsShort b front none
 none_is b front = record { few = omega arith; small = omega arith; is = λ h. absurd (omega arith); long = λ h. absurd (omega arith) }
 
@@ -78,7 +78,7 @@ more_levels table index s inside before here i h = elim (cases_eq i index) [
 
 -- ---- a window that is moved on
 
--- The first m bits of a number of 64 are the bits from a place on.
+-- The first m bits of a 64-bit number are the bits from an offset on.
 pub record IsBits (p : List ℕ) (at w m : ℕ) : Type 0 where
   pub front : (k : ℕ) → k ≤ m → drop at (bits p) ≡ bits_of k (w / 2 ^ (64 - k)) ++ drop (at + k) (bits p)
 
@@ -159,7 +159,7 @@ divided index count parts some few inside low high =
     let is : index * parts ≡ q * 2 ^ 16 + (q * e + r * parts) = omega (arith, whole, up) in
     (omega (arith, is, fits, q_in), ap (λ x. x / 2 ^ 16) is ∙ shr_high q 16 (q * e + r * parts) fits)
 
--- ---- books by their classes
+-- ---- codebooks by their classes
 
 triple_same : (room run run' magnitude magnitude' : ℕ) (l : List Bool) → run_book run' ≡ run_book run → level_book magnitude' ≡ level_book magnitude → triple_at room run magnitude l ≡ triple_at room run' magnitude' l
 unfolding triple_at

@@ -1,5 +1,5 @@
-//! The components of a slice, read from a piece of memory: the same coefficients and the same first fault as reading them from a
-//! source, with short words looked up in tables. No call takes memory.
+//! The components of a slice, read from memory: the same coefficients and the same first fault as from a source,
+//! with short codewords looked up in tables. No call takes memory.
 #![tactic(auto)]
 
 mod blocks;
@@ -8,8 +8,6 @@ mod first;
 mod short;
 mod shorts;
 mod step;
-#[cfg(test)]
-mod tests;
 mod triple;
 mod values;
 mod word;

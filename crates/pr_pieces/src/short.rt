@@ -1,7 +1,7 @@
-//! A short word.
+//! A short codeword.
 
-/// A word of at most eight bits: how many it has, none where it is longer, its number, and the class that this makes for the
-/// next one.
+/// A codeword of at most eight bits: its length, or 0 if the codeword is longer; its number; and its class, the
+/// context of the next one.
 #[derive(Clone, Copy)]
 pub(crate) struct ShortWord {
     pub(crate) size: u8,

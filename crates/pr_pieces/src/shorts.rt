@@ -1,4 +1,4 @@
-//! Tables of short words.
+//! Tables of short codewords.
 
 ghost use Rattle.std.specs.Prelude.{◌<◌};
 ghost use Rattle.pr_pieces.specs.Shorts.{IsShortRun, IsShortLevel, AreRuns, AreLevels};
@@ -7,14 +7,14 @@ use crate::short::ShortWord;
 use crate::word::word_in;
 use pr_coeff::{book_of_level, book_of_run, class_of_level, class_of_run, level_of, run_of};
 
-/// Where no short word is known.
+/// The entry where no codeword is short.
 const NONE: ShortWord = ShortWord {
     size: 0,
     number: 0,
     class: 0,
 };
 
-/// The short word of a run at the front of eight bits, behind a run of a class.
+/// The short codeword of a run at the start of eight bits, after a run of a class.
 fn short_run(class: u8, front: u8) -> ShortWord
     requires { class < 6 }
     ensures { IsShortRun class front result }
@@ -30,7 +30,7 @@ fn short_run(class: u8, front: u8) -> ShortWord
     }
 }
 
-/// The short word of a level at the front of eight bits, behind a magnitude of a class.
+/// The short codeword of a level at the start of eight bits, after a magnitude of a class.
 fn short_level(class: u8, front: u8) -> ShortWord
     requires { class < 6 }
     ensures { IsShortLevel class front result }
@@ -46,7 +46,7 @@ fn short_level(class: u8, front: u8) -> ShortWord
     }
 }
 
-/// The short words of runs.
+/// The short codewords of runs.
 fn short_runs() -> [ShortWord; 1536]
     ensures { AreRuns result }
 {
@@ -57,7 +57,7 @@ fn short_runs() -> [ShortWord; 1536]
     table
 }
 
-/// The short words of levels.
+/// The short codewords of levels.
 fn short_levels() -> [ShortWord; 1536]
     ensures { AreLevels result }
 {
@@ -68,8 +68,8 @@ fn short_levels() -> [ShortWord; 1536]
     table
 }
 
-/// The words of at most eight bits of runs and levels, by the class of what stands before them and by the eight bits that they
-/// begin. They are made once for many components.
+/// The codewords of at most eight bits of runs and levels, by the class of their context and by the next eight
+/// bits. They are made once for many components.
 #[derive(Drop)]
 pub struct ShortWords {
     runs: [ShortWord; 1536],
@@ -87,7 +87,7 @@ impl ShortWords {
         }
     }
 
-    /// The short word of a run at the front of eight bits.
+    /// The short codeword of a run at the start of eight bits.
     pub(crate) fn run(&self, class: u8, front: u8) -> ShortWord
         requires { class < 6 }
         ensures { IsShortRun class front result }
@@ -95,7 +95,7 @@ impl ShortWords {
         self.runs[usize::from(class) * 256 + usize::from(front)]
     }
 
-    /// The short word of a level at the front of eight bits.
+    /// The short codeword of a level at the start of eight bits.
     pub(crate) fn level(&self, class: u8, front: u8) -> ShortWord
         requires { class < 6 }
         ensures { IsShortLevel class front result }

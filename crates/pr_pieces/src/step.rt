@@ -1,4 +1,4 @@
-//! A run, a level and a sign at a place in memory, by tables where both words are short.
+//! A run, a level and a sign at a bit offset in memory, by tables if both codewords are short.
 
 ghost use Rattle.std.specs.Prelude.{◌≡◌, ◌+◌, ◌*◌, ◌<◌, ◌≤◌, length, Ok, IfOk, IfErr, IfSome};
 ghost use Rattle.pw_bits.specs.Places.{ahead};
@@ -11,7 +11,7 @@ use crate::triple::triple_in;
 use pr_coeff::{CoeffFault, class_of_level, class_of_run, level_of, run_of};
 use pw_bits::front_at;
 
-/// A run, a level and a sign, the classes that they make for the next ones, and the place behind them.
+/// A run, a level and a sign, their classes, the context of the next ones, and the bit offset after them.
 #[derive(Clone, Copy)]
 pub(crate) struct Step {
     pub(crate) run: u32,
@@ -22,8 +22,8 @@ pub(crate) struct Step {
     pub(crate) next: usize,
 }
 
-/// A run and a level of short words and a sign at a place with so many places of the scan left, behind a run and a magnitude of
-/// these classes. None says nothing.
+/// A run and a level of short codewords and a sign at a bit offset, with `room` positions of the scan left, after a
+/// run and a magnitude of these classes. `None` means nothing: other codewords may be there.
 fn short_in(
     words: &ShortWords,
     padded: &[u8],
@@ -59,7 +59,7 @@ fn short_in(
     })
 }
 
-/// The same of words of any length.
+/// The same for codewords of any length.
 fn long_in(
     padded: &[u8],
     end: usize,
@@ -96,8 +96,8 @@ fn long_in(
     }
 }
 
-/// The run, the level and the sign at a place with so many places of the scan left, behind a run and a magnitude of these
-/// classes.
+/// The run, the level and the sign at a bit offset, with `room` positions of the scan left, after a run and a
+/// magnitude of these classes.
 pub(crate) fn step_in(
     words: &ShortWords,
     padded: &[u8],

@@ -1,4 +1,4 @@
-//! The coefficients behind the DC coefficients of a component in memory.
+//! The coefficients of a component in memory after the DC coefficients.
 
 ghost use Rattle.std.specs.Prelude.{◌≡◌, ◌+◌, ◌*◌, ◌<◌, ◌≤◌, List, ◌++◌, Ok, OnOk, IfErr, ℤ, pos, length, replicate};
 ghost use Rattle.pw_bits.specs.Places.{ahead, LastOne};
@@ -9,10 +9,10 @@ ghost use Rattle.pr_pieces.specs.inner.Finding.{Finds};
 use crate::blocks::put_value;
 use crate::shorts::ShortWords;
 use crate::step::step_in;
-use crate::triple::signed_level;
-use pr_coeff::{Block, CoeffFault, Scan};
+use pr_coeff::{Block, CoeffFault, Scan, signed_level};
 
-/// Where the bits of a component stand: they end at `end`, behind the DC coefficients is `first`, and behind the last 1 `last`.
+/// The bit offsets of a component: `end` is its end, `first` the offset after the DC coefficients, and `last` the
+/// offset after the last 1.
 #[derive(Clone, Copy)]
 pub(crate) struct Stretch {
     pub(crate) first: usize,
@@ -20,7 +20,7 @@ pub(crate) struct Stretch {
     pub(crate) end: usize,
 }
 
-/// Reads the coefficients at the other places, which are 0 before.
+/// Reads the coefficients at the other positions, which are 0 before.
 pub(crate) fn values_in(
     words: &ShortWords,
     padded: &[u8],

@@ -1,11 +1,11 @@
--- The squared errors of blocks of coefficients that are quantised: of a block, of the blocks of a component, and of a slice (the
--- multipliers as in SMPTE RDD 36, inverse quantization; the error is our own).
+-- The squared errors of blocks of coefficients that are quantised: of a block, of the blocks of a component, and of
+-- a slice. Multipliers as in SMPTE RDD 36, inverse quantization; the error is our own.
 use Rattle.std.specs.Prelude.{ℕ, ◌+◌, ◌*◌, ◌^◌, ◌<◌, ◌≤◌, List, length, map, sum, All, get_or, ℤ, pos, nat_abs}
 use Rattle.std.specs.List.{range_with_len, sum_by}
 use Rattle.pr_quant.specs.declared.weights.Weights.{Weights}
 use Rattle.pr_quant.specs.Quantised.{scale_of, error_of, greatest_coefficient}
 
--- the multiplier at each place of a block: the weight times the factor of the index
+-- the multiplier at each position of a block: the weight times the scale of the index
 unfoldable pub multipliers : List ℕ → ℕ → List ℕ
 multipliers weights index = map (λ w. w * scale_of index) weights
 

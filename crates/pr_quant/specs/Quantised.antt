@@ -1,4 +1,4 @@
--- Multipliers, quantised values and products. The factor of an index is that of SMPTE RDD 36, inverse quantization.
+-- Multipliers, quantised values and products. The scale of an index is that of SMPTE RDD 36, inverse quantization.
 -- The rule of the nearest multiple, the product without a division and its clipping are our own.
 use Rattle.std.specs.Prelude.{◌≡◌, ℕ, suc, ◌+◌, ◌-◌, ◌*◌, ◌/◌, ◌%◌, ◌^◌, ◌<◌, ◌≤◌, ℤ, pos, negsuc, ◌-ℤ◌, ◌*ℤ◌, neg_ℤ, nat_abs, nat_lt, nat_le, if◌then◌else◌}
 use Rattle.std.specs.Int.{int_max, int_min}
@@ -7,15 +7,15 @@ use Rattle.std.specs.Int.{int_max, int_min}
 abbrev pub greatest_coefficient : ℕ
 greatest_coefficient = 16383
 
--- the greatest multiplier: the greatest weight of a byte times the greatest factor
+-- the greatest multiplier: the greatest weight of a byte times the greatest scale
 abbrev pub greatest_multiplier : ℕ
 greatest_multiplier = 255 * 512
 
--- the factor of a quantisation index, from 1 to 224: steps of one up to 128, steps of four above
+-- the scale of a quantisation index, from 1 to 224: steps of one up to 128, steps of four above
 abbrev pub scale_of : ℕ → ℕ
 scale_of index = if nat_le index 128 then index else (128 + 4 * (index - 128))
 
--- how far the coefficient c is from q times the multiplier m
+-- the distance of the coefficient c from q times the multiplier m
 abbrev pub distance : ℤ → ℕ → ℤ → ℕ
 distance c m q = nat_abs (c -ℤ q *ℤ pos m)
 

@@ -37,14 +37,14 @@ pub fn named_weights_are_in_range()
     ensures { NamedWeightsAreInRange }
 {}
 
-/// The magnitude of a value follows from what the weight alone leaves of the coefficient, and it is zero exactly where that
-/// is below the scale.
+/// The magnitude of a value follows from the coefficient's quotient by the weight alone; it is zero exactly where
+/// that quotient is below the scale.
 pub fn turns_give_levels()
     ensures levels { TurnsGiveLevels }
     ensures zeros { TurnsTellZeros }
 {}
 
-/// A product with a reciprocal is a quotient of a number below 2^15.
+/// A product with a reciprocal is the quotient of a number below 2^15.
 pub fn products_are_quotients()
     ensures { ProductsAreQuotients }
 {}

@@ -28,7 +28,7 @@ value-bits_of (suc k) n =
     let m' : n % 2 ^ suc k ≡ n / 2 ^ k % 2 * 2 ^ k + n % 2 ^ k = subst (λ j. n % 2 ^ j ≡ n / 2 ^ k % 2 * 2 ^ k + n % 2 ^ k) s m in
     value-cons _ (bits_of k n) k _ (length-bits_of k n) (value-bits_of k n) ∙ omega (arith, v, m')
 
--- a number of k bits and more in front has the bits of both
+-- a number of k bits and more before has the bits of both
 pub bits_of_low : (i a k b : ℕ) → i ≤ k → bits_of i (a * 2 ^ k + b) ≡ bits_of i b
 bits_of_low zero a k b h = refl
 bits_of_low (suc i) a k b h =
@@ -123,7 +123,7 @@ length-bits : (b : List ℕ) → length (bits b) % 8 ≡ 0
 length-bits [] = refl
 length-bits (x ∷ b) = omega (arith, length-bits b)
 
--- bits of bytes, and fewer than 8 bits behind them
+-- bits of bytes, and fewer than 8 bits after them
 pub whole-bits : (b : List ℕ) (m : List Bool) → AreBytes b → whole (bits b ++ m) ≡ b ++ whole m
 whole-bits [] m h = refl
 whole-bits (x ∷ b) m h =
@@ -163,7 +163,7 @@ pub bits_of-zero : (z : ℕ) → bits_of z 0 ≡ zeros z
 bits_of-zero zero = refl
 bits_of-zero (suc z) = let q : 0 / 2 ^ z ≡ 0 = ap (λ x. x / 2 ^ z) (let u : 0 ≡ 0 * 2 ^ z + 0 = omega arith in u) ∙ shr_high 0 z 0 (pow_pos z) in rw q (ap (λ l. false ∷ l) (bits_of-zero z))
 
--- a small number has zeros in front
+-- a small number has zeros before
 pub bits_of_small : (z k n : ℕ) → n < 2 ^ k → bits_of (z + k) n ≡ zeros z ++ bits_of k n
 bits_of_small z k n h =
     ap (bits_of (z + k)) (let u : n ≡ 0 * 2 ^ k + n = omega arith in u) ∙ bits_of_cat z k 0 n h ∙ ap (λ l. l ++ bits_of k n) (bits_of-zero z)

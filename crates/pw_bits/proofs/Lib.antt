@@ -4,3 +4,4 @@ pub mod ReadingLemmas
 pub mod WindowLemmas
 pub mod PlacesLemmas
 pub mod SpelledLemmas
+pub mod Written

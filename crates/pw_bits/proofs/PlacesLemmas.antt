@@ -94,7 +94,7 @@ window_front all at n k e h =
     ap (λ j. n * 2 ^ s % 2 ^ j / 2 ^ (64 - k)) (let u : 64 ≡ k + (64 - k) = omega arith in u) ∙ field_of (n * 2 ^ s) k (64 - k) ∙ ap (λ x. x % 2 ^ k) up in
     m ∙ ap (λ l. l ++ drop (at + k) all) (bits_of-mod k (n / 2 ^ r) ∙ ap (bits_of k) (sym field))
 
--- ---- zeros at the front of a number
+-- ---- zeros at the start of a number
 
 pub record Front (w z size v : ℕ) : Type 0 where
   pub low : 2 ^ size ≤ v

@@ -11,17 +11,6 @@ use Rattle.pw_bits.specs.Bits.{bits_of, bits, zeros}
 use Rattle.pw_bits.specs.Reading.{unread, Takes}
 use Rattle.pw_bits.proofs.BitsLemmas.{bits_of_cat, bits_of-append, bits_of-mod, bits_of-zero, bits_of_small, bits_of-one, pow_mono_at, pow_suc}
 
--- a bound that is told twice in a row
-pub Lowers-trans : (old mid new : Option ℕ) (a b : ℕ) → Lowers old mid a → Lowers mid new b → Lowers old new 0
-Lowers-trans None mid new a b p q = tt
-Lowers-trans (Some m) None new a b p q = absurd p
-Lowers-trans (Some m) (Some k) None a b p q = absurd q
-Lowers-trans (Some m) (Some k) (Some j) a b p q = omega arith
-
-pub Lowers-same : (o : Option ℕ) → Lowers o o 0
-Lowers-same None = tt
-Lowers-same (Some m) = omega arith
-
 -- ---- one byte
 
 pub told-read : (old new : Option (List ℕ)) (l : List ℕ) → Consumes old new l → IsSome old → IsSome new
@@ -49,7 +38,7 @@ end-read None new n piece e c d t = let e : false ≡ true = t in cc
 end-read (Some xs) None n piece e c d t = absurd c
 end-read (Some xs) (Some ys) n piece e c d t = let f : xs ≡ take 0 piece ++ ys = subst (λ k. xs ≡ take k piece ++ ys) e c in (f ∙ d, d)
 
--- ---- the zeros in front of the bits of one byte
+-- ---- the zeros before the bits of one byte
 
 pub front-parts : (count low : ℕ) → count ≤ 8 → low < 2 ^ count → (z : ℕ) → z ≡ count_leading_zeros 8 low + count - 8 →
     (8 ≤ count_leading_zeros 8 low + count) × (z ≤ count) × (low < 2 ^ (count - z)) × (z < count → bits_of count low ≡ zeros z ++ true ∷ bits_of (count - z - 1) (low % 2 ^ (count - z - 1))) × (z ≡ count → low ≡ 0)
@@ -98,12 +87,12 @@ module _ {kept0 : List Bool} {left0 : Option (List ℕ)} where
   Takes-Takes {kept1} {kept2} {left1} {left2} {l} {m} a told b =
       record { bits = λ t. a.bits t ∙ ap (λ x. l ++ x) (b.bits (told t)) ∙ sym (append_assoc l m (unread kept2 left2)) }
 
-  -- bits from the front of those that are kept
+  -- bits from the start of those that are kept
   pub Takes-front : {kept : List Bool} {left : Option (List ℕ)} {l : List Bool} (m kept' : List Bool) → kept ≡ m ++ kept' → Takes kept0 left0 kept left l → Takes kept0 left0 kept' left (l ++ m)
   Takes-front {kept} {left} {l} m kept' e a =
       record { bits = λ t. a.bits t ∙ ap (λ k. l ++ (k ++ bits (bytes_of left))) e ∙ ap (λ x. l ++ x) (append_assoc m kept' (bits (bytes_of left))) ∙ sym (append_assoc l m (kept' ++ bits (bytes_of left))) }
 
-  -- a byte of the source behind those that are kept
+  -- a byte of the source after those that are kept
   pub Takes-byte : {kept : List Bool} {left left' : Option (List ℕ)} {l : List Bool} (byte : ℕ) → (IsSome left0 → IsSome left) → (IsSome left → bytes_of left ≡ byte ∷ bytes_of left')
       → Takes kept0 left0 kept left l → Takes kept0 left0 (kept ++ bits_of 8 byte) left' l
   Takes-byte {kept} {left} {left'} {l} byte told gives a =
@@ -122,7 +111,7 @@ module _ {kept0 : List Bool} {left0 : Option (List ℕ)} where
 
 -- ---- the steps of the calls
 
--- a byte behind the bits of a number
+-- a byte after the bits of a number
 pub pushed : (count all byte word : ℕ) → all < 2 ^ count → count < 40 → byte < 256 → word ≡ byte →
     (all * 256 % 2 ^ 64 + word < 2 ^ (count + 8)) × (bits_of (count + 8) (all * 256 % 2 ^ 64 + word) ≡ bits_of count all ++ bits_of 8 byte)
 pushed count all byte word fits few small same =
@@ -146,7 +135,7 @@ front_number count n all le size fits =
     (h, omega (arith, h, pow_mono_at n 32 size))
 
 module _ {kept0 : List Bool} {left0 : Option (List ℕ)} (low count run : ℕ) (left : Option (List ℕ)) (taken : Takes kept0 left0 (bits_of count low) left (zeros run)) where
-  -- more zeros in front than are allowed
+  -- more zeros before than are allowed
   pub takes_many : (front most : ℕ) → run ≤ most → most - run < front → front ≤ count → low < 2 ^ (count - front) →
       Takes kept0 left0 (bits_of (count - (most - run) - 1) low) left (zeros (most + 1))
   takes_many front most within many le small =
@@ -182,7 +171,7 @@ pub record TakesSome (kept0 : List Bool) (left0 : Option (List ℕ)) (kept : Lis
   pub run : ℕ
   pub taken : Takes kept0 left0 kept left (zeros run)
 
--- a bound that is told goes on being told, and is lower
+-- a bound that is visible stays visible, and is lower
 pub told-bound : (old new : Option ℕ) (n : ℕ) → Lowers old new n → IsSome old → IsSome new
 told-bound None new n l t = let e : false ≡ true = t in cc
 told-bound (Some m) None n l t = absurd l

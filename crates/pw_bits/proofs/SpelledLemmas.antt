@@ -3,12 +3,13 @@ use Rattle.std.proofs.Common.{◌≡◌, ℕ, zero, suc, ◌+◌, ◌-◌, ◌*�
 use Rattle.std.proofs.lemmas.Nat.{pow-add, shl-shr, shr-shr, shl_whole, one_shl, mul-add-lt}
 use Rattle.std.proofs.lemmas.List.{length-take, take-append-le, take_at}
 use Rattle.std.specs.Int.{bytes_high_first}
+use Rattle.pw_outside.proofs.Steps.{bytes-take}
 use Rattle.pw_bits.specs.Bits.{bits_of, bits, bytes, whole, padding, zeros, AreBytes}
 use Rattle.pw_bits.proofs.BitsLemmas.{length-bits_of, bits_of-append, bits_of-mod, bits_of-zero, bits_of_cat, bits-high_first, pow_mono_at, whole-bits}
 use Rattle.pw_bits.specs.Spelled.{spelled}
 use Rattle.pw_bits.proofs.PlacesLemmas.{take_bits, bits_both}
 
-length_of_bits : (b : List ℕ) → length (bits b) ≡ 8 * length b
+pub length_of_bits : (b : List ℕ) → length (bits b) ≡ 8 * length b
 length_of_bits [] = refl
 length_of_bits (x ∷ b) = omega (arith, length-append (bits_of 8 x) (bits b), length-bits_of 8 x, length_of_bits b)
 
@@ -65,12 +66,6 @@ module _ (low count value n : ℕ) (fits : low < 2 ^ count) (few : count < 8) (s
 
 -- ---- the end
 
-bytes_take : (n : ℕ) (b : List ℕ) → AreBytes b → AreBytes (take n b)
-bytes_take zero b h i = lit< tt
-bytes_take (suc n) [] h i = lit< tt
-bytes_take (suc n) (x ∷ b) h zero = h 0
-bytes_take (suc n) (x ∷ b) h (suc i) = bytes_take n b (λ j. h (suc j)) i
-
 length-spelled : (out : List ℕ) (at low count : ℕ) → at ≤ length out → length (spelled out at low count) ≡ 8 * at + count
 unfolding spelled
 length-spelled out at low count h =
@@ -87,7 +82,7 @@ finish_none out at low count none inside h =
     let size : (8 - length l % 8) % 8 ≡ 0 = omega (arith, length-spelled out at low count inside, none) in
     let e : bits (take at out) ≡ l ++ padding l =
     sym (append-nil (bits (take at out))) ∙ ap (λ k. bits (take at out) ++ bits_of k low) (sym none) ∙ sym (append-nil l) ∙ ap (λ k. l ++ zeros k) (sym size) in
-    bytes_of_bits (take at out) l (bytes_take at out h) e
+    bytes_of_bits (take at out) l (bytes-take at out h) e
 
 pub finish_some : (old out : List ℕ) (at low count at' low' count' : ℕ) → 0 < count → count < 8 → count' < 8 → at ≤ length old → AreBytes out →
     8 * at' + count' ≡ 8 * at + count + (8 - count) → spelled out at' low' count' ≡ spelled old at low count ++ bits_of (8 - count) 0 → take at' out ≡ bytes (spelled old at low count)
@@ -98,7 +93,7 @@ finish_some old out at low count at' low' count' some few few' inside h place e 
     let none : count' ≡ 0 = omega (arith, place) in
     let same : bits (take at' out) ≡ l ++ padding l =
     sym (append-nil (bits (take at' out))) ∙ ap (λ k. bits (take at' out) ++ bits_of k low') (sym none) ∙ e ∙ ap (λ x. l ++ x) (bits_of-zero (8 - count) ∙ ap zeros (sym size)) in
-    bytes_of_bits (take at' out) l (bytes_take at' out h) same
+    bytes_of_bits (take at' out) l (bytes-take at' out h) same
 
 pub spelled_start : (out : List ℕ) (at low count : ℕ) → at ≡ 0 → count ≡ 0 → spelled out at low count ≡ []
 unfolding spelled

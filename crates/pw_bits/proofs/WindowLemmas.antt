@@ -26,7 +26,7 @@ window-end (suc w) k size (Some ys) sub len ends none room =
     let e : ys ≡ [] = ends none (omega arith) in
     ap (take (suc w - k)) e ∙ take-nil (suc w - k)
 
--- what stands behind so many bytes, once some of them are gone
+-- what comes after so many bytes, once some of them are gone
 drop-past : (w : ℕ) (a b : List ℕ) → length a ≤ w → drop w (a ++ b) ≡ drop (w - length a) b
 drop-past w [] b h = ap (λ k. drop k b) (let e : w ≡ w - 0 = omega arith in e)
 drop-past zero (x ∷ a) b h = absurd (omega arith)

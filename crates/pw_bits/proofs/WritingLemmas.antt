@@ -70,10 +70,10 @@ Begins-second {before} {mid} {after} {l} {m} a b =
 -- ---- the end of a stream
 
 -- padding depends on the pending bits alone
-padding-left : (l : List Bool) → padding (left l) ≡ padding l
+pub padding-left : (l : List Bool) → padding (left l) ≡ padding l
 padding-left l = ap (λ n. zeros ((8 - n) % 8)) (let e : length (left l) % 8 ≡ length l % 8 = omega (arith, length-left_mod l) in e)
 
--- behind the padding nothing is pending
+-- after the padding nothing is pending
 pub left-padded : (l : List Bool) → left (l ++ padding l) ≡ []
 left-padded l = left-none (l ++ padding l) (length-padded l)
 

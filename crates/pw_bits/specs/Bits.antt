@@ -1,4 +1,4 @@
--- Numbers and bytes as lists of bits, the most significant first, as bit streams are written in SMPTE RDD 36.
+-- Numbers and bytes as lists of bits, the most significant first, as in the bitstreams of SMPTE RDD 36.
 use Rattle.std.specs.Prelude.{ℕ, zero, suc, ◌+◌, ◌-◌, ◌/◌, ◌%◌, ◌^◌, Bool, false, List, [], ◌∷◌, ◌++◌, length, replicate, nat_eq, if◌then◌else◌}
 use Rattle.std.specs.List.{flat_map}
 pub use Rattle.pw_outside.specs.Reading.{AreBytes}
@@ -17,7 +17,7 @@ value (b ∷ l) = (if b then 2 ^ length l else 0) + value l
 abbrev pub bits : List ℕ → List Bool
 bits b = flat_map (bits_of 8) b
 
--- so many zero bits
+-- z zero bits
 abbrev pub zeros : ℕ → List Bool
 zeros n = replicate n false
 
@@ -26,7 +26,7 @@ abbrev pub whole : List Bool → List ℕ
 whole (a ∷ b ∷ c ∷ d ∷ e ∷ f ∷ g ∷ h ∷ l) = value (a ∷ b ∷ c ∷ d ∷ e ∷ f ∷ g ∷ h ∷ []) ∷ whole l
 whole _ = []
 
--- the bits behind them, fewer than 8
+-- the bits after the whole bytes, fewer than 8
 abbrev pub left : List Bool → List Bool
 left (a ∷ b ∷ c ∷ d ∷ e ∷ f ∷ g ∷ h ∷ l) = left l
 left l = l

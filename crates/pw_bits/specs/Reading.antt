@@ -11,7 +11,7 @@ use Rattle.pw_bits.specs.declared.reader.ZeroRun.TheVariants as runs
 abbrev pub unread : List Bool → Option (List ℕ) → List Bool
 unread kept left = kept ++ bits (bytes_of left)
 
--- Where the source tells its bytes, these bits stood at the front and were taken.
+-- If the source's bytes are visible, these bits came first and were taken.
 pub record Takes (kept_old : List Bool) (left_old : Option (List ℕ)) (kept_new : List Bool) (left_new : Option (List ℕ)) (l : List Bool) : Type 0 where
   pub bits : IsSome left_old → unread kept_old left_old ≡ l ++ unread kept_new left_new
 
@@ -21,18 +21,19 @@ is_failed (Ok _) = false
 is_failed (Err faults.End) = false
 is_failed (Err faults.Failed) = true
 
--- Where the source told its bytes before, no bits are left.
+-- If the source's bytes were visible before, no bits are left.
 abbrev pub Ends : Option (List ℕ) → List Bool → Option (List ℕ) → Type 0
 Ends left_old kept_new left_new = IsSome left_old → unread kept_new left_new ≡ []
 
--- Zeros and the 1 behind them were taken; or the bits ended behind zeros; or the next bits, one more than so many, are zeros, and were taken.
+-- Zeros and the 1 after them were taken; or the bits ended after zeros; or the next `most + 1` bits are zeros, and
+-- were taken.
 abbrev pub TakesZeros : {E : Type 0} → Result ZeroRun E → ℕ → List Bool → Option (List ℕ) → List Bool → Option (List ℕ) → Type 0
 TakesZeros (Ok (runs.One k)) most kept left kept' left' = (k ≤ most) × Takes kept left kept' left' (zeros k ++ true ∷ [])
 TakesZeros (Ok (runs.End k)) most kept left kept' left' = (k ≤ most) × Takes kept left kept' left' (zeros k) × Ends left kept' left'
 TakesZeros (Ok runs.Many) most kept left kept' left' = Takes kept left kept' left' (zeros (most + 1))
 TakesZeros (Err e) most kept left kept' left' = Unit {0}
 
--- All that was left were zeros, and no bits are left; or zeros and the 1 behind them were taken.
+-- All bits that were left were zeros, and none is left; or zeros and the 1 after them were taken.
 abbrev pub TakesRest : {E : Type 0} → Result Bool E → List Bool → Option (List ℕ) → List Bool → Option (List ℕ) → Type 0
 TakesRest (Ok true) kept left kept' left' = (k : ℕ) × Takes kept left kept' left' (zeros k) × Ends left kept' left'
 TakesRest (Ok false) kept left kept' left' = (k : ℕ) × Takes kept left kept' left' (zeros k ++ true ∷ [])

@@ -9,8 +9,8 @@ pub record Writer : Type 0 where
   pub pending : List Bool
   pub spoiled : Bool
 
--- what was written so far: the bytes that the sink holds, where it tells them, how many it has taken,
--- and the bits that are pending
+-- what was written so far: the bytes that the sink holds, where they are visible, the number of bytes taken, and
+-- the pending bits
 pub record Written : Type 0 where
   pub held : Option (List ℕ)
   pub taken : ℕ
@@ -19,13 +19,14 @@ pub record Written : Type 0 where
 abbrev pub written : Option (List ℕ) → ℕ → List Bool → Written
 written held taken pending = record { held = held; taken = taken; pending = pending }
 
--- Bits were put behind the pending ones: the sink took the bytes that these fill together, and the others are pending.
+-- Bits were put after the pending ones: the sink took the bytes that these fill together, and the others are
+-- pending.
 pub record Writes (before after : Written) (l : List Bool) : Type 0 where
   pub bytes : Appends before.held after.held (whole (before.pending ++ l))
   pub taken : after.taken ≡ taken_more before.taken (length (whole (before.pending ++ l)))
   pub pending : after.pending ≡ left (before.pending ++ l)
 
--- The sink took only a front of these bytes.
+-- The sink took only a prefix of these bytes.
 pub record Begins (before after : Written) (l : List Bool) : Type 0 where
   pub front : List ℕ
   pub rest : List ℕ

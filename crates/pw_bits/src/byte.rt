@@ -1,4 +1,4 @@
-//! Single bytes of a source, and the zeros in front of the bits of one.
+//! Single bytes of a source, and the leading zeros of a byte's bits.
 
 ghost use Rattle.std.specs.Prelude.{◌≡◌, ◌+◌, ◌-◌, ◌%◌, ◌^◌, ◌<◌, ◌≤◌, true, ◌∷◌, ◌++◌, length, slice_index, IsSome, is_err};
 ghost use Rattle.pw_outside.specs.Ports.{CountsFault, Lowers, GoesOn};
@@ -7,7 +7,7 @@ ghost use Rattle.pw_bits.specs.inner.Bytes.{GivesByte, byte_count};
 
 use pw_outside::{ByteSource, Failed};
 
-/// The next byte of a source, none at its end.
+/// The next byte of `source`; `None` at its end.
 pub(crate) fn next_byte<S: ByteSource>(source: &mut S) -> Result<Option<u8>, Failed>
     ensures bytes { GivesByte result (S.left source.old) (S.left source.new) }
     ensures told { IsSome (S.left source.old) → IsSome (S.left source.new) }
@@ -32,7 +32,7 @@ fn first(piece: &[u8]) -> u8
     piece[0]
 }
 
-/// How many zeros stand in front of the first 1 of so many bits, all of them where there is no 1.
+/// The number of zeros before the first 1 of the `count` low bits, or `count` where there is no 1.
 pub(crate) fn zeros_in_front(low: u8, count: u8) -> u8
     requires size { count ≤ 8 }
     requires fits { low < 2 ^ count }

@@ -9,7 +9,7 @@ pub fn bits_are_numbers()
     ensures back { (l : List Bool) → bits_of (length l) (value l) ≡ l }
 {}
 
-/// The bytes of a list of bits have these bits, and behind them the fewest zeros that fill a byte.
+/// The bytes of a list of bits have these bits, and after them the fewest zeros that fill a byte.
 pub fn bytes_are_bits()
     ensures there { (l : List Bool) → bits (bytes l) ≡ l ++ padding l }
     ensures back { (b : List ℕ) → AreBytes b → bytes (bits b) ≡ b }

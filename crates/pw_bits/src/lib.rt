@@ -1,5 +1,5 @@
-//! Bits in streams of bytes: written to any sink, read from any source, the most significant bit of a
-//! byte first. No call takes memory.
+//! Bits in streams of bytes, the most significant bit of a byte first: written to any sink, read from any source.
+//! No call takes memory.
 #![tactic(auto)]
 
 mod byte;
@@ -7,8 +7,6 @@ mod laws;
 mod places;
 mod reader;
 mod spelled;
-#[cfg(test)]
-mod tests;
 mod window;
 mod writer;
 

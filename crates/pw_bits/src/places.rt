@@ -1,4 +1,4 @@
-//! Bits of bytes in memory, by their places.
+//! Bits of bytes in memory, by their offsets.
 
 ghost use Rattle.std.specs.Prelude.{◌≡◌, ℕ, ◌+◌, ◌-◌, ◌*◌, ◌/◌, ◌%◌, ◌^◌, ◌<◌, ◌≤◌, ◌++◌, ◌∷◌, length, drop};
 ghost use Rattle.pw_bits.specs.Bits.{bits_of, bits};
@@ -21,7 +21,7 @@ fn eight(bytes: &[u8], from: usize) -> u64
     ])
 }
 
-/// The bits from a place on, at the front of a number, 57 of them at least. Eight bytes stand behind the place.
+/// The bits from bit offset `place` on, at the top of a number: at least 57 of them. Eight bytes follow the offset.
 pub fn front_at(padded: &[u8], at: usize) -> u64
     requires { at + 64 ≤ 8 * length padded.now }
     ensures front { (k : ℕ) → k ≤ 57 → drop at (bits padded.now) ≡ bits_of k (result / 2 ^ (64 - k)) ++ drop (at + k) (bits padded.now) }
@@ -29,7 +29,7 @@ pub fn front_at(padded: &[u8], at: usize) -> u64
     eight(padded, at / 8) << (at % 8)
 }
 
-/// The bit at a place. Eight bytes stand behind the place.
+/// The bit at bit offset `place`. Eight bytes follow it.
 pub fn bit_at(padded: &[u8], at: usize) -> bool
     requires { at + 64 ≤ 8 * length padded.now }
     ensures { drop at (bits padded.now) ≡ result ∷ drop (at + 1) (bits padded.now) }
@@ -37,7 +37,7 @@ pub fn bit_at(padded: &[u8], at: usize) -> bool
     front_at(padded, at) >> 63 == 1
 }
 
-/// How many zeros stand behind the last 1 of a byte that isn't 0.
+/// The number of zeros after the last 1 of a byte that isn't 0.
 fn zeros_behind(byte: u8) -> u8
     requires { 0 < byte }
     ensures few { result < 8 }
@@ -47,7 +47,8 @@ fn zeros_behind(byte: u8) -> u8
     byte.trailing_zeros() as u8
 }
 
-/// The place behind the last 1 of the first `bytes` bytes, at most 2^32, or 0 where there is none.
+/// The bit offset after the last 1 of the first `bytes` bytes, of which there are at most 2^32; 0 where there is no
+/// 1.
 pub fn behind_last_one(padded: &[u8], bytes: usize) -> usize
     requires inside { bytes ≤ length padded.now }
     requires few { bytes ≤ 2 ^ 32 }

@@ -8,7 +8,7 @@ use crate::byte::{next_byte, zeros_in_front};
 use pw_outside::{ByteSource, Failed};
 use std::marker::Model;
 
-/// Why bits are not given.
+/// Why bits are not returned.
 #[derive(Clone, Copy, Debug, PartialEq, Eq)]
 pub enum BitFault {
     /// Fewer bits are left than are asked for.
@@ -20,16 +20,16 @@ pub enum BitFault {
 /// What reading zeros met.
 #[derive(Clone, Copy, Debug, PartialEq, Eq)]
 pub enum ZeroRun {
-    /// So many zeros and the 1 behind them.
+    /// This many zeros, and the 1 after them.
     One(u32),
-    /// So many zeros and the end of the bits.
+    /// This many zeros, and then the end of the bits.
     End(u32),
     /// More zeros than were allowed.
     Many,
 }
 
-/// Reads bits from a source, the most significant of a byte first, and keeps those of a byte that it
-/// hasn't given yet, fewer than 8.
+/// Reads bits from a source, the most significant of a byte first. It keeps the bits of the current byte that it
+/// hasn't returned yet, fewer than 8.
 #[derive(Drop)]
 pub struct BitReader {
     low: u8,
@@ -72,7 +72,8 @@ impl BitReader {
         }
     }
 
-    /// The next `n` bits as a number, the highest first. `n` is at most 32.
+    /// The next `n` bits as a number, the most significant first. `n` is at most 32. `End` where fewer are left,
+    /// `Failed` where the source failed.
     pub fn bits<S: ByteSource>(&mut self, source: &mut S, n: u8) -> Result<u32, BitFault>
         requires { n ≤ 32 }
         ensures fits { IfOk result (λ value. value < 2 ^ n) }
@@ -101,7 +102,7 @@ impl BitReader {
         Ok((all >> kept) as u32)
     }
 
-    /// Takes zeros and the 1 behind them, but no more than `most` zeros and one more.
+    /// Takes zeros and the 1 after them, but at most `most + 1` zeros.
     pub fn zeros<S: ByteSource>(&mut self, source: &mut S, most: u32) -> Result<ZeroRun, Failed>
         ensures run { TakesZeros result most self.old (S.left source.old) self.new (S.left source.new) }
         ensures told { IsSome (S.left source.old) → IsSome (S.left source.new) }
@@ -141,8 +142,8 @@ impl BitReader {
         }
     }
 
-    /// Takes bits up to the end or to the first 1, and tells whether all were zeros. The source tells a
-    /// number that its bytes never pass.
+    /// Takes bits up to the end or to the first 1, and returns whether all were zeros. The source has a visible
+    /// bound on its bytes.
     pub fn rest_is_zero<S: ByteSource>(&mut self, source: &mut S) -> Result<bool, Failed>
         requires { IsSome (S.most source.old) }
         ensures rest { TakesRest result self.old (S.left source.old) self.new (S.left source.new) }

@@ -4,7 +4,7 @@ ghost use Rattle.std.specs.Prelude.{◌≡◌, ℕ, ◌+◌, ◌-◌, ◌*◌, �
 ghost use Rattle.pw_bits.specs.Bits.{bits_of, bits, bytes};
 ghost use Rattle.pw_bits.specs.Spelled.{spelled};
 
-/// Where writing stands: whole bytes up to `at`, and behind them the `count` bits of `low`, fewer than 8.
+/// A cursor of writing: whole bytes up to `at`, and after them the `count` bits of `low`, fewer than 8.
 #[derive(Clone, Copy)]
 pub struct Cursor {
     pub at: usize,
@@ -15,7 +15,7 @@ pub struct Cursor {
 }
 
 impl Cursor {
-    /// At the front.
+    /// A cursor at the start.
     pub fn start() -> Cursor
         ensures { (result.at ≡ 0) × (result.count ≡ 0) }
     {
@@ -27,7 +27,7 @@ impl Cursor {
     }
 }
 
-/// Writes a number as eight bytes, the highest first.
+/// Writes a number as eight bytes, the most significant first.
 fn store(out: &mut [u8], at: usize, value: u64)
     requires { at + 8 ≤ length out.old }
     ensures { (w : ℕ) → w ≤ 8 → bits (take (at + w) out.new) ≡ bits (take at out.old) ++ bits_of (8 * w) (value / 2 ^ (64 - 8 * w)) }
@@ -35,7 +35,7 @@ fn store(out: &mut [u8], at: usize, value: u64)
     out[at..at + 8].copy_from_slice(&value.to_be_bytes());
 }
 
-/// Writes the `n` low bits of a value, at least 1 and at most 57. Eight bytes at the cursor are written.
+/// Writes the `n` low bits of `value`, 1 to 57 of them. Eight bytes at the cursor are written.
 pub fn put_bits(out: &mut [u8], cursor: Cursor, value: u64, n: u32) -> Cursor
     requires few { (0 < n) × (n ≤ 57) }
     requires fits { value < 2 ^ n }
@@ -54,7 +54,7 @@ pub fn put_bits(out: &mut [u8], cursor: Cursor, value: u64, n: u32) -> Cursor
     }
 }
 
-/// Fills the last byte with zeros, and says how many bytes have been written.
+/// Fills the last byte with zeros, and returns the number of bytes written.
 pub fn finish(out: &mut [u8], cursor: Cursor) -> usize
     requires room { 8 * cursor.at + cursor.count + 64 ≤ 8 * length out.old }
     ensures bytes { take result out.new ≡ bytes (spelled out.old cursor.at cursor.low cursor.count) }

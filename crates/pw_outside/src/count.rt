@@ -1,4 +1,4 @@
-//! A sink that keeps the number of bytes alone.
+//! A sink that counts bytes and keeps none.
 
 ghost use Rattle.std.specs.Prelude.{◌≡◌, ◌≤◌, ◌<◌, Ok, length, min, IfOk, OnOk, is_err, None, Option};
 ghost use Rattle.std.specs.Io.KnownBytes.{WriteAppends, Keeps};
@@ -7,8 +7,8 @@ ghost use Rattle.pw_outside.specs.Ports.{last, count_of, taken_more, CountsFault
 use crate::ports::{ByteSink, Failed};
 use std::marker::Model;
 
-/// A sink that keeps the number of bytes that it took, which stays at 2^64 − 1 once it is reached, and
-/// tells no content. It takes every piece whole, and never fails.
+/// A sink that counts the bytes that it took and keeps none of them; its contents are opaque to contracts. The
+/// count stays at 2^64 − 1 once it is reached. It takes every piece whole, and never fails.
 #[derive(Debug, Drop)]
 pub struct CountSink {
     taken: u64,

@@ -4,7 +4,7 @@ ghost use Rattle.std.specs.Prelude.{◌≡◌};
 
 use crate::ports::{ByteSource, ByteStore, Failed};
 
-/// The bytes of a store from a place up to an end, or up to the store's own end where that comes first, as a
+/// The bytes of a store from an offset up to an end, or up to the store's own end where that comes first, as a
 /// source. It borrows the store, and its faults are the store's.
 #[derive(Drop)]
 pub struct Span<'a, M> {
@@ -14,7 +14,7 @@ pub struct Span<'a, M> {
 }
 
 impl<'a, M: ByteStore> Span<'a, M> {
-    /// The bytes from `at` up to `end`; none where `end` isn't behind `at`.
+    /// The bytes from offset `at` up to `end`; none where `end ≤ at`.
     pub fn new(store: &'a mut M, at: u64, end: u64) -> Span<'a, M>
         ensures same_store { result.store.ghost_name ≡ store.entry.ghost_name }
         ensures untouched { result.store.now ≡ store.old }
@@ -52,7 +52,7 @@ impl<M: ByteStore> ByteSource for Span<'_, M> {
         ensures most { Lowers (Some (self.old.end - self.old.at)) (Some (self.new.end - self.new.at)) (count_of result) }
         ensures cause { CountsFault (M.faults self.old.store.now) (M.faults self.new.store.now) (is_err result) }
         ensures becomes { GoesOn (λ a b. Passes (M.bytes a.store.now) (M.bytes b.store.now) a.store.ghost_name b.store.ghost_name a.end b.end a.at b.at) self.old self.new }
-        // The store behind it is the same and as it was, and the span has passed what it gave.
+        // The store is the same and unchanged, and the span has moved past the bytes that it gave.
         ensures same_store { self.new.store.ghost_name ≡ self.old.store.ghost_name }
         ensures store { M.bytes self.new.store.now ≡ M.bytes self.old.store.now }
         ensures at { self.new.at ≡ self.old.at + count_of result }
@@ -62,46 +62,5 @@ impl<M: ByteStore> ByteSource for Span<'_, M> {
         let count = self.store.read_at(self.at, &mut piece[..room])?;
         self.at += count as u64;
         Ok(count)
-    }
-}
-
-#[cfg(test)]
-mod tests {
-    use super::*;
-    use crate::{MemStore, fill};
-
-    #[test]
-    fn gives_a_part_of_a_store(rt: HostRuntime) {
-        for (step, at, end, want) in [
-            (1, 0, 6, 6),
-            (4, 2, 5, 3),
-            (4096, 4, 6, 2),
-            (2, 3, 3, 0),
-            (3, 4, 99, 2),
-        ] {
-            let bytes = Vec::from_array(rt.alloc(), *b"moov\x00\x01").expect(&rt, "memory");
-            let mut store = MemStore::new(bytes, step, Vec::new(rt.alloc()));
-            let mut span = Span::new(&mut store, at, end);
-            let mut piece = [0u8; 8];
-            assert_eq!(rt; fill(&mut span, &mut piece), Ok(want), "from {at} to {end}");
-            let there = b"moov\x00\x01".get(at as usize..).unwrap_or(&[]);
-            assert!(rt;
-                there.starts_with(piece.get(..want).unwrap_or(&[])),
-                "from {at} to {end}"
-            );
-        }
-    }
-
-    #[test]
-    fn a_part_fails_where_its_store_does(rt: HostRuntime) {
-        let bytes = Vec::from_array(rt.alloc(), *b"moov\x00\x01").expect(&rt, "memory");
-        let fails = Vec::from_array(rt.alloc(), [1]).expect(&rt, "memory");
-        let mut store = MemStore::new(bytes, 2, fails);
-        let mut span = Span::new(&mut store, 1, 5);
-        let mut piece = [0u8; 8];
-        assert_eq!(rt; span.read(&mut piece), Ok(2));
-        assert_eq!(rt; span.read(&mut piece), Err(Failed));
-        assert_eq!(rt; span.read(&mut piece), Ok(2));
-        assert_eq!(rt; span.read(&mut piece), Ok(0));
     }
 }

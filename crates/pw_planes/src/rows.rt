@@ -6,7 +6,7 @@ ghost use Rattle.pw_planes.specs.Rows.{raster, in_turn, RowsWritten, OthersStay}
 use crate::plane::{MAX_HEIGHT, MAX_WIDTH};
 use std::alloc::{AllocError, Global};
 
-/// Eight samples of each of eight rows of a width, from a place on.
+/// Eight samples of each of eight rows of `width` samples, from index `first` on.
 pub(crate) fn inner_samples(samples: &[u16], width: usize, at: usize) -> [u16; 64]
     requires width { width ≤ MAX_WIDTH }
     requires inside { at + 7 * width + 8 ≤ length samples.now }
@@ -20,7 +20,7 @@ pub(crate) fn inner_samples(samples: &[u16], width: usize, at: usize) -> [u16; 6
     block
 }
 
-/// Writes rows of so many of eight values each, from a place on, into rows of a width.
+/// Writes the first values of each row of eight into rows of a width, from an index on.
 pub(crate) fn write_rows(
     samples: &mut [u16],
     width: usize,
@@ -45,7 +45,7 @@ pub(crate) fn write_rows(
     }
 }
 
-/// Every second row of so many samples, from a place on.
+/// Every second row of a width, from an index on.
 pub(crate) fn every_second_row(
     alloc: Global,
     samples: &[u16],
@@ -67,7 +67,7 @@ pub(crate) fn every_second_row(
     Ok(kept)
 }
 
-/// The rows of two lists in turn.
+/// The rows of two lists, alternating.
 pub(crate) fn rows_in_turn(
     alloc: Global,
     top: &[u16],

@@ -9,7 +9,7 @@ pub record IsDecimal (bytes : List ℕ) : Type 0 where
   pub digits : AllDigits 10 bytes
   pub small : digits_value 10 bytes < 2 ^ 64
 
--- the digits of this number, and no zero in front of them
+-- the digits of this number, with no leading zero
 pub record IsSpelling (number : ℕ) (bytes : List ℕ) : Type 0 where
   pub digits : IsDecimal bytes
   pub value : digits_value 10 bytes ≡ number
@@ -19,6 +19,6 @@ pub record IsSpelling (number : ℕ) (bytes : List ℕ) : Type 0 where
 abbrev pub DecimalIsSpelling : Type 0
 DecimalIsSpelling = (number : ℕ) → number < 2 ^ 64 → IsSpelling number (decimal number)
 
--- no other bytes are one
+-- no other bytes are a spelling
 abbrev pub SpellingIsDecimal : Type 0
 SpellingIsDecimal = (number : ℕ) (bytes : List ℕ) → IsSpelling number bytes → bytes ≡ decimal number

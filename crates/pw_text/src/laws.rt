@@ -2,7 +2,7 @@
 
 ghost use Rattle.pw_text.specs.Decimal.{DecimalIsSpelling, SpellingIsDecimal};
 
-/// What is put of a number is read again: its digits are a decimal number of its value, and no other bytes without a
+/// A number that was put is read again: its digits are a decimal number of its value, and no other bytes without a
 /// leading zero are.
 pub fn decimals_are_read_again()
     ensures again { DecimalIsSpelling }

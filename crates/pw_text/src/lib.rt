@@ -1,4 +1,4 @@
-//! Decimal numbers and words of printed lines.
+//! Decimal numbers, words and numbered lines of printed text.
 #![tactic(auto)]
 
 ghost use Rattle.std.specs.Prelude.{◌≡◌, ◌++◌, OnOk, OnErr, IfOk};
@@ -11,11 +11,11 @@ mod laws;
 pub use laws::decimals_are_read_again;
 use pw_outside::NoMemory;
 
-/// The bytes are no decimal number below 2^64.
+/// The bytes are not a decimal number below 2^64.
 #[derive(Clone, Copy, Debug, PartialEq, Eq)]
 pub struct Bad;
 
-/// Appends the words. After `NoMemory` the text is as it was.
+/// Appends `words` to `text`. After `NoMemory` the text is unchanged.
 pub fn put_words(text: &mut Vec<u8>, words: &str) -> Result<(), NoMemory>
     ensures ok { OnOk result (text.new.items ≡ text.old.items ++ words.now) }
     ensures err { OnErr result (text.new.items ≡ text.old.items) }
@@ -26,7 +26,7 @@ pub fn put_words(text: &mut Vec<u8>, words: &str) -> Result<(), NoMemory>
     }
 }
 
-/// Appends the decimal spelling, without leading zeros. After `NoMemory` the text is as it was.
+/// Appends the decimal spelling of `number`, without leading zeros. After `NoMemory` the text is unchanged.
 #[tactic(auto, using(crate::proofs::Spelling::decimal_spelled))]
 pub fn put_decimal(text: &mut Vec<u8>, value: u64) -> Result<(), NoMemory>
     ensures ok { OnOk result (text.new.items ≡ text.old.items ++ decimal value) }
@@ -39,8 +39,8 @@ pub fn put_decimal(text: &mut Vec<u8>, value: u64) -> Result<(), NoMemory>
     }
 }
 
-/// The number that the digits stand for: one digit or more, leading zeros allowed. `Bad` exactly where the
-/// bytes are empty, hold another byte than a digit, or stand for a number past 2^64 − 1.
+/// The number that the digits spell: one digit or more, leading zeros allowed. `Bad` exactly where `bytes` is
+/// empty, holds a byte that is no digit, or spells a number past 2^64 − 1.
 #[tactic(auto, using(crate::proofs::Digits::after_ge))]
 pub fn read_decimal(bytes: &[u8]) -> Result<u64, Bad>
     ensures ok { IfOk result (λ n. IsDecimal bytes.now × (n ≡ digits_value 10 bytes.now)) }
@@ -64,38 +64,5 @@ pub fn read_decimal(bytes: &[u8]) -> Result<u64, Bad>
         Err(Bad)
     } else {
         Ok(value)
-    }
-}
-
-#[cfg(test)]
-mod tests {
-    use super::*;
-
-    #[test]
-    fn reads_digits_alone_below_two_to_64(rt: HostRuntime) {
-        let cases: [(&[u8], Result<u64, Bad>); 9] = [
-            (b"0", Ok(0)),
-            (b"7", Ok(7)),
-            (b"0042", Ok(42)),
-            (b"18446744073709551615", Ok(18_446_744_073_709_551_615)),
-            (b"18446744073709551616", Err(Bad)),
-            (b"", Err(Bad)),
-            (b"-1", Err(Bad)),
-            (b"1 ", Err(Bad)),
-            (b"12a", Err(Bad)),
-        ];
-        for (bytes, want) in cases {
-            assert_eq!(rt; read_decimal(bytes), want);
-        }
-    }
-
-    #[test]
-    fn appends_words_and_numbers(rt: HostRuntime) {
-        let mut text = Vec::new(rt.alloc());
-        assert_eq!(rt; put_words(&mut text, "size "), Ok(()));
-        assert_eq!(rt; put_decimal(&mut text, 0), Ok(()));
-        assert_eq!(rt; put_words(&mut text, ", "), Ok(()));
-        assert_eq!(rt; put_decimal(&mut text, 18_446_744_073_709_551_615), Ok(()));
-        assert!(rt; text.as_slice() == b"size 0, 18446744073709551615".as_slice());
     }
 }

@@ -9,7 +9,7 @@ use Rattle.qt_atoms.specs.declared.atom.AtomFault.TheVariants as faults
 use Rattle.pw_outside.specs.Reading.{Fails}
 use Rattle.qt_atoms.specs.Atoms.{Walk, Sized, bad_size, told_fault, and_then, atom_at, walk_over, walk, first_in, found_or, none_or_bad, StartsAt}
 
--- the bytes of an atom are passed over
+-- the bytes of an atom are skipped
 pub passed : (file : List ℕ) (end : ℕ) (top : Bool) (left inside : ℕ) → inside ≤ left → walk_over file end top left inside ≡ walk_over file end top (left - inside) 0
 unfolding walk_over
 passed file end top zero zero h = ap (λ m. walk_over file end top m 0) (let e : 0 ≡ 0 - 0 = omega arith in e)
@@ -36,7 +36,7 @@ step-of file at end top left n e p = rw (e, p) refl
 pub walk-step : (file : List ℕ) (at end : ℕ) (top : Bool) → at < end → walk file at end top ≡ and_then (atom_at file at end top) (λ a. walk_over file end top ((end - at) - 1) ((a.end - a.at) - 1))
 walk-step file at end top lt = step-of file at end top (end - at) ((end - at) - 1) (omega arith) (omega arith)
 
--- the walk goes on behind an atom
+-- the walk continues after an atom
 pub walk-on : (file : List ℕ) (at end : ℕ) (top : Bool) (a : Atom) → at < end → StartsAt at end (steps.Atom a)
     → walk_over file end top ((end - at) - 1) ((a.end - a.at) - 1) ≡ walk file a.end end top
 walk-on file at end top a lt s =
@@ -49,7 +49,7 @@ none-whole None None h = refl
 none-whole None (Some place) h = grind arith
 none-whole (Some a) bad h = grind arith
 
--- the walk from an atom on, the walk that ends here, and the walk that a bad size ends
+-- the walk from an atom on, the walk that ends here, and the walk ended by a bad size
 pub walk_atom : (file : List ℕ) (at end : ℕ) (top : Bool) (a : Atom) → at < end → atom_at file at end top ≡ Ok (steps.Atom a) → StartsAt at end (steps.Atom a)
     → walk file at end top ≡ record { atoms = a ∷ (walk file a.end end top).atoms; bad = (walk file a.end end top).bad }
 walk_atom file at end top a lt h s =
@@ -62,7 +62,7 @@ walk_end file at end top lt h = walk-step file at end top lt ∙ ap (λ r. and_t
 pub walk_bad : (file : List ℕ) (at end : ℕ) (top : Bool) (place : ℕ) → at < end → atom_at file at end top ≡ bad_size place → walk file at end top ≡ record { atoms = []; bad = Some place }
 walk_bad file at end top place lt h = walk-step file at end top lt ∙ ap (λ r. and_then r (λ b. walk_over file end top ((end - at) - 1) ((b.end - b.at) - 1))) h
 
--- a walk in which no atom passes a test has no bad size, where that is all that was found
+-- if `first_in` returns nothing, no atom passes the test and the walk has no bad size
 pub none_is_whole : (test : Atom → Bool) (w : Walk) → first_in test w ≡ Ok None → w.bad ≡ None
 none_is_whole test w h = none-whole (find test w.atoms) w.bad h
 

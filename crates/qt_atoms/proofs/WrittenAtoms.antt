@@ -1,8 +1,8 @@
--- Atoms and numbers that were written are read.
-use Rattle.std.proofs.Common.{◌≡◌, ℕ, ◌+◌, ◌-◌, ◌≤◌, ◌<◌, ◌^◌, Bool, false, nat_lt, nat_eq, List, [], ◌∷◌, ◌++◌, length, take, drop, Ok, refl, sym, ap, ◌∙◌, arith, append_assoc}
-use Rattle.std.specs.Int.{Width, w32, w64, byte_len, to_be_bytes, from_be_bytes}
+-- Written atoms and numbers are read back.
+use Rattle.std.proofs.Common.{◌≡◌, ℕ, ◌+◌, ◌-◌, ◌≤◌, ◌<◌, ◌^◌, Bool, false, nat_lt, nat_eq, List, [], ◌∷◌, ◌++◌, length, take, drop, map, Ok, refl, sym, ap, ◌∙◌, arith, append_assoc}
+use Rattle.std.specs.Int.{w32, w64, to_be_bytes, from_be_bytes}
 use Rattle.std.proofs.lemmas.Bool.Decides.{nat_tests}
-use Rattle.std.proofs.lemmas.List.{take_at, drop_at, drop-drop}
+use Rattle.std.proofs.lemmas.List.{take_at, drop_at, drop-drop, map-id}
 use Rattle.std.proofs.lemmas.Nat.{from_be_bytes-to_be_bytes_4, from_be_bytes-to_be_bytes_8}
 use Rattle.qt_atoms.specs.declared.atom.Step.TheVariants as steps
 use Rattle.qt_atoms.specs.Atoms.{number_in, kind_in, framed, atom_at}
@@ -28,7 +28,7 @@ of-size file at end top size e le fits =
     let c : nat_eq size 1 ≡ false = grind (arith, nat_tests) in
     rw (e, a, b, c) refl
 
--- an atom that was written is there
+-- a written atom is read
 pub atom_stands : (front kind body behind : List ℕ) (end : ℕ) (top : Bool) → length kind ≡ 4 → length body + 8 < 2 ^ 32 → length front + (length body + 8) ≤ end
     → atom_at (front ++ (atom kind body ++ behind)) (length front) end top
     ≡ Ok (steps.Atom (record { kind = kind; at = length front; body = length front + 8; end = length front + (length body + 8) }))
@@ -51,7 +51,7 @@ ended_atom front kind body four =
     let behind : drop (length front + 4) (front ++ rest) ≡ kind ++ body = sym (drop-drop 4 (length front) (front ++ rest)) ∙ ap (drop 4) (drop_at front rest (length front) refl) in
     ap (λ l. ended l (length front)) whole ∙ rw (len, behind, take_at front rest (length front) refl) refl
 
--- a walk over atoms that were written one behind the other meets them, and nothing else
+-- a walk over consecutive written atoms meets exactly these
 pub walk_written : (nodes : List Node) (front behind : List ℕ) (end : ℕ) (top : Bool) → AllByRecursion IsNode nodes → end ≡ length front + length (flat_map atom_of nodes)
     → walk (front ++ (flat_map atom_of nodes ++ behind)) (length front) end top ≡ record { atoms = placed (length front) nodes; bad = None }
 walk_written [] front behind end top h e = walk-none (front ++ behind) (length front) end top (omega (arith, e))
@@ -80,31 +80,41 @@ walk_written (n ∷ nodes) front behind end top h e =
     ∙ ap (λ p. (let w : Walk = record { atoms = placed p nodes; bad = None } in w)) len in
     ap (λ f. walk f at end top) e0 ∙ first ∙ ap (λ (w : Walk). (let v : Walk = record { atoms = a ∷ w.atoms; bad = w.bad } in v)) (on ∙ others)
 
--- numbers of a width that were written one behind the other are read, where one is
-rows-of-width : (w : Width) (Fits : ℕ → Type 0) → ((n : ℕ) (behind : List ℕ) → Fits n → from_be_bytes w (take (byte_len w) (to_be_bytes w n ++ behind)) ≡ n) → ((n : ℕ) → length (to_be_bytes w n) ≡ byte_len w)
-    → (numbers front behind : List ℕ) → AllByRecursion Fits numbers
-    → rows (number_in w (front ++ (flat_map (to_be_bytes w) numbers ++ behind))) (length front) (byte_len w) (length numbers) ≡ numbers
-rows-of-width w Fits is-read width [] front behind h = refl
-rows-of-width w Fits is-read width (n ∷ numbers) front behind h =
-    let A = to_be_bytes w n in
-    let rest = flat_map (to_be_bytes w) numbers in
-    let F = front ++ ((A ++ rest) ++ behind) in
-    let G = (front ++ A) ++ (rest ++ behind) in
-    let e : F ≡ G = ap (λ l. front ++ l) (append_assoc A rest behind) ∙ sym (append_assoc front A (rest ++ behind)) in
-    let len : length (front ++ A) ≡ length front + byte_len w = length-append front A ∙ ap (λ m. length front + m) (width n) in
-    let here : number_in w F (length front) ≡ n = ap (λ l. from_be_bytes w (take (byte_len w) l)) (drop_at front ((A ++ rest) ++ behind) (length front) refl ∙ append_assoc A rest behind) ∙ is-read n (rest ++ behind) h.0 in
-    let others : rows (number_in w F) (length front + byte_len w) (byte_len w) (length numbers) ≡ numbers =
-    ap (λ f. rows (number_in w f) (length front + byte_len w) (byte_len w) (length numbers)) e
-    ∙ ap (λ p. rows (number_in w G) p (byte_len w) (length numbers)) (sym len)
-    ∙ rows-of-width w Fits is-read width numbers (front ++ A) behind h.1 in
-    ap (λ m. m ∷ rows (number_in w F) (length front + byte_len w) (byte_len w) (length numbers)) here ∙ ap (λ l. n ∷ l) others
+-- consecutive written rows are read back, if one row is
+pub rows-at : {X Y : Type 0} (row : ℕ → X) (bytes : Y → List ℕ) (value : Y → X) (step : ℕ) (Fits : Y → Type 0) (file : List ℕ)
+    → ((place : ℕ) (y : Y) (behind : List ℕ) → drop place file ≡ bytes y ++ behind → Fits y → row place ≡ value y) → ((y : Y) → length (bytes y) ≡ step)
+    → (place : ℕ) (ys : List Y) (behind : List ℕ) → drop place file ≡ flat_map bytes ys ++ behind → AllByRecursion Fits ys → rows row place step (length ys) ≡ map value ys
+rows-at row bytes value step Fits file is-read width place [] behind there h = refl
+rows-at row bytes value step Fits file is-read width place (y ∷ ys) behind there h =
+    let rest = flat_map bytes ys ++ behind in
+    let here : drop place file ≡ bytes y ++ rest = there ∙ append_assoc (bytes y) (flat_map bytes ys) behind in
+    let next : drop (place + step) file ≡ rest = sym (drop-drop step place file) ∙ ap (drop step) here ∙ drop_at (bytes y) rest step (width y) in
+    ap (λ x. x ∷ rows row (place + step) step (length ys)) (is-read place y rest here h.0)
+    ∙ ap (λ l. value y ∷ l) (rows-at row bytes value step Fits file is-read width (place + step) ys behind next h.1)
 
--- numbers of 32 bits that were written one behind the other are read
+-- consecutive written numbers are read back from an offset
+pub numbers-from : (file : List ℕ) (place : ℕ) (ns behind : List ℕ) → drop place file ≡ flat_map (to_be_bytes w32) ns ++ behind → AllByRecursion (λ n. n < 2 ^ 32) ns
+    → rows (number_in w32 file) place 4 (length ns) ≡ ns
+numbers-from file place ns behind there h =
+    rows-at (number_in w32 file) (to_be_bytes w32) (λ n. n) 4 (λ n. n < 2 ^ 32) file
+    (λ place n rest e fits. ap (λ l. from_be_bytes w32 (take 4 l)) e ∙ from_be_bytes-to_be_bytes_4 n fits) (λ n. refl) place ns behind there h ∙ map-id ns
+
+pub longs-from : (file : List ℕ) (place : ℕ) (ns behind : List ℕ) → drop place file ≡ flat_map (to_be_bytes w64) ns ++ behind → AllByRecursion (λ n. n < 2 ^ 64) ns
+    → rows (number_in w64 file) place 8 (length ns) ≡ ns
+longs-from file place ns behind there h =
+    rows-at (number_in w64 file) (to_be_bytes w64) (λ n. n) 8 (λ n. n < 2 ^ 64) file
+    (λ place n rest e fits. ap (λ l. from_be_bytes w64 (take 8 l)) e ∙ from_be_bytes-to_be_bytes_8 n fits) (λ n. refl) place ns behind there h ∙ map-id ns
+
+-- consecutive 32-bit numbers that were written are read back
 pub rows_written : (numbers front behind : List ℕ) → AllByRecursion (λ n. n < 2 ^ 32) numbers
     → rows (number_in w32 (front ++ (flat_map (to_be_bytes w32) numbers ++ behind))) (length front) 4 (length numbers) ≡ numbers
-rows_written = rows-of-width w32 (λ n. n < 2 ^ 32) (λ n behind h. from_be_bytes-to_be_bytes_4 n h) (λ n. refl)
+rows_written numbers front behind h =
+    let text = flat_map (to_be_bytes w32) numbers ++ behind in
+    numbers-from (front ++ text) (length front) numbers behind (drop_at front text (length front) refl) h
 
--- numbers of 64 bits that were written one behind the other are read
+-- consecutive 64-bit numbers that were written are read back
 pub rows_written_long : (numbers front behind : List ℕ) → AllByRecursion (λ n. n < 2 ^ 64) numbers
     → rows (number_in w64 (front ++ (flat_map (to_be_bytes w64) numbers ++ behind))) (length front) 8 (length numbers) ≡ numbers
-rows_written_long = rows-of-width w64 (λ n. n < 2 ^ 64) (λ n behind h. from_be_bytes-to_be_bytes_8 n h) (λ n. refl)
+rows_written_long numbers front behind h =
+    let text = flat_map (to_be_bytes w64) numbers ++ behind in
+    longs-from (front ++ text) (length front) numbers behind (drop_at front text (length front) refl) h

@@ -1,4 +1,4 @@
-//! An atom, what stands at a place, and why none could be read.
+//! Atoms, walk entries, and errors of reading them.
 
 ghost use Rattle.std.specs.Prelude.{◌≡◌};
 ghost use Rattle.qt_atoms.specs.declared.atom.AtomFault.TheVariants as faults;
@@ -6,7 +6,7 @@ ghost use Rattle.qt_atoms.specs.declared.atom.AtomFault.TheVariants as faults;
 use pw_outside::Failed;
 use thiserror::Error;
 
-/// An atom of a file: its kind, its place, and the places at which its body begins and ends.
+/// An atom of a file: its kind, its offset, and the start and end offsets of its body.
 #[derive(Clone, Copy, Debug, PartialEq, Eq)]
 pub struct Atom {
     pub kind: [u8; 4],
@@ -15,19 +15,19 @@ pub struct Atom {
     pub end: u64,
 }
 
-/// What stands next in a walk.
+/// The next entry of a walk.
 #[derive(Clone, Copy, Debug, PartialEq, Eq)]
 pub enum Step {
-    /// An atom.
     Atom(Atom),
-    /// Nothing more: fewer than 8 bytes are left, or a size 0 stands inside a parent.
+    /// The walk ends: fewer than 8 bytes are left, or an atom inside a parent has size 0.
     End,
 }
 
 /// Why no atom could be read.
 #[derive(Clone, Copy, Debug, PartialEq, Eq, Error)]
 pub enum AtomFault {
-    /// The size of the atom at this place is bad: 2 to 7, a 64-bit size below 16 or without room, or one that passes the end.
+    /// The atom at this offset has a bad size: 2 to 7, a 64-bit size below 16 or without room for it, or past the
+    /// end.
     #[error("Size")]
     Size(u64),
     /// The store failed.

@@ -1,11 +1,9 @@
-//! Atoms of QuickTime files: the next atom, the first of a walk, and a writer that frames atoms.
+//! Atoms of QuickTime files: read one, find the first that matches, and a writer that frames atoms.
 #![tactic(auto)]
 
 mod atom;
 mod laws;
 mod next;
-#[cfg(test)]
-mod tests;
 mod walking;
 mod writer;
 

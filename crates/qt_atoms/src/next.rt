@@ -1,4 +1,4 @@
-//! The next atom.
+//! Reads the next atom.
 
 ghost use Rattle.std.specs.Prelude.{◌≡◌, ◌≤◌, ◌<◌, ◌+◌, ◌^◌, length, false, IfOk, Ok};
 ghost use Rattle.std.specs.Int.{w32};
@@ -9,7 +9,7 @@ ghost use Rattle.qt_atoms.specs.Atoms.{bytes_in, number_in, kind_in, framed, ato
 use crate::atom::{Atom, AtomFault, Step};
 use pw_outside::{ByteStore, fill_at};
 
-/// The `N` bytes at a place, which the store has, of the head of the atom at `at`.
+/// Reads `N` bytes, which the store has, from the head of the atom at `at`.
 fn piece_of<M: ByteStore, const N: usize>(
     store: &mut M,
     place: u64,
@@ -29,7 +29,7 @@ fn piece_of<M: ByteStore, const N: usize>(
     Ok(piece)
 }
 
-/// The size and the kind that the head of the atom at a place names.
+/// Reads the size and the kind from the head of the atom at an offset.
 fn head_of<M: ByteStore>(store: &mut M, at: u64) -> Result<(u32, [u8; 4]), AtomFault>
     requires inside { Told (M.bytes store.old) (λ file. at + 8 ≤ length file) }
     requires room { at + 8 < 2 ^ 64 }
@@ -45,7 +45,7 @@ fn head_of<M: ByteStore>(store: &mut M, at: u64) -> Result<(u32, [u8; 4]), AtomF
     Ok((u32::from_be_bytes(size), kind))
 }
 
-/// The atom with a head and a whole of so many bytes, where it has room.
+/// The atom with this head length and total size; an error if it doesn't fit.
 fn atom_of(kind: [u8; 4], at: u64, end: u64, head: u64, size: u64) -> Result<Step, AtomFault>
     requires order { at ≤ end }
     requires head { 8 ≤ head }
@@ -64,8 +64,9 @@ fn atom_of(kind: [u8; 4], at: u64, end: u64, head: u64, size: u64) -> Result<Ste
     }))
 }
 
-/// What stands at a place in front of an end, at the top level of a file or inside a parent: an atom, or the end of the walk.
-/// `AtomFault::Size` is a bad size, with the atom's place. Told or not, an atom that is given lies between the two places. No memory.
+/// Reads the next entry before an end offset, at the top level of a file or inside a parent: an atom, or the end of
+/// the walk. `AtomFault::Size` is a bad size, with the atom's offset. An atom that is returned lies between the two
+/// offsets, whether the bytes are visible or opaque. Takes no memory.
 #[tactic(auto, unfolding(crate::specs::Atoms::atom_at))]
 pub fn next_atom<M: ByteStore>(
     store: &mut M,

@@ -1,4 +1,4 @@
-//! The first atom of a walk that has one of some kinds.
+//! Finds the first atom of a walk with one of some kinds.
 
 ghost use Rattle.std.specs.Prelude.{◌≡◌, ◌≤◌, length, IfOk, IfSome};
 ghost use Rattle.pw_outside.specs.Ports.{CountsFault};
@@ -15,8 +15,8 @@ fn is_one_of(atom: &Atom, kinds: &[[u8; 4]]) -> bool
     kinds.iter().any(|kind| atom.kind == *kind)
 }
 
-/// The first atom of the walk from a place to an end that has one of these kinds; `None` exactly where the walk ends without one.
-/// `AtomFault::Size` is a bad size that the walk meets before one. No memory.
+/// The first atom with one of these kinds between an offset and an end; `None` exactly if the walk ends without
+/// one. `AtomFault::Size` is a bad size met before one. Takes no memory.
 pub fn first_of<M: ByteStore>(
     store: &mut M,
     at: u64,
@@ -46,8 +46,8 @@ pub fn first_of<M: ByteStore>(
     Ok(None)
 }
 
-/// The first child of that kind; `None` exactly where the walk of the parent ends without one. `AtomFault::Size` is a bad size that the
-/// walk meets before one. No memory.
+/// The first child of this kind; `None` exactly if the walk of the parent ends without one. `AtomFault::Size` is a
+/// bad size met before one. Takes no memory.
 pub fn find<M: ByteStore>(
     store: &mut M,
     parent: &Atom,
@@ -63,7 +63,7 @@ pub fn find<M: ByteStore>(
     first_of(store, parent.body, parent.end, false, &[kind])
 }
 
-/// The first child that has one of two kinds, as `find`.
+/// The first child with one of two kinds, as `find`.
 pub fn find_either<M: ByteStore>(
     store: &mut M,
     parent: &Atom,

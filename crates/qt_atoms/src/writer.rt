@@ -7,7 +7,7 @@ use pw_outside::NoMemory;
 use std::alloc::Global;
 use std::marker::Model;
 
-/// The bytes of the atoms that were written so far.
+/// The bytes of the atoms written so far.
 #[derive(Drop)]
 pub struct AtomWriter {
     held: Vec<u8>,
@@ -22,7 +22,7 @@ impl Model for AtomWriter {
 }
 
 impl AtomWriter {
-    /// Nothing written yet.
+    /// An empty writer.
     pub fn new(alloc: Global) -> AtomWriter
         ensures { result ≡ [] }
     {
@@ -38,7 +38,7 @@ impl AtomWriter {
         &self.held
     }
 
-    /// Appends bytes. After `NoMemory` the bytes are as before.
+    /// Appends bytes. After `NoMemory` the writer is unchanged.
     pub fn bytes(&mut self, piece: &[u8]) -> Result<(), NoMemory>
         ensures bytes { OnOk result (self.new ≡ self.old ++ piece.now) }
         ensures same { OnErr result (self.new ≡ self.old) }
@@ -49,7 +49,8 @@ impl AtomWriter {
         }
     }
 
-    /// Begins an atom, four bytes for its size and its kind, and tells its place. After `NoMemory` the bytes are as before.
+    /// Begins an atom: appends four bytes for its size and its kind, and returns its offset. After `NoMemory` the
+    /// writer is unchanged.
     pub fn begin(&mut self, kind: [u8; 4]) -> Result<u64, NoMemory>
         ensures place { IfOk result (λ begun. begun ≡ length self.old) }
         ensures bytes { OnOk result (self.new ≡ begun_atom self.old kind) }
@@ -60,7 +61,8 @@ impl AtomWriter {
         Ok(begun)
     }
 
-    /// Fills in the size of the atom that was begun at a place, and reaches to the end of what is held.
+    /// Ends the atom at `begun`: sets its size so that it reaches to the end of the bytes written so
+    /// far.
     pub fn end(&mut self, begun: u64)
         requires begun { IsBegun self.old begun }
         requires small { length self.old - begun < 2 ^ 32 }

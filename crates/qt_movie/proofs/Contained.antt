@@ -1,14 +1,14 @@
--- Atoms that hold atoms.
+-- Atoms that contain atoms.
 use Rattle.std.proofs.Common.{◌≡◌, ℕ, List, [], ◌++◌, length, ap, ◌∙◌, sym, append_assoc}
 use Rattle.std.proofs.lemmas.List.{append-nil}
 use Rattle.qt_atoms.specs.Written.{atom, ended, begun_atom}
 use Rattle.qt_atoms.proofs.WrittenAtoms.{ended_atom}
 
--- what is held once an atom is ended in which this body was written
+-- the bytes after an atom with this body is ended
 pub contained : (front kind body held : List ℕ) → length kind ≡ 4 → held ≡ begun_atom front kind ++ body → ended held (length front) ≡ front ++ atom kind body
 contained front kind body held four e = ap (λ l. ended l (length front)) e ∙ ended_atom front kind body four
 
--- the same for atoms of one to five parts, which were appended one after the other
+-- the same for atoms of one to five parts, appended in order
 pub contained_one : (front kind a h0 h1 : List ℕ) (begun : ℕ) → begun ≡ length front → length kind ≡ 4 → h0 ≡ begun_atom front kind → h1 ≡ h0 ++ a → ended h1 begun ≡ front ++ atom kind (a ++ [])
 contained_one front kind a h0 h1 begun p four e0 e1 =
     ap (λ n. ended h1 n) p ∙ contained front kind (a ++ []) h1 four (e1 ∙ ap (λ l. l ++ a) e0 ∙ ap (λ l. begun_atom front kind ++ l) (sym (append-nil a)))

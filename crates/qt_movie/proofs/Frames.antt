@@ -1,4 +1,4 @@
--- Where the frames of a written movie lie.
+-- The offsets of the frames of a written movie.
 use Rattle.std.proofs.Common.{◌≡◌, ℕ, ◌+◌, List, [], ◌∷◌, ◌++◌, length, map, take, drop, refl, sym, ap, ◌∙◌, arith, append_assoc, length-append}
 use Rattle.std.proofs.lemmas.List.{take_at, drop_at, drop-drop}
 use Rattle.std.specs.List.{flat_map}
@@ -7,7 +7,7 @@ use Rattle.qt_atoms.specs.Atoms.{bytes_in}
 use Rattle.qt_tables.specs.declared.writer.Extent.{Extent}
 use Rattle.qt_movie.specs.MovieBytes.{ftyp_bytes, frame_bytes, extents_from, extents, moov_bytes, movie_bytes}
 
--- the first frame behind some bytes
+-- the first frame after some bytes
 frame-here : (front frame rest : List ℕ) → bytes_in (length frame) (front ++ (frame_bytes frame ++ rest)) (length front + 8) ≡ frame
 frame-here front frame rest =
     let F = front ++ (frame_bytes frame ++ rest) in

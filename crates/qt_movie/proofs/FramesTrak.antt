@@ -10,8 +10,9 @@ use Rattle.qt_movie.specs.declared.trak.Media.TheVariants as media
 use Rattle.qt_movie.specs.Bodies.{nodes_bytes}
 use Rattle.qt_movie.specs.Trak.{TrakValues, IsTrak, trak_node, moov_of_traks}
 use Rattle.qt_movie.specs.MovieBytes.{kind_of, pixel_bits, one_run, duration_of, frames_trak, moov_bytes, extents_from, extents}
+use Rattle.qt_tables.specs.declared.tables.TheConstants.{MAX_SAMPLES}
 
--- ---- tracks one behind the other
+-- ---- consecutive tracks
 
 nodes-more : (traks : List TrakValues) (i : ℕ) (t : TrakValues) → i < length traks → t ≡ get_or traks i t
     → nodes_bytes (map trak_node (take (i + 1) traks)) ≡ nodes_bytes (map trak_node (take i traks)) ++ atom_of (trak_node t)
@@ -76,12 +77,12 @@ trak_is head sizes duration kind bits stts stsc count offsets d n k b t c o =
     ∙ ap (λ l. values (duration_of head (extents sizes)) head.num (kind_of head) head.width head.height (pixel_bits head.alpha) (one_run (length (extents sizes)) (length (extents sizes), head.den)) (one_run (length (extents sizes)) (1, 1, 1)) (length (extents sizes)) sizes l) o
     ∙ ap (λ l. values (duration_of head (extents sizes)) head.num (kind_of head) head.width head.height (pixel_bits head.alpha) (one_run (length (extents sizes)) (length (extents sizes), head.den)) (one_run (length (extents sizes)) (1, 1, 1)) (length (extents sizes)) l (places_of (extents sizes))) s
 
-run-few : {Run : Type 0} (b : Bool) (run : Run) → length (if b then [] else run ∷ []) ≤ 1
+pub run-few : {Run : Type 0} (b : Bool) (run : Run) → length (if b then [] else run ∷ []) ≤ 1
 run-few true run = omega arith
 run-few false run = omega arith
 
 -- it can be written
-pub trak_can : (head : Head) (es : List Extent) → length es ≤ 1000000 → IsTrak (frames_trak head es)
+pub trak_can : (head : Head) (es : List Extent) → length es ≤ MAX_SAMPLES → IsTrak (frames_trak head es)
 trak_can head es few = record {
   few_times = omega (arith, run-few {Run = ℕ × ℕ} (length es == 0) (length es, head.den));
   few_runs = omega (arith, run-few {Run = ℕ × ℕ × ℕ} (length es == 0) (1, 1, 1));

@@ -1,7 +1,6 @@
--- Reading descriptions, references and tracks one after the other, as a loop does.
+-- Reading descriptions, references and tracks in a loop.
 use Rattle.std.proofs.Common.{◌≡◌, ℕ, suc, ◌-◌, ◌+◌, ◌≤◌, ◌<◌, Bool, true, false, List, [], ◌∷◌, ◌++◌, Option, None, Some, Ok, Err, refl, sym, ap, ◌∙◌, arith, append_assoc}
-use Rattle.std.specs.Prelude.{IfSome, ◌&&◌, if◌then◌else◌}
-use Rattle.std.specs.List.{All, list_all, filter}
+use Rattle.std.specs.List.{filter}
 use Rattle.std.proofs.lemmas.List.{append-nil}
 use Rattle.pw_outside.specs.Reading.{bind, ◌>>=◌, Fails}
 use Rattle.pw_outside.proofs.Chains.{fails-whole}
@@ -15,21 +14,19 @@ use Rattle.qt_tables.specs.declared.fault.MovieFault.{MovieFault}
 use Rattle.qt_tables.specs.Faults.{Found, told_fault, lifted}
 use Rattle.qt_movie.specs.declared.description.Description.{Description}
 use Rattle.qt_movie.specs.declared.external.Reference.{Reference}
-use Rattle.qt_movie.specs.Movie.{description_in, described, reference_at, references, is_prores, VideoTrack, prores_track, is_trak, track_in, first_track, or_else}
-use Rattle.qt_movie.specs.declared.parts.Parts.{Parts}
-use Rattle.qt_movie.specs.Ranges.{HasSize}
+use Rattle.qt_movie.specs.Movie.{description_in, described, reference_at, references, VideoTrack, is_trak, track_in, first_track, or_else}
 
--- what was read before, and then what is still read
+-- the items read so far, and then the items still to be read
 abbrev pub after_front : {X : Type 0} → List X → Found (List X) → Found (List X)
 after_front front found = found >>= λ others. Ok (front ++ others)
 
--- the first of what is still read goes over to what was read before
+-- the next item moves to those read so far
 after_front-more : {X : Type 0} (front : List X) (first : X) (found : Found (List X)) → after_front front (found >>= λ others. Ok (first ∷ others)) ≡ after_front (front ++ first ∷ []) found
 unfolding bind
 after_front-more front first (Ok others) = ap Ok (sym (append_assoc front (first ∷ []) others))
 after_front-more front first (Err e) = refl
 
--- where nothing was read before, what is still read is all
+-- if nothing was read so far, all items are still to be read
 pub after_front_nil : {X : Type 0} (found : Found (List X)) → after_front [] found ≡ found
 unfolding bind
 after_front_nil (Ok others) = refl
@@ -76,29 +73,9 @@ references-end file end front count i place total lt h so_far =
     let one : front ++ references file end (count - i) place ≡ front = rw (k, h) (append-nil front) in
     sym so_far ∙ one
 
-pub references-all : (file : List ℕ) (end : ℕ) (front : List Bool) (count i place : ℕ) (total : List Bool) → count ≤ i
-    → front ++ references file end (count - i) place ≡ total → total ≡ front
-references-all file end front count i place total le so_far =
-    let k : count - i ≡ 0 = omega arith in
-    let one : front ++ references file end (count - i) place ≡ front = rw k (append-nil front) in
-    sym so_far ∙ one
-
--- ---- the first description
-
-first-whole : (end number : ℕ) (parts : Parts) (d : Description) (ds : List Description) (prores others : Bool) → is_prores d.kind ≡ prores → (prores ≡ true → d.at + 86 ≤ end)
-    → IfSome (if prores && others then Some (record { number = number; parts = parts; first = d; descriptions = d ∷ ds }) else None) (λ (t : VideoTrack). t.first.at + 86 ≤ end)
-first-whole end number parts d ds false others e h = tt
-first-whole end number parts d ds true false e h = tt
-first-whole end number parts d ds true true e h = h refl
-
--- the first description of a track of ProRes is whole
-pub first_is_whole : (end number : ℕ) (parts : Parts) (ds : List Description) → All (HasSize end) ds → IfSome (prores_track number parts ds) (λ t. t.first.at + 86 ≤ end)
-first_is_whole end number parts [] h = tt
-first_is_whole end number parts (d ∷ ds) h = first-whole end number parts d ds (is_prores d.kind) (list_all (λ x. is_prores x.kind) ds) refl (h 0 d (omega arith))
-
 -- ---- tracks
 
--- the first track from a place of a `moov` on, with the number of the next
+-- the first track of a `moov` from an offset on, with the number of the next
 abbrev pub track_from : List ℕ → (place end number : ℕ) → Found (Option VideoTrack)
 track_from file place end number = first_track file (filter is_trak (walk file place end false).atoms) number
 
@@ -110,10 +87,10 @@ pub tracks-end : (file : List ℕ) (place end number : ℕ) (total : Found (Opti
 unfolding first_track
 tracks-end file place end number total lt h so_far = sym so_far ∙ ap (λ w. first_track file (filter is_trak w.atoms) number) (walk_end file place end false lt h)
 
-some-not-none : (place : ℕ) → (let x : Option ℕ = Some place in x) ≡ None → ⊥
+pub some-not-none : (place : ℕ) → (let x : Option ℕ = Some place in x) ≡ None → ⊥
 some-not-none place h = grind arith
 
--- a bad size is none of a `moov` that has none
+-- a `moov` without a bad size has none at any atom
 pub tracks-fail : (e : AtomFault) (file : List ℕ) (place end : ℕ) (total : Found (Option VideoTrack)) → place < end → Fails atoms_told e (atom_at file place end false) → (walk file place end false).bad ≡ None
     → Fails told_fault (lifted e) total
 tracks-fail (atoms.Size at) file place end total lt h whole = absurd (some-not-none at (sym (ap (λ w. w.bad) (walk_bad file place end false at lt h)) ∙ whole))
@@ -122,7 +99,7 @@ tracks-fail atoms.Failed file place end total lt h whole = tt
 pub whole-on : (file : List ℕ) (place end : ℕ) (a : Atom) → place < end → atom_at file place end false ≡ Ok (steps.Atom a) → StartsAt place end (steps.Atom a) → (walk file place end false).bad ≡ None → (walk file a.end end false).bad ≡ None
 whole-on file place end a lt h s whole = sym (ap (λ w. w.bad) (walk_atom file place end false a lt h s)) ∙ whole
 
--- an atom that is no track is passed over
+-- an atom that is no track is skipped
 pub tracks-passed : (file : List ℕ) (place end number : ℕ) (a : Atom) (total : Found (Option VideoTrack)) → place < end → atom_at file place end false ≡ Ok (steps.Atom a) → StartsAt place end (steps.Atom a) → is_trak a ≡ false
     → track_from file place end number ≡ total → track_from file a.end end number ≡ total
 tracks-passed file place end number a total lt h s t so_far =

@@ -1,19 +1,12 @@
--- How many bytes numbers, atoms and sample tables have.
+-- The lengths of numbers, atoms and sample tables in bytes.
 use Rattle.std.proofs.Common.{◌≡◌, ℕ, ◌+◌, ◌*◌, List, [], ◌∷◌, length, refl, arith, length-append}
 use Rattle.std.specs.List.{flat_map}
-use Rattle.std.specs.Int.{w32, w64, to_be_bytes}
+use Rattle.std.specs.Int.{w64, to_be_bytes}
 use Rattle.qt_atoms.specs.Written.{Node, atom}
 use Rattle.qt_tables.specs.Writing.{numbers_bytes}
+use Rattle.qt_tables.proofs.Wrapping.{length-numbers, length-longs}
 use Rattle.qt_movie.specs.Bodies.{nodes_bytes}
 use Rattle.qt_movie.specs.Trak.{time_bytes, run_bytes, stts_body, stsc_body, stsz_body, stco_body, co64_body}
-
-pub length-numbers : (ns : List ℕ) → length (numbers_bytes ns) ≡ 4 * length ns
-length-numbers [] = refl
-length-numbers (n ∷ ns) = omega (arith, length-append (to_be_bytes w32 n) (numbers_bytes ns), length-numbers ns)
-
-length-long_numbers : (ns : List ℕ) → length (flat_map (to_be_bytes w64) ns) ≡ 8 * length ns
-length-long_numbers [] = refl
-length-long_numbers (n ∷ ns) = omega (arith, length-append (to_be_bytes w64 n) (flat_map (to_be_bytes w64) ns), length-long_numbers ns)
 
 length-times : (runs : List (ℕ × ℕ)) → length (flat_map time_bytes runs) ≡ 8 * length runs
 length-times [] = refl
@@ -38,7 +31,7 @@ pub length-stco : (offsets : List ℕ) → length (stco_body offsets) ≡ 8 + 4 
 length-stco offsets = omega (arith, length-append (numbers_bytes (0 ∷ length offsets ∷ [])) (numbers_bytes offsets), length-numbers offsets)
 
 pub length-co64 : (offsets : List ℕ) → length (co64_body offsets) ≡ 8 + 8 * length offsets
-length-co64 offsets = omega (arith, length-append (numbers_bytes (0 ∷ length offsets ∷ [])) (flat_map (to_be_bytes w64) offsets), length-long_numbers offsets)
+length-co64 offsets = omega (arith, length-append (numbers_bytes (0 ∷ length offsets ∷ [])) (flat_map (to_be_bytes w64) offsets), length-longs offsets)
 
 -- ---- atoms
 

@@ -1,9 +1,9 @@
-mod InOrder
+pub mod InOrder
 mod MoovWalk
 mod Contained
 mod Lengths
 mod Frames
-mod FramesTrak
+pub mod FramesTrak
 pub mod Stands
 pub mod Nodes
 pub mod TopLevel
@@ -11,5 +11,6 @@ pub mod WrittenFields
 pub mod WrittenTables
 pub mod WrittenParts
 pub mod WrittenTraks
-mod WrittenMovie
+pub mod WrittenMovie
 pub mod LoneSamples
+pub mod Inside

@@ -14,6 +14,7 @@ use Rattle.qt_tables.proofs.Places.{length-durations}
 use Rattle.qt_movie.specs.Trak.{TrakValues}
 use Rattle.qt_movie.specs.Laws.{tables_of, one_each, HasSamples, LoneSamplesAreTold}
 use Rattle.qt_movie.proofs.WrittenTables.{time_run, chunk_run}
+use Rattle.qt_tables.specs.declared.tables.TheConstants.{MAX_SAMPLES}
 
 abbrev one_run : ChunkRun
 one_run = record { first = 1; samples = 1; description = 1 }
@@ -73,7 +74,7 @@ given : (ss : List Sample) → AllByRecursion (λ (s : Sample). s.description �
 given [] first = refl
 given (s ∷ ss) first = given-from (s ∷ ss) 1 (omega arith) first
 
-are-tables : (timescale : ℕ) (times : List TimeRun) (ss : List Sample) → 1 ≤ timescale → length ss ≤ 1000000 → length times ≤ 1000000 → All (λ s. s.at < 2 ^ 62) ss → durations times ≡ map (λ s. s.duration) ss
+are-tables : (timescale : ℕ) (times : List TimeRun) (ss : List Sample) → 1 ≤ timescale → length ss ≤ MAX_SAMPLES → length times ≤ MAX_SAMPLES → All (λ s. s.at < 2 ^ 62) ss → durations times ≡ map (λ s. s.duration) ss
     → AreTables (lone timescale times ss)
 are-tables timescale times ss some few few_times close lasts =
     let sizes = length-map ss (λ (s : Sample). s.size) in
@@ -93,7 +94,7 @@ pub lone_told : LoneSamplesAreTold
 lone_told t ss h some few few_times close =
     let T = lone t.timescale (map time_run t.stts) ss in
     let e = are-lone t ss h in
-    let times : length (map time_run t.stts) ≤ 1000000 = omega (arith, length-map t.stts time_run, few_times) in
+    let times : length (map time_run t.stts) ≤ MAX_SAMPLES = omega (arith, length-map t.stts time_run, few_times) in
     let told : samples T ≡ ss = ap (samples_in (chunks T.runs T.offsets) T.sizes) h.durations ∙ given ss (recursion_from_All (λ (s : Sample). s.description ≡ 1) ss h.described) in
     record {
       tables = subst AreTables (sym e) (are-tables t.timescale (map time_run t.stts) ss some few times close h.durations);

@@ -13,7 +13,7 @@ use Rattle.qt_tables.specs.declared.fault.MovieFault.{MovieFault}
 use Rattle.qt_tables.specs.Faults.{Found, told_fault, lifted, sized, some_or}
 use Rattle.qt_movie.specs.Movie.{moov_in, moov_or, refuse_at}
 
--- what the rest of a walk gives, where this `moov` was met before
+-- the result of the rest of a walk, after this `moov` was met
 unfoldable pub moov_from : Option Atom → Walk → Found Atom
 moov_from met w = do
   fragment ← sized (first_in (is_one_of (codes "moof" ∷ [])) w)
@@ -25,7 +25,7 @@ pub moov-begin : (file : List ℕ) (end : ℕ) → end ≡ length file → moov_
 unfolding moov_from moov_in bind
 moov-begin file end e = rw e refl
 
--- the walk is at its end
+-- the walk ends
 over : (met : Option Atom) → moov_from met (record { atoms = []; bad = None }) ≡ some_or met kinds.NoMoov 0
 unfolding moov_from bind
 over None = refl
@@ -57,7 +57,7 @@ pub moov-fragment : (file : List ℕ) (place end : ℕ) (met : Option Atom) (a :
 moov-fragment file place end met a total lt h s t so_far =
     sym so_far ∙ ap (moov_from met) (walk_atom file place end true a lt h s) ∙ fragment met a (walk file a.end end true) t
 
--- the walk goes on
+-- the walk continues
 goes-on-behind : (m a : Atom) (w : Walk) → is_kind (codes "moof") a ≡ false → moov_from (Some m) (record { atoms = a ∷ w.atoms; bad = w.bad }) ≡ moov_from (Some m) w
 unfolding moov_from bind
 goes-on-behind m a w t = rw t refl

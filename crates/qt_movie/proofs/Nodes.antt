@@ -1,4 +1,4 @@
--- The atoms of a written track have sizes of 32 bits.
+-- The atoms of a written track have 32-bit sizes.
 use Rattle.std.proofs.Common.{◌≡◌, ℕ, ◌+◌, ◌*◌, ◌≤◌, Bool, true, false, List, [], ◌∷◌, length, map, refl, arith}
 use Rattle.std.specs.Prelude.{codes, if◌then◌else◌}
 use Rattle.std.specs.List.{AllByRecursion}
@@ -9,6 +9,7 @@ use Rattle.qt_movie.specs.Bodies.{node, nodes_bytes, mvhd_body, mdhd_body, hdlr_
 use Rattle.qt_movie.specs.Trak.{TrakValues, IsTrak, subtype_of, smhd_body, media_node, pictures_bytes, sound_bytes, stsd_body, stts_body, stsc_body, stsz_body, are_near, stco_body, co64_body, offsets_node, tkhd_body, stbl_nodes, minf_nodes, mdia_nodes, trak_nodes, trak_node, moov_nodes}
 use Rattle.qt_movie.specs.Laws.{HasKind}
 use Rattle.qt_movie.proofs.Lengths.{length-stts, length-stsc, length-stsz, length-stco, length-co64, length-nodes}
+use Rattle.qt_tables.specs.declared.tables.TheConstants.{MAX_SAMPLES}
 
 pub length-mvhd : (timescale duration next : ℕ) → length (mvhd_body timescale duration next) ≡ 100
 unfolding mvhd_body
@@ -49,7 +50,7 @@ length-pictures (a ∷ b ∷ []) width height depth four = absurd (omega (arith,
 length-pictures (a ∷ b ∷ c ∷ []) width height depth four = absurd (omega (arith, four))
 length-pictures (a ∷ b ∷ c ∷ d ∷ e ∷ kind) width height depth four = absurd (omega (arith, four))
 
-length-sound : (channels rate : ℕ) → length (stsd_body (media.Sound channels rate)) ≡ 44
+pub length-sound : (channels rate : ℕ) → length (stsd_body (media.Sound channels rate)) ≡ 44
 unfolding pictures_bytes sound_bytes
 length-sound channels rate = refl
 
@@ -57,7 +58,7 @@ pub stsd-few : (m : Media) → HasKind m → length (stsd_body m) ≤ 94
 stsd-few (media.Video kind width height depth) four = omega (arith, length-pictures kind width height depth four)
 stsd-few (media.Sound channels rate) has = omega (arith, length-sound channels rate)
 
-pub are-offsets : (b : Bool) (offsets : List ℕ) → length offsets ≤ 1000000
+pub are-offsets : (b : Bool) (offsets : List ℕ) → length offsets ≤ MAX_SAMPLES
     → IsNode (if b then node (codes "stco") (stco_body offsets) else node (codes "co64") (co64_body offsets)) × (length (if b then node (codes "stco") (stco_body offsets) else node (codes "co64") (co64_body offsets)).body ≤ 8000008)
 are-offsets true offsets few = (record { kind = refl; size = omega (arith, length-stco offsets) }, omega (arith, length-stco offsets))
 are-offsets false offsets few = (record { kind = refl; size = omega (arith, length-co64 offsets) }, omega (arith, length-co64 offsets))

@@ -1,4 +1,4 @@
--- Atoms that stand in a file, one inside the other.
+-- Nested atoms in a file.
 use Rattle.std.proofs.Common.{◌≡◌, ℕ, ◌+◌, Bool, false, List, ◌∷◌, ◌++◌, length, take, drop, None, sym, ap, ◌∙◌, arith, append_assoc, length-append}
 use Rattle.std.specs.List.{AllByRecursion}
 use Rattle.std.specs.Int.{w32, to_be_bytes}
@@ -9,21 +9,21 @@ use Rattle.qt_atoms.specs.Written.{Node, atom_of, IsNode, placed}
 use Rattle.qt_atoms.proofs.WrittenAtoms.{walk_written}
 use Rattle.qt_movie.specs.Bodies.{node, nodes_bytes}
 
--- an atom stands at this place of a file
+-- the file has this atom at this offset
 pub record Stands (file : List ℕ) (at : ℕ) (n : Node) : Type 0 where
   pub front : List ℕ
   pub behind : List ℕ
   pub whole : file ≡ front ++ (atom_of n ++ behind)
   pub place : length front ≡ at
 
--- atoms stand one behind the other from this place on
+-- the file has these consecutive atoms from this offset on
 pub record StandAll (file : List ℕ) (at : ℕ) (nodes : List Node) : Type 0 where
   pub front : List ℕ
   pub behind : List ℕ
   pub whole : file ≡ front ++ (nodes_bytes nodes ++ behind)
   pub place : length front ≡ at
 
--- the atom that stands at a place
+-- the atom at an offset
 abbrev pub atom_here : ℕ → Node → Atom
 atom_here at n = record { kind = n.kind; at = at; body = at + 8; end = at + (length n.body + 8) }
 
@@ -46,7 +46,7 @@ others_stand file at n nodes four s =
       place = omega (arith, length-append s.front A, length-append n.kind n.body, four, s.place);
     }
 
--- what is inside an atom stands behind its head
+-- the contents of an atom follow its head
 pub inside : (file : List ℕ) (at : ℕ) (kind : List ℕ) (nodes : List Node) → length kind ≡ 4 → Stands file at (node kind (nodes_bytes nodes)) → StandAll file (at + 8) nodes
 inside file at kind nodes four s =
     let body = nodes_bytes nodes in
@@ -58,7 +58,7 @@ inside file at kind nodes four s =
       place = omega (arith, length-append s.front H, four, s.place);
     }
 
--- the bytes behind the head of an atom
+-- the bytes after the head of an atom
 pub body_here : (file : List ℕ) (at : ℕ) (n : Node) → length n.kind ≡ 4 → (s : Stands file at n) → drop (at + 8) file ≡ n.body ++ s.behind
 body_here file at n four s =
     let H = to_be_bytes w32 (length n.body + 8) ++ n.kind in
@@ -71,7 +71,7 @@ body_here file at n four s =
 pub field_here : (file rest : List ℕ) (place n j : ℕ) → drop place file ≡ rest → bytes_in n file (place + j) ≡ take n (drop j rest)
 field_here file rest place n j e = ap (take n) (sym (drop-drop j place file) ∙ ap (drop j) e)
 
--- a walk over atoms that stand meets these
+-- a walk over these atoms of a file meets exactly these
 pub walk_met : (file : List ℕ) (at end : ℕ) (top : Bool) (nodes : List Node) → AllByRecursion IsNode nodes → StandAll file at nodes → end ≡ at + length (nodes_bytes nodes)
     → walk file at end top ≡ record { atoms = placed at nodes; bad = None }
 walk_met file at end top nodes h s e =
@@ -81,7 +81,7 @@ walk_met file at end top nodes h s e =
     ∙ walk_written nodes s.front s.behind end top h (e ∙ ap (λ p. p + length (nodes_bytes nodes)) (sym s.place))
     ∙ ap (λ p. (let w : Walk = record { atoms = placed p nodes; bad = None } in w)) s.place
 
--- the children of an atom that stands
+-- the children of an atom of a file
 pub children_met : (file : List ℕ) (at : ℕ) (kind : List ℕ) (nodes : List Node) → length kind ≡ 4 → AllByRecursion IsNode nodes → Stands file at (node kind (nodes_bytes nodes))
     → children file (atom_here at (node kind (nodes_bytes nodes))) ≡ record { atoms = placed (at + 8) nodes; bad = None }
 children_met file at kind nodes four h s =

@@ -23,7 +23,7 @@ ftyp_node = node (codes "ftyp") (codes "qt  " ++ be32 0 ++ codes "qt  ")
 abbrev pub moov_node : (timescale duration : ℕ) → List TrakValues → Node
 moov_node timescale duration traks = node (codes "moov") (nodes_bytes (moov_nodes timescale duration traks))
 
--- the data of each frame, and behind it this atom
+-- the data of each frame, and then this atom
 abbrev then_last : List (List ℕ) → Node → List Node
 then_last frames n = map mdat_node frames ++ n ∷ []
 
@@ -39,7 +39,7 @@ are-last : (frames : List (List ℕ)) (n : Node) → AllByRecursion (λ frame. l
 are-last [] n h last = (last, tt)
 are-last (frame ∷ frames) n h last = (record { kind = refl; size = omega (arith, h.0) }, are-last frames n h.1 last)
 
--- where the atom behind the data of the frames stands
+-- the offset of the atom after the data of the frames
 abbrev pub behind_data : ℕ → List (List ℕ) → ℕ
 behind_data at [] = at
 behind_data at (frame ∷ frames) = behind_data (at + (length frame + 8)) frames
@@ -56,7 +56,7 @@ last-stands : (file : List ℕ) (at : ℕ) (frames : List (List ℕ)) (n : Node)
 last-stands file at [] n s = first_stands file at n [] s
 last-stands file at (frame ∷ frames) n s = last-stands file (at + (length frame + 8)) frames n (others_stand file at (mdat_node frame) (then_last frames n) refl s)
 
--- where the movie atom stands
+-- the offset of the movie atom
 abbrev pub moov_place : List (List ℕ) → ℕ
 moov_place frames = behind_data 20 frames
 

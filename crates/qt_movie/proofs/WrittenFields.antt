@@ -101,11 +101,11 @@ references-read file at s =
 
 -- ---- the description
 
--- the description that was written, where it begins
+-- the written description at its offset
 abbrev pub description_here : (kind : List ℕ) → ℕ → Description
 description_here kind place = record { at = place; size = 86; kind = kind; reference = 1 }
 
--- the fields of a description of pictures, which stand 8 bytes into the body
+-- the fields of a description of pictures, from 8 bytes into the body on
 record Fields (rest kind : List ℕ) (width height : ℕ) : Type 0 where
   count : take 4 (drop 4 rest) ≡ be32 1
   size : take 4 (drop 8 rest) ≡ be32 86
@@ -129,7 +129,7 @@ one-description : (file : List ℕ) (stsd : Atom) (kind : List ℕ) → body_len
 unfolding descriptions_in described description_in bind
 one-description file stsd kind l m a b c d p = rw (l, a, m, b, c, p, d) refl
 
--- what is read of the `stsd`
+-- the description that is read from the `stsd`
 pub record StsdIsRead (file : List ℕ) (at : ℕ) (kind : List ℕ) (width height depth : ℕ) : Type 0 where
   pub descriptions : descriptions_in file (atom_here at (node (codes "stsd") (stsd_body (media.Video kind width height depth)))) ≡ Ok (description_here kind ((at + 8) + 8) ∷ [])
   pub width_is : number_in w16 file (((at + 8) + 8) + 32) ≡ width

@@ -1,4 +1,4 @@
--- A written movie is read.
+-- A written movie is read back.
 use Rattle.std.proofs.Common.{◌≡◌, ℕ, ◌+◌, ◌*◌, ◌≤◌, ◌<◌, ◌^◌, Bool, true, false, List, [], ◌∷◌, length, map, replicate, Result, Ok, refl, ap, ◌∙◌, arith}
 use Rattle.std.specs.Prelude.{codes, ◌==◌, if◌then◌else◌}
 use Rattle.std.specs.List.{All, AllByRecursion}
@@ -22,8 +22,9 @@ use Rattle.qt_movie.proofs.FramesTrak.{length-extents, trak_can}
 use Rattle.qt_movie.proofs.LoneSamples.{lone_told}
 use Rattle.qt_movie.proofs.WrittenTables.{time_run, RunFits}
 use Rattle.qt_movie.proofs.WrittenTraks.{traks_read}
+use Rattle.qt_tables.specs.declared.tables.TheConstants.{MAX_SAMPLES}
 
--- ---- where the frames lie
+-- ---- the offsets of the frames
 
 extents-near : (place : ℕ) (sizes : List ℕ) → AllByRecursion (λ size. size ≤ 4294967286) sizes → place + 8 + 4294967296 * length sizes < 2 ^ 62 → AllByRecursion (λ (e : Extent). e.at < 2 ^ 62) (extents_from place sizes)
 extents-near place [] h near = tt
@@ -75,14 +76,14 @@ has-samples head es = record {
   described = All-from_recursion (λ (s : Sample). s.description ≡ 1) (written_samples es head.den) (by-the-first es head.den);
 }
 
--- ---- its track can be read again
+-- ---- its track can be read back
 
 prores : (b : Bool) → is_prores (if b then codes "apch" else codes "ap4h") ≡ true
 prores true = refl
 prores false = refl
 
--- what holds of a run holds of each
-each-run : {Run : Type 0} (P : Run → Type 0) (b : Bool) (run : Run) → P run → AllByRecursion P (if b then [] else run ∷ [])
+-- a property of the run holds of each run
+pub each-run : {Run : Type 0} (P : Run → Type 0) (b : Bool) (run : Run) → P run → AllByRecursion P (if b then [] else run ∷ [])
 each-run P true run h = tt
 each-run P false run h = (h, tt)
 
@@ -94,13 +95,13 @@ sizes-fit : (es : List Extent) → AllByRecursion (λ (e : Extent). e.size < 2 ^
 sizes-fit [] h = tt
 sizes-fit (e ∷ es) h = (h.0, sizes-fit es h.1)
 
-readable : (head : Head) (es : List Extent) → IsHead head → length es ≤ 1000000 → AllByRecursion (λ (e : Extent). e.at < 2 ^ 62) es → AllByRecursion (λ (e : Extent). e.size < 2 ^ 32) es
+readable : (head : Head) (es : List Extent) → IsHead head → length es ≤ MAX_SAMPLES → AllByRecursion (λ (e : Extent). e.at < 2 ^ 62) es → AllByRecursion (λ (e : Extent). e.size < 2 ^ 32) es
     → IsReadable (frames_trak head es) (kind_of head) head.width head.height (pixel_bits head.alpha)
 readable head es is few close sized =
     let t = frames_trak head es in
     let ss = written_samples es head.den in
     let can = trak_can head es few in
-    let long : length ss ≤ 1000000 = omega (arith, few, length-map es (λ (e : Extent). (let s : Sample = record { at = e.at; size = e.size; duration = head.den; description = 1 } in s))) in
+    let long : length ss ≤ MAX_SAMPLES = omega (arith, few, length-map es (λ (e : Extent). (let s : Sample = record { at = e.at; size = e.size; duration = head.den; description = 1 } in s))) in
     let lone = lone_told t ss (has-samples head es) is.some_num long can.few_times (All-from_recursion (λ (s : Sample). s.at < 2 ^ 62) ss (closes es head.den close)) in
     let times = each-run (λ (r : ℕ × ℕ). (r.0 < 2 ^ 32) × (r.1 < 2 ^ 32)) (length es == 0) (length es, head.den) (omega (arith, few), omega (arith, is.den)) in
     let runs = each-run RunFits (length es == 0) (1, 1, 1) (omega arith, omega arith, omega arith) in
@@ -133,14 +134,14 @@ frames-fit : (frames : List (List ℕ)) → AllByRecursion (λ frame. length fra
 frames-fit [] h = tt
 frames-fit (frame ∷ frames) h = (omega (arith, h.0), frames-fit frames h.1)
 
-pub movie_read : (head : Head) (frames : List (List ℕ)) → IsHead head → length frames ≤ 1000000 → All (λ frame. length frame ≤ 4294967286) frames → movie_in (movie_bytes head frames) ≡ Ok (written_movie head frames)
+pub movie_read : (head : Head) (frames : List (List ℕ)) → IsHead head → length frames ≤ MAX_SAMPLES → All (λ frame. length frame ≤ 4294967286) frames → movie_in (movie_bytes head frames) ≡ Ok (written_movie head frames)
 movie_read head frames is few small =
     let each = recursion_from_All (λ (frame : List ℕ). length frame ≤ 4294967286) frames small in
     let sizes = map length frames in
     let es = extents sizes in
     let t = frames_trak head es in
     let many : length sizes ≡ length frames = length-map frames (λ (frame : List ℕ). length frame) in
-    let all : length es ≤ 1000000 = omega (arith, length-extents sizes, many, few) in
+    let all : length es ≤ MAX_SAMPLES = omega (arith, length-extents sizes, many, few) in
     let close = extents-near 20 sizes (sizes-small frames each) (omega (arith, many, few)) in
     let r = readable head es is all close (extents-sized 20 sizes (sizes-small frames each)) in
     let fit = All-from_recursion (λ (frame : List ℕ). length frame + 8 < 2 ^ 32) frames (frames-fit frames each) in
@@ -153,7 +154,7 @@ movie_read head frames is few small =
 one-answer : {A E : Type 0} (r : Result A E) (x y : A) → r ≡ Ok x → r ≡ Ok y → x ≡ y
 one-answer r x y a b = cc
 
-pub samples_read : (head : Head) (frames : List (List ℕ)) (m : Movie) → IsHead head → length frames ≤ 1000000 → All (λ frame. length frame ≤ 4294967286) frames
+pub samples_read : (head : Head) (frames : List (List ℕ)) (m : Movie) → IsHead head → length frames ≤ MAX_SAMPLES → All (λ frame. length frame ≤ 4294967286) frames
     → movie_in (movie_bytes head frames) ≡ Ok m → samples m.tables ≡ written_samples (extents (map length frames)) head.den
 samples_read head frames m is few small h =
     let same : m ≡ written_movie head frames = one-answer (movie_in (movie_bytes head frames)) m (written_movie head frames) h (movie_read head frames is few small) in
@@ -163,7 +164,7 @@ bytes-of : (file : List ℕ) (es : List Extent) (duration : ℕ) → map (λ (s 
 bytes-of file [] duration = refl
 bytes-of file (e ∷ es) duration = ap (λ l. bytes_in e.size file e.at ∷ l) (bytes-of file es duration)
 
-pub frames_read : (head : Head) (frames : List (List ℕ)) (m : Movie) → IsHead head → length frames ≤ 1000000 → All (λ frame. length frame ≤ 4294967286) frames
+pub frames_read : (head : Head) (frames : List (List ℕ)) (m : Movie) → IsHead head → length frames ≤ MAX_SAMPLES → All (λ frame. length frame ≤ 4294967286) frames
     → movie_in (movie_bytes head frames) ≡ Ok m → map (λ (s : Sample). bytes_in s.size (movie_bytes head frames) s.at) (samples m.tables) ≡ frames
 frames_read head frames m is few small h =
     let file = movie_bytes head frames in

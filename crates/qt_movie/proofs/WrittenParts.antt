@@ -18,7 +18,7 @@ use Rattle.qt_movie.proofs.Nodes.{are-media, are-trak, are-mdia, are-minf, are-d
 use Rattle.qt_movie.proofs.Stands.{Stands, StandAll, atom_here, first_stands, others_stand, inside, children_met}
 use Rattle.qt_movie.proofs.TopLevel.{moov_node}
 
--- ---- each atom stands inside its parent
+-- ---- each atom lies inside its parent
 
 abbrev pub mvhd_node : (timescale duration : ℕ) → List TrakValues → Node
 mvhd_node timescale duration traks = node (codes "mvhd") (mvhd_body timescale duration (length traks + 1))
@@ -53,15 +53,15 @@ stbl_node t = node (codes "stbl") (nodes_bytes (stbl_nodes t))
 abbrev pub stsd_node : Media → Node
 stsd_node m = node (codes "stsd") (stsd_body m)
 
--- the tables behind the descriptions
+-- the tables after the descriptions
 abbrev table_nodes : TrakValues → List Node
 table_nodes t = node (codes "stts") (stts_body t.stts) ∷ node (codes "stsc") (stsc_body t.stsc) ∷ node (codes "stsz") (stsz_body t.common t.count t.sizes) ∷ offsets_node t.offsets ∷ []
 
--- where an atom stands behind another
+-- the offset of an atom after another
 abbrev pub behind_node : ℕ → Node → ℕ
 behind_node at n = at + (length n.body + 8)
 
--- the place of the first track of a `moov`
+-- the offset of the first track of a `moov`
 abbrev pub trak_place : (moov timescale duration : ℕ) → List TrakValues → ℕ
 trak_place moov timescale duration traks = behind_node (moov + 8) (mvhd_node timescale duration traks)
 
@@ -80,7 +80,7 @@ dinf_place minf m = behind_node (behind_node (minf + 8) (media_node m)) data_hdl
 abbrev pub stbl_place : ℕ → Media → ℕ
 stbl_place minf m = behind_node (dinf_place minf m) dinf_node
 
--- the tracks stand behind the head of the movie
+-- the tracks follow the movie header
 pub traks_stand : (file : List ℕ) (at timescale duration : ℕ) (traks : List TrakValues) → Stands file at (moov_node timescale duration traks) → StandAll file (trak_place at timescale duration traks) (map trak_node traks)
 traks_stand file at timescale duration traks s =
     others_stand file (at + 8) (mvhd_node timescale duration traks) (map trak_node traks) refl (inside file at (codes "moov") (moov_nodes timescale duration traks) refl s)
@@ -134,7 +134,7 @@ hdlr_found file at t is has s = ap (first_in (is_one_of (codes "hdlr" ∷ []))) 
 pub minf_found : (file : List ℕ) (at : ℕ) (t : TrakValues) → IsTrak t → HasKind t.media → Stands file at (mdia_node t) → child file (atom_here at (mdia_node t)) (codes "minf") ≡ Ok (Some (atom_here (minf_place at t) (minf_node t)))
 minf_found file at t is has s = ap (first_in (is_one_of (codes "minf" ∷ []))) (children_met file at (codes "mdia") (mdia_nodes t) refl (are-mdia t is has) s)
 
--- the head of the information on the media is none of the atoms that are looked for
+-- the media information header has none of the kinds searched for
 behind_head : (test : Atom → Bool) (at : ℕ) (m : Media) (others : List Atom) → ((p : ℕ) → test (atom_here p (node (codes "vmhd") vmhd_body)) ≡ false) → ((p : ℕ) → test (atom_here p (node (codes "smhd") smhd_body)) ≡ false)
     → find test (atom_here at (media_node m) ∷ others) ≡ find test others
 behind_head test at (media.Video kind width height depth) others v s = rw (v at) refl
@@ -160,7 +160,7 @@ stsd_found file at t is has s = ap (first_in (is_one_of (codes "stsd" ∷ []))) 
 pub dref_found : (file : List ℕ) (at : ℕ) → Stands file at dinf_node → child file (atom_here at dinf_node) (codes "dref") ≡ Ok (Some (atom_here (at + 8) dref_node))
 dref_found file at s = ap (first_in (is_one_of (codes "dref" ∷ []))) (children_met file at (codes "dinf") dinf_nodes refl are-dinf s)
 
--- ---- the track is read, where its atoms are found
+-- ---- the track is read, once its atoms are found
 
 pub whole_read : (file : List ℕ) (moov : Atom) → child_of file moov (codes "cmov" ∷ codes "mvex" ∷ []) ≡ Ok None → whole_in file moov ≡ Ok tt
 unfolding whole_in bind

@@ -1,4 +1,4 @@
--- A movie is read whose first track is one of ProRes pictures.
+-- A movie whose first track has ProRes pictures is read back.
 use Rattle.std.proofs.Common.{◌≡◌, ℕ, ◌+◌, ◌≤◌, ◌<◌, ◌^◌, Bool, true, false, ◌||◌, List, [], ◌∷◌, ◌++◌, length, map, take, drop, None, Some, Ok, refl, sym, ap, subst, ◌∙◌, arith}
 use Rattle.std.specs.Prelude.{codes, ◌==◌, nat_lt, if◌then◌else◌}
 use Rattle.std.specs.List.{AllByRecursion, filter, find, list_any}
@@ -9,12 +9,11 @@ use Rattle.std.proofs.lemmas.List.{length-replicate}
 use Rattle.std.proofs.lemmas.List.Elements.{recursion_from_All}
 use Rattle.std.proofs.lemmas.Slice.Eq.{bytes_eq-Decides}
 use Rattle.pw_outside.specs.Reading.{bind}
-use Rattle.qt_atoms.specs.declared.atom.Atom.{Atom}
-use Rattle.qt_atoms.specs.Atoms.{Walk, child, child_of, children, first_in, found_or, is_one_of, number_in}
+use Rattle.qt_atoms.specs.Atoms.{Walk, child_of, children, first_in, found_or, is_one_of, number_in}
 use Rattle.qt_atoms.specs.Written.{IsNode, placed}
 use Rattle.qt_tables.specs.Samples.{Tables}
-use Rattle.qt_tables.specs.Tables.{body_length, table_in, tables_in, descriptions_of, is_in_order}
-use Rattle.qt_tables.proofs.Reread.{tables-read}
+use Rattle.qt_tables.specs.Tables.{body_length, tables_in, descriptions_of, is_in_order}
+use Rattle.qt_tables.proofs.Reread.{tables-read, table-there}
 use Rattle.qt_movie.specs.declared.parts.Parts.{Parts}
 use Rattle.qt_movie.specs.declared.description.Description.{Description}
 use Rattle.qt_movie.specs.declared.trak.Media.{Media}
@@ -29,8 +28,9 @@ use Rattle.qt_movie.proofs.TopLevel.{moov_node, moov_place, moov_stands, moov_fo
 use Rattle.qt_movie.proofs.WrittenFields.{body-of, description_here, is-video, timescale-read, references-read, stsd-read}
 use Rattle.qt_movie.proofs.WrittenTables.{number_here, time_run, times-written, chunk_run, RunFits, runs-written, sizes_by, sizes-written, places_by, places-written}
 use Rattle.qt_movie.proofs.WrittenParts.{mdia_node, mdhd_node, hdlr_node, minf_node, dinf_node, dref_node, stbl_node, stsd_node, behind_node, mvhd_node, trak_place, mdia_place, hdlr_place, minf_place, dinf_place, stbl_place, traks_stand, mdia_stands, mdhd_stands, hdlr_stands, minf_stands, dinf_stands, stbl_stands, stsd_stands, dref_stands, mdia_found, mdhd_found, hdlr_found, minf_found, dinf_found, stbl_found, stsd_found, dref_found, whole_read, parts_read, track_read, data_read, taken_read}
+use Rattle.qt_tables.specs.declared.tables.TheConstants.{MAX_SAMPLES}
 
--- ---- a kind of ProRes has four bytes
+-- ---- a ProRes kind has four bytes
 
 four-by : (b : Bool) (kind k : List ℕ) (others : Bool) → bytes_eq kind k ≡ b → length k ≡ 4 → (others ≡ true → length kind ≡ 4) → (b || others) ≡ true → length kind ≡ 4
 four-by true kind k others e four rest h = ap length ((bytes_eq-Decides kind k).0 e) ∙ four
@@ -53,12 +53,12 @@ all-traks : (traks : List TrakValues) (at : ℕ) → filter is_trak (placed at (
 all-traks [] at = refl
 all-traks (t ∷ traks) at = ap (λ l. atom_here at (trak_node t) ∷ l) (all-traks traks (behind_node at (trak_node t)))
 
--- what is inside a movie atom with these tracks
+-- the contents of a movie atom with these tracks
 pub moov_children : (file : List ℕ) (at timescale duration : ℕ) (traks : List TrakValues) → AllByRecursion IsTrak traks → AllByRecursion (λ t. HasKind t.media) traks → Stands file at (moov_node timescale duration traks)
     → children file (atom_here at (moov_node timescale duration traks)) ≡ record { atoms = atom_here (at + 8) (mvhd_node timescale duration traks) ∷ placed (trak_place at timescale duration traks) (map trak_node traks); bad = None }
 moov_children file at timescale duration traks is has s = children_met file at (codes "moov") (moov_nodes timescale duration traks) refl (are-moov timescale duration traks is has) s
 
--- its tracks, one behind the other
+-- its tracks in order
 pub traks_are : (file : List ℕ) (at timescale duration : ℕ) (traks : List TrakValues) → AllByRecursion IsTrak traks → AllByRecursion (λ t. HasKind t.media) traks → Stands file at (moov_node timescale duration traks)
     → traks_of file (atom_here at (moov_node timescale duration traks)) ≡ placed (trak_place at timescale duration traks) (map trak_node traks)
 traks_are file at timescale duration traks is has s =
@@ -71,10 +71,6 @@ unread file at timescale duration traks is has s =
     ∙ rw (none-unread traks (trak_place at timescale duration traks)) refl
 
 -- ---- the tables
-
-mdhd-table : (file : List ℕ) (mdia mdhd : Atom) → child file mdia (codes "mdhd") ≡ Ok (Some mdhd) → table_in file mdia (codes "mdhd") ≡ Ok mdhd
-unfolding bind
-mdhd-table file mdia mdhd h = rw h refl
 
 stsd-some : (m : Media) → 8 ≤ length (stsd_body m)
 stsd-some m = omega arith
@@ -93,7 +89,7 @@ pub last-found : (b : Bool) (at : ℕ) (offsets : List ℕ) → find (is_one_of 
 last-found true at offsets = refl
 last-found false at offsets = refl
 
-few-count : (b : Bool) (common count : ℕ) (sizes : List ℕ) → length sizes ≡ (if b then count else 0) → length (sizes_by b common count sizes) ≤ 1000000 → count ≤ 1000000
+few-count : (b : Bool) (common count : ℕ) (sizes : List ℕ) → length sizes ≡ (if b then count else 0) → length (sizes_by b common count sizes) ≤ MAX_SAMPLES → count ≤ MAX_SAMPLES
 few-count true common count sizes sized few = omega (arith, sized, few)
 few-count false common count sizes sized few = omega (arith, length-replicate count common, few)
 
@@ -130,7 +126,7 @@ tables-here file mdia stbl t kind width height depth r has m s =
     ap (first_in (is_one_of (codes "stco" ∷ codes "co64" ∷ []))) walked ∙ ap (λ a. found_or a (Ok None)) (last-found (are_near t.offsets) p4 t.offsets) in
     tables-read file (atom_here stbl (stbl_node t)) (atom_here mdia (mdia_node t)) (atom_here (mdia + 8) (mdhd_node t)) (atom_here p0 n0) (atom_here p1 n1) (atom_here p2 n2) (atom_here p3 n3) (atom_here p4 n4)
     t.timescale (sizes_by b t.common t.count t.sizes) (map time_run t.stts) runs t.offsets
-    (mdhd-table file (atom_here mdia (mdia_node t)) (atom_here (mdia + 8) (mdhd_node t)) (mdhd_found file mdia t is has m))
+    (table-there file (codes "mdhd") (atom_here mdia (mdia_node t)) (atom_here (mdia + 8) (mdhd_node t)) (mdhd_found file mdia t is has m))
     (timescale-read file (mdia + 8) t.timescale t.duration (mdhd_stands file mdia t m) r.tables.timescale r.timescale)
     (ap (first_in (is_one_of (codes "stsz" ∷ []))) walked)
     (sizes-written b file p3 t.common t.count t.sizes refl s3 is.sized (few-count b t.common t.count t.sizes is.sized r.tables.few_samples) r.common (recursion_from_All (λ size. size < 2 ^ 32) t.sizes r.sizes))
@@ -146,7 +142,7 @@ tables-here file mdia stbl t kind width height depth r has m s =
 video-of : (file : List ℕ) (at : ℕ) (m v : Media) → m ≡ v → (Stands file at (hdlr_node v) → is_video file (atom_here at (hdlr_node v)) ≡ true) → Stands file at (hdlr_node m) → is_video file (atom_here at (hdlr_node m)) ≡ true
 video-of file at m v e = subst (λ x. (Stands file at (hdlr_node x) → is_video file (atom_here at (hdlr_node x)) ≡ true)) (sym e)
 
--- what is read of the description, whatever the media is called
+-- the description that is read, for any name of the media
 record Described (file : List ℕ) (at : ℕ) (m : Media) (kind : List ℕ) (width height : ℕ) : Type 0 where
   descriptions : descriptions_in file (atom_here at (stsd_node m)) ≡ Ok (description_here kind ((at + 8) + 8) ∷ [])
   wide : number_in w16 file (((at + 8) + 8) + 32) ≡ width
@@ -164,7 +160,7 @@ movie-read : (file : List ℕ) (t : VideoTrack) (tables : Tables) (width height 
 unfolding movie_in bind
 movie-read file t tables width height a b c d = rw (a, b, c, d) refl
 
--- a file with this movie atom, where it is the one that is read
+-- a file in which this movie atom is the one that is read
 with-moov : (file : List ℕ) (at timescale duration : ℕ) (t : TrakValues) (others : List TrakValues) (kind : List ℕ) (width height depth : ℕ)
     → IsReadable t kind width height depth → HasKind t.media → AllByRecursion IsTrak (t ∷ others) → AllByRecursion (λ o. HasKind o.media) (t ∷ others)
     → Stands file at (moov_node timescale duration (t ∷ others)) → moov_in file ≡ Ok (atom_here at (moov_node timescale duration (t ∷ others)))

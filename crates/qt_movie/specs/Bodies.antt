@@ -1,4 +1,5 @@
--- The bodies of atoms of a movie atom that hold no atoms, by their values. Atoms and fields by the QuickTime File Format.
+-- The bodies of atoms of a movie atom that contain no atoms, from their values. Atoms and fields by the QuickTime
+-- File Format.
 use Rattle.std.specs.Prelude.{ℕ, List, [], ◌∷◌, ◌++◌, replicate, codes}
 use Rattle.std.specs.List.{flat_map}
 use Rattle.std.specs.Int.{w16, w32, to_be_bytes}
@@ -10,7 +11,7 @@ be16 n = to_be_bytes w16 n
 abbrev pub be32 : ℕ → List ℕ
 be32 n = to_be_bytes w32 n
 
--- so many bytes 0
+-- `n` zero bytes
 abbrev pub zeros : ℕ → List ℕ
 zeros n = replicate n 0
 
@@ -20,7 +21,7 @@ node kind body = record { kind = kind; body = body }
 abbrev pub nodes_bytes : List Node → List ℕ
 nodes_bytes nodes = flat_map atom_of nodes
 
--- the matrix that leaves pictures as they are
+-- the identity matrix
 abbrev pub unit_matrix : List ℕ
 unit_matrix = be32 65536 ++ be32 0 ++ be32 0 ++ be32 0 ++ be32 65536 ++ be32 0 ++ be32 0 ++ be32 0 ++ be32 1073741824
 
@@ -40,7 +41,7 @@ hdlr_body type subtype = be32 0 ++ type ++ subtype ++ be32 0 ++ be32 0 ++ be32 0
 unfoldable pub vmhd_body : List ℕ
 vmhd_body = be32 1 ++ be16 0 ++ zeros 6
 
--- version and flags, one entry: 12 bytes, an alias, with the flag that says that the data lies in the same file
+-- version and flags, one entry: 12 bytes, an alias, with the flag for data in the same file
 unfoldable pub dref_body : List ℕ
 dref_body = be32 0 ++ be32 1 ++ be32 12 ++ codes "alis" ++ be32 1
 

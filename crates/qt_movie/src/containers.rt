@@ -1,4 +1,4 @@
-//! The movie atom, and the atoms of it that hold atoms.
+//! The movie atom, and its atoms that contain atoms.
 
 ghost use Rattle.std.specs.Prelude.{◌≡◌, ◌≤◌, ◌<◌, ◌+◌, ◌*◌, ◌^◌, ◌++◌, length, map, codes, IfOk, OnOk};
 ghost use Rattle.std.specs.List.{All};
@@ -32,7 +32,7 @@ fn put_stbl(alloc: Global, atoms: &mut AtomWriter, trak: &Trak) -> Result<(), No
     Ok(())
 }
 
-/// Appends the information on the media.
+/// Appends the media information.
 fn put_minf(alloc: Global, atoms: &mut AtomWriter, trak: &Trak) -> Result<(), NoMemory>
     requires { IsTrak trak.now }
     ensures atom { OnOk result (atoms.new ≡ atoms.old ++ atom (codes "minf") (nodes_bytes (minf_nodes trak.now))) }
@@ -61,9 +61,9 @@ fn put_mdia(alloc: Global, atoms: &mut AtomWriter, trak: &Trak) -> Result<(), No
     Ok(())
 }
 
-/// Appends one track: a `trak` of pictures or of plain PCM sound (QuickTime File Format, "Track atoms"; which atoms there are, and
-/// their order, are our own): at most 32,000,600 bytes. After `NoMemory` a part of it may have been appended, and what is held is of
-/// no use.
+/// Appends one track: a `trak` of pictures or of plain PCM sound (QuickTime File Format, "Track atoms"; the choice
+/// of atoms and their order are our own): at most 32,000,600 bytes. After `NoMemory` a part of it may have been
+/// appended, and the writer's bytes are of no use.
 pub fn write_trak(alloc: Global, atoms: &mut AtomWriter, trak: &Trak) -> Result<(), NoMemory>
     requires { IsTrak trak.now }
     ensures atom { OnOk result (atoms.new ≡ atoms.old ++ atom_of (trak_node trak.now)) }
@@ -76,7 +76,7 @@ pub fn write_trak(alloc: Global, atoms: &mut AtomWriter, trak: &Trak) -> Result<
     Ok(())
 }
 
-/// Appends tracks, one behind the other.
+/// Appends the tracks.
 fn put_traks(alloc: Global, atoms: &mut AtomWriter, traks: &[Trak]) -> Result<(), NoMemory>
     requires { All IsTrak traks.now }
     ensures atoms { OnOk result (atoms.new ≡ atoms.old ++ nodes_bytes (map trak_node traks.now)) }
@@ -108,8 +108,8 @@ fn put_moov(
     Ok(())
 }
 
-/// The movie atom with these tracks, at most 100: its time scale, and its duration in these units. The number of the next track is one
-/// more than there are.
+/// The movie atom with these tracks, at most 100, its time scale, and its duration in units of that. The next track
+/// ID is one more than the number of tracks.
 pub fn write_moov(
     alloc: Global,
     timescale: u32,

@@ -1,4 +1,4 @@
-//! The description of the media of a track, written.
+//! Writes the media description of a track.
 
 ghost use Rattle.std.specs.Prelude.{◌≡◌, ◌≤◌, ◌+◌, ◌++◌, length, codes, IfOk, OnOk};
 ghost use Rattle.qt_atoms.specs.Written.{atom};
@@ -12,7 +12,7 @@ use pw_outside::NoMemory;
 use qt_atoms::AtomWriter;
 use std::alloc::Global;
 
-/// The description of pictures behind its kind.
+/// The description of pictures after its kind.
 #[tactic(auto, unfolding(crate::specs::Trak::pictures_bytes))]
 fn pictures_of(alloc: Global, width: u16, height: u16, depth: u16) -> Result<AtomWriter, NoMemory>
     ensures bytes { IfOk result (λ bytes. bytes ≡ pictures_bytes width height depth) }
@@ -31,7 +31,7 @@ fn pictures_of(alloc: Global, width: u16, height: u16, depth: u16) -> Result<Ato
     Ok(bytes)
 }
 
-/// The body of the descriptions of pictures: there is one.
+/// The body of the `stsd` of pictures: one description.
 fn pictures_body(
     alloc: Global,
     kind: [u8; 4],
@@ -50,7 +50,7 @@ fn pictures_body(
     Ok(body)
 }
 
-/// The body of the descriptions of sound: there is one. Its rate has 16 bits behind the point.
+/// The body of the `stsd` of sound: one description. Its rate is fixed-point with 16 fraction bits.
 #[tactic(auto, unfolding(crate::specs::Trak::sound_bytes))]
 fn sound_body(alloc: Global, channels: u8, rate: u16) -> Result<AtomWriter, NoMemory>
     ensures body { IfOk result (λ body. body ≡ stsd_body (media.Sound channels rate)) }
@@ -65,7 +65,7 @@ fn sound_body(alloc: Global, channels: u8, rate: u16) -> Result<AtomWriter, NoMe
     Ok(body)
 }
 
-/// The body of the descriptions of media.
+/// The body of the `stsd` of a media.
 fn stsd_body(alloc: Global, media: Media) -> Result<AtomWriter, NoMemory>
     ensures body { IfOk result (λ body. body ≡ stsd_body media) }
     ensures size { IfOk result (λ body. length body ≤ 94) }

@@ -1,4 +1,4 @@
-//! The descriptions of a track's samples.
+//! The sample descriptions of a track.
 
 ghost use Rattle.std.specs.Prelude.{◌≡◌, ◌≤◌, ◌<◌, ◌+◌, ◌^◌, length, IfOk, false};
 ghost use Rattle.std.specs.List.{All};
@@ -14,18 +14,18 @@ use qt_atoms::Atom;
 use qt_tables::{MovieFault, MovieKind};
 use std::alloc::Global;
 
-/// The kinds of ProRes: 422 Proxy, LT, Standard and HQ, 4444 and 4444 XQ.
+/// The ProRes kinds: 422 Proxy, LT, Standard and HQ, 4444 and 4444 XQ.
 const PRORES: [[u8; 4]; 6] = [*b"apco", *b"apcs", *b"apcn", *b"apch", *b"ap4h", *b"ap4x"];
 
-/// The most descriptions of a track.
+/// The maximum number of descriptions of a track.
 const MAX_DESCRIPTIONS: u32 = 1000;
 
 /// The head of a sample description.
 #[derive(Clone, Copy, Debug, PartialEq, Eq)]
 pub struct Description {
-    /// Its place in the file.
+    /// Its offset in the file.
     pub at: u64,
-    /// The number of its bytes.
+    /// Its size in bytes.
     pub size: u32,
     /// The kind of the samples' data.
     pub kind: [u8; 4],
@@ -33,14 +33,14 @@ pub struct Description {
     pub reference: u16,
 }
 
-/// Whether a description of this kind is one of ProRes.
+/// Whether this kind is a ProRes kind.
 pub(crate) fn is_prores(kind: [u8; 4]) -> bool
     ensures { result ≡ is_prores kind }
 {
     PRORES.iter().any(|prores| kind == *prores)
 }
 
-/// The description at a place of an `stsd`.
+/// The description at an offset of an `stsd`.
 #[tactic(auto, unfolding(crate::specs::Movie::description_in, pw_outside::specs::Reading::bind))]
 fn description_of<M: ByteStore>(
     store: &mut M,
@@ -73,7 +73,7 @@ fn description_of<M: ByteStore>(
     })
 }
 
-/// So many descriptions of an `stsd`, from this place on.
+/// `count` descriptions of an `stsd`, from offset `place` on.
 #[tactic(auto, using(crate::proofs::InOrder::after_front_nil))]
 fn described_of<M: ByteStore>(
     alloc: Global,

@@ -1,4 +1,4 @@
-//! Where the data of a track lies.
+//! Data references: which file holds the data of a track.
 
 ghost use Rattle.std.specs.Prelude.{◌≡◌, ◌≤◌, ◌<◌, ◌+◌, ◌^◌, length, IfOk, IfSome, Ok, false};
 ghost use Rattle.pw_outside.specs.Ports.{CountsFault};
@@ -17,13 +17,13 @@ use std::alloc::Global;
 /// An entry of a `dref`.
 #[derive(Clone, Copy, Debug, PartialEq, Eq)]
 pub(crate) struct Reference {
-    /// The number of its bytes.
+    /// Its size in bytes.
     pub(crate) size: u32,
-    /// Whether it says that the data lies in the same file.
+    /// Whether the data lies in the same file.
     pub(crate) here: bool,
 }
 
-/// The entry at a place of a `dref`, where one is there.
+/// The entry at an offset of a `dref`, if there is one.
 #[tactic(auto, unfolding(crate::specs::Movie::reference_at))]
 fn reference_of<M: ByteStore>(
     store: &mut M,
@@ -53,7 +53,8 @@ fn reference_of<M: ByteStore>(
     }))
 }
 
-/// Whether each entry of a `dref` says that the data lies in the same file: so many from a place on, up to the first that is wanting.
+/// For each of `count` entries of a `dref`, from offset `place` on, whether the data lies in the same file; stops
+/// before the first missing entry.
 fn references_from<M: ByteStore>(
     alloc: Global,
     store: &mut M,
@@ -102,7 +103,7 @@ pub fn references_of<M: ByteStore>(
     references_from(alloc, store, dref, dref.body + 8, count.min(65535))
 }
 
-/// The `dref` of a track, where there is one.
+/// The `dref` of a track, if there is one.
 #[tactic(auto, unfolding(crate::specs::Movie::dref_in, pw_outside::specs::Reading::bind))]
 pub fn dref_of<M: ByteStore>(store: &mut M, minf: &Atom) -> Result<Option<Atom>, MovieFault>
     requires order { minf.now.body ≤ minf.now.end }
@@ -111,7 +112,7 @@ pub fn dref_of<M: ByteStore>(store: &mut M, minf: &Atom) -> Result<Option<Atom>,
     ensures lies { IfOk result (λ found. IfSome found (LiesIn minf.now.body minf.now.end)) }
     ensures bytes { M.bytes store.new ≡ M.bytes store.old }
     ensures cause { CountsFault (M.faults store.old) (M.faults store.new) (is_failed result) }
-    // No memory is taken.
+    // Takes no memory.
     ensures memory { is_out_of_memory result ≡ false }
 {
     match find(store, minf, *b"dinf")? {
@@ -120,7 +121,7 @@ pub fn dref_of<M: ByteStore>(store: &mut M, minf: &Atom) -> Result<Option<Atom>,
     }
 }
 
-/// Whether the data of a description lies in the same file, by these entries.
+/// Whether the data of reference `reference`, from 1, lies in the same file.
 pub fn lies_here(references: &[bool], reference: u16) -> bool
     ensures { result ≡ lies_here references.now reference }
 {
@@ -133,14 +134,14 @@ pub fn lies_here(references: &[bool], reference: u16) -> bool
     }
 }
 
-/// Whether the data of one of these descriptions lies elsewhere, or nowhere.
+/// Whether the data of some description lies in another file, or nowhere.
 fn is_external(references: &[bool], descriptions: &[Description]) -> bool
     ensures { result ≡ is_external references.now descriptions.now }
 {
     descriptions.iter().any(|description| !lies_here(references, description.reference))
 }
 
-/// Judges where the data of a track lies: all of it in the same file.
+/// Validates that all data of a track lies in the same file.
 #[tactic(auto, unfolding(crate::specs::Movie::data_in, pw_outside::specs::Reading::bind))]
 pub(crate) fn judge_data<M: ByteStore>(
     alloc: Global,

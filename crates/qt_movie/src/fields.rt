@@ -1,4 +1,4 @@
-//! Faults, and numbers at a place of a store.
+//! Errors, and numbers read from a store.
 
 ghost use Rattle.std.specs.Prelude.{◌≡◌, ◌≤◌, ◌<◌, ◌+◌, ◌^◌, length, Ok, false, IfErr, IfSome};
 ghost use Rattle.std.specs.Int.{w16, w32};
@@ -18,7 +18,7 @@ pub(crate) fn bad(kind: MovieKind, place: u64) -> MovieFault
     MovieFault::Bad { kind, place }
 }
 
-/// The `N` bytes at a place, which the store has. A store that doesn't tell its bytes may have fewer: `TableShape` at `table`.
+/// Reads `N` bytes at an offset that the store has. An opaque store may have fewer: `TableShape` at `table`.
 pub fn bytes_of<M: ByteStore, const N: usize>(
     store: &mut M,
     place: u64,
@@ -27,11 +27,11 @@ pub fn bytes_of<M: ByteStore, const N: usize>(
     requires inside { Told (M.bytes store.old) (λ file. place + N ≤ length file) }
     requires room { place + N < 2 ^ 64 }
     ensures value { Told (M.bytes store.old) (λ file. Answers told_fault (λ x. x) result (Ok (bytes_in N file place))) }
-    // Told or not, a fault that is answered is that the table is short.
+    // The only fault is a short table, whether the bytes are visible or opaque.
     ensures short { IfErr result (λ e. IfSome (told_fault e) (λ fault. fault ≡ record { kind = TableShape; place = table })) }
     ensures bytes { M.bytes store.new ≡ M.bytes store.old }
     ensures cause { CountsFault (M.faults store.old) (M.faults store.new) (is_failed result) }
-    // No memory is taken.
+    // Takes no memory.
     ensures memory { is_out_of_memory result ≡ false }
 {
     let mut piece = [0u8; N];
@@ -42,32 +42,32 @@ pub fn bytes_of<M: ByteStore, const N: usize>(
     Ok(piece)
 }
 
-/// The number of 16 bits at a place, as `bytes_of`.
+/// The 16-bit number at an offset, as `bytes_of`.
 pub fn u16_of<M: ByteStore>(store: &mut M, place: u64, table: u64) -> Result<u16, MovieFault>
     requires inside { Told (M.bytes store.old) (λ file. place + 2 ≤ length file) }
     requires room { place + 2 < 2 ^ 64 }
     ensures value { Told (M.bytes store.old) (λ file. Answers told_fault (λ x. x) result (Ok (number_in w16 file place))) }
-    // Told or not, a fault that is answered is that the table is short.
+    // The only fault is a short table, whether the bytes are visible or opaque.
     ensures short { IfErr result (λ e. IfSome (told_fault e) (λ fault. fault ≡ record { kind = TableShape; place = table })) }
     ensures bytes { M.bytes store.new ≡ M.bytes store.old }
     ensures cause { CountsFault (M.faults store.old) (M.faults store.new) (is_failed result) }
-    // No memory is taken.
+    // Takes no memory.
     ensures memory { is_out_of_memory result ≡ false }
 {
     let piece = bytes_of::<M, 2>(store, place, table)?;
     Ok(u16::from_be_bytes(piece))
 }
 
-/// The number of 32 bits at a place, as `bytes_of`.
+/// The 32-bit number at an offset, as `bytes_of`.
 pub fn u32_of<M: ByteStore>(store: &mut M, place: u64, table: u64) -> Result<u32, MovieFault>
     requires inside { Told (M.bytes store.old) (λ file. place + 4 ≤ length file) }
     requires room { place + 4 < 2 ^ 64 }
     ensures value { Told (M.bytes store.old) (λ file. Answers told_fault (λ x. x) result (Ok (number_in w32 file place))) }
-    // Told or not, a fault that is answered is that the table is short.
+    // The only fault is a short table, whether the bytes are visible or opaque.
     ensures short { IfErr result (λ e. IfSome (told_fault e) (λ fault. fault ≡ record { kind = TableShape; place = table })) }
     ensures bytes { M.bytes store.new ≡ M.bytes store.old }
     ensures cause { CountsFault (M.faults store.old) (M.faults store.new) (is_failed result) }
-    // No memory is taken.
+    // Takes no memory.
     ensures memory { is_out_of_memory result ≡ false }
 {
     let piece = bytes_of::<M, 4>(store, place, table)?;

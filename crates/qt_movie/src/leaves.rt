@@ -1,4 +1,4 @@
-//! The atoms of a movie atom that hold no atoms.
+//! The atoms of a movie atom that contain no atoms.
 
 ghost use Rattle.std.specs.Prelude.{◌≡◌, ◌<◌, ◌≤◌, ◌+◌, ◌^◌, ◌++◌, length, codes, IfOk, OnOk};
 ghost use Rattle.qt_atoms.specs.Written.{atom, atom_of};
@@ -11,7 +11,7 @@ use pw_outside::NoMemory;
 use qt_atoms::AtomWriter;
 use std::alloc::Global;
 
-/// The matrix that leaves pictures as they are.
+/// The identity matrix.
 const UNIT_MATRIX: [u8; 36] = [
     0, 1, 0, 0, 0, 0, 0, 0, 0, 0, 0, 0, 0, 0, 0, 0, 0, 1, 0, 0, 0, 0, 0, 0, 0, 0, 0, 0, 0, 0, 0, 0,
     0x40, 0, 0, 0,
@@ -30,7 +30,7 @@ pub(crate) fn put_atom(atoms: &mut AtomWriter, kind: [u8; 4], body: &[u8]) -> Re
     Ok(())
 }
 
-/// The body of the head of a movie.
+/// The body of an `mvhd`.
 #[tactic(auto, unfolding(crate::specs::Bodies::mvhd_body))]
 fn mvhd_body(
     alloc: Global,
@@ -54,7 +54,7 @@ fn mvhd_body(
     Ok(body)
 }
 
-/// Appends the head of a movie.
+/// Appends the `mvhd`.
 pub(crate) fn put_mvhd(
     alloc: Global,
     atoms: &mut AtomWriter,
@@ -69,7 +69,7 @@ pub(crate) fn put_mvhd(
     put_atom(atoms, *b"mvhd", body.held())
 }
 
-/// The volume of a track: that of sound is 1, with 8 bits behind the point.
+/// The volume of a track, fixed-point with 8 fraction bits: 1 for sound.
 fn volume_of(media: Media) -> u16
     ensures { result ≡ volume_of media }
 {
@@ -97,7 +97,7 @@ fn height_of(media: Media) -> u16
     }
 }
 
-/// The body of the head of a track. Width and height have 16 bits behind the point.
+/// The body of a `tkhd`. Width and height are fixed-point with 16 fraction bits.
 #[tactic(auto, unfolding(crate::specs::Trak::tkhd_body))]
 fn tkhd_body(alloc: Global, trak: &Trak) -> Result<AtomWriter, NoMemory>
     ensures body { IfOk result (λ body. body ≡ tkhd_body trak.now) }
@@ -118,7 +118,7 @@ fn tkhd_body(alloc: Global, trak: &Trak) -> Result<AtomWriter, NoMemory>
     Ok(body)
 }
 
-/// Appends the head of a track.
+/// Appends the `tkhd`.
 pub(crate) fn put_tkhd(alloc: Global, atoms: &mut AtomWriter, trak: &Trak) -> Result<(), NoMemory>
     ensures atom { OnOk result (atoms.new ≡ atoms.old ++ atom (codes "tkhd") (tkhd_body trak.now)) }
     ensures size { OnOk result (length atoms.new ≡ length atoms.old + 92) }
@@ -127,7 +127,7 @@ pub(crate) fn put_tkhd(alloc: Global, atoms: &mut AtomWriter, trak: &Trak) -> Re
     put_atom(atoms, *b"tkhd", body.held())
 }
 
-/// The body of the head of a track's media.
+/// The body of an `mdhd`.
 #[tactic(auto, unfolding(crate::specs::Bodies::mdhd_body))]
 fn mdhd_body(alloc: Global, timescale: u32, duration: u32) -> Result<AtomWriter, NoMemory>
     ensures body { IfOk result (λ body. body ≡ (mdhd_body timescale duration)) }
@@ -141,7 +141,7 @@ fn mdhd_body(alloc: Global, timescale: u32, duration: u32) -> Result<AtomWriter,
     Ok(body)
 }
 
-/// Appends the head of a track's media.
+/// Appends the `mdhd`.
 pub(crate) fn put_mdhd(alloc: Global, atoms: &mut AtomWriter, trak: &Trak) -> Result<(), NoMemory>
     ensures atom { OnOk result (atoms.new ≡ atoms.old ++ atom (codes "mdhd") (mdhd_body trak.now.timescale trak.now.duration)) }
     ensures size { OnOk result (length atoms.new ≡ length atoms.old + 32) }
@@ -150,7 +150,7 @@ pub(crate) fn put_mdhd(alloc: Global, atoms: &mut AtomWriter, trak: &Trak) -> Re
     put_atom(atoms, *b"mdhd", body.held())
 }
 
-/// The body of a handler.
+/// The body of an `hdlr`.
 #[tactic(auto, unfolding(crate::specs::Bodies::hdlr_body))]
 fn hdlr_body(alloc: Global, kind: [u8; 4], subtype: [u8; 4]) -> Result<AtomWriter, NoMemory>
     ensures body { IfOk result (λ body. body ≡ (hdlr_body kind subtype)) }
@@ -164,7 +164,7 @@ fn hdlr_body(alloc: Global, kind: [u8; 4], subtype: [u8; 4]) -> Result<AtomWrite
     Ok(body)
 }
 
-/// Appends a handler of this type and subtype.
+/// Appends an `hdlr` of this type and subtype.
 pub(crate) fn put_hdlr(
     alloc: Global,
     atoms: &mut AtomWriter,
@@ -178,7 +178,7 @@ pub(crate) fn put_hdlr(
     put_atom(atoms, *b"hdlr", body.held())
 }
 
-/// Appends the head of the information on pictures.
+/// Appends the `vmhd`.
 #[tactic(auto, unfolding(crate::specs::Bodies::vmhd_body))]
 fn put_vmhd(atoms: &mut AtomWriter) -> Result<(), NoMemory>
     ensures atom { OnOk result (atoms.new ≡ atoms.old ++ atom (codes "vmhd") vmhd_body) }
@@ -187,7 +187,7 @@ fn put_vmhd(atoms: &mut AtomWriter) -> Result<(), NoMemory>
     put_atom(atoms, *b"vmhd", &[0, 0, 0, 1, 0, 0, 0, 0, 0, 0, 0, 0])
 }
 
-/// Appends the head of the information on sound.
+/// Appends the `smhd`.
 #[tactic(auto, unfolding(crate::specs::Trak::smhd_body))]
 fn put_smhd(atoms: &mut AtomWriter) -> Result<(), NoMemory>
     ensures atom { OnOk result (atoms.new ≡ atoms.old ++ atom (codes "smhd") smhd_body) }
@@ -196,7 +196,7 @@ fn put_smhd(atoms: &mut AtomWriter) -> Result<(), NoMemory>
     put_atom(atoms, *b"smhd", &[0; 8])
 }
 
-/// Appends the head of the information on media.
+/// Appends the media information header of pictures or sound.
 fn put_head(atoms: &mut AtomWriter, media: Media) -> Result<(), NoMemory>
     ensures atom { OnOk result (atoms.new ≡ atoms.old ++ atom_of (media_node media)) }
     ensures size { OnOk result (length atoms.new ≤ length atoms.old + 20) }
@@ -207,7 +207,7 @@ fn put_head(atoms: &mut AtomWriter, media: Media) -> Result<(), NoMemory>
     }
 }
 
-/// Appends the head of the information on the media of a track.
+/// Appends the media information header of a track.
 pub(crate) fn put_media_head(atoms: &mut AtomWriter, trak: &Trak) -> Result<(), NoMemory>
     ensures atom { OnOk result (atoms.new ≡ atoms.old ++ atom_of (media_node trak.now.media)) }
     ensures size { OnOk result (length atoms.new ≤ length atoms.old + 20) }
@@ -215,7 +215,7 @@ pub(crate) fn put_media_head(atoms: &mut AtomWriter, trak: &Trak) -> Result<(), 
     put_head(atoms, trak.media)
 }
 
-/// The subtype of the handler of media.
+/// The handler subtype of a media.
 fn subtype_of(media: Media) -> [u8; 4]
     ensures { result ≡ subtype_of media }
 {
@@ -225,7 +225,7 @@ fn subtype_of(media: Media) -> [u8; 4]
     }
 }
 
-/// Appends the handler of the media of a track.
+/// Appends the media handler of a track.
 pub(crate) fn put_media_hdlr(
     alloc: Global,
     atoms: &mut AtomWriter,
@@ -237,7 +237,7 @@ pub(crate) fn put_media_hdlr(
     put_hdlr(alloc, atoms, *b"mhlr", subtype_of(trak.media))
 }
 
-/// Appends the entries that tell where the data lies: one, in the same file.
+/// Appends the `dref`: one entry, the same file.
 #[tactic(auto, unfolding(crate::specs::Bodies::dref_body))]
 fn put_dref(atoms: &mut AtomWriter) -> Result<(), NoMemory>
     ensures atom { OnOk result (atoms.new ≡ atoms.old ++ atom (codes "dref") dref_body) }
@@ -247,7 +247,7 @@ fn put_dref(atoms: &mut AtomWriter) -> Result<(), NoMemory>
     put_atom(atoms, *b"dref", body)
 }
 
-/// Appends the information on where the data lies.
+/// Appends the `dinf`.
 pub(crate) fn put_dinf(atoms: &mut AtomWriter) -> Result<(), NoMemory>
     ensures atom { OnOk result (atoms.new ≡ atoms.old ++ atom (codes "dinf") (nodes_bytes dinf_nodes)) }
     ensures size { OnOk result (length atoms.new ≡ length atoms.old + 36) }

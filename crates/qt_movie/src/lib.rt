@@ -1,4 +1,4 @@
-//! Movies of ProRes pictures in QuickTime files, read and written.
+//! Reads and writes QuickTime movies of ProRes pictures.
 #![tactic(auto)]
 
 mod containers;
@@ -13,8 +13,6 @@ mod parts;
 mod pictures;
 mod reader;
 mod tables;
-#[cfg(test)]
-mod tests;
 mod track;
 mod trak;
 mod writer;

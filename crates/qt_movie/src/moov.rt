@@ -25,7 +25,7 @@ fn is_moov(atom: &Atom) -> bool
     atom.kind == *b"moov"
 }
 
-/// The first `moov` of those that were met before this atom, and this one.
+/// `met`, the first `moov` before this atom, or this atom if there is none and it is one.
 fn first_moov(met: Option<Atom>, atom: &Atom) -> Option<Atom>
     ensures { result ≡ moov_or met atom.now }
 {
@@ -35,7 +35,7 @@ fn first_moov(met: Option<Atom>, atom: &Atom) -> Option<Atom>
     }
 }
 
-/// The `moov` that was met, if one was.
+/// The `moov`; `NoMoov` if there is none.
 fn met_moov(moov: Option<Atom>) -> Result<Atom, MovieFault>
     ensures value { Answers told_fault (λ x. x) result (some_or moov kinds.NoMoov 0) }
     ensures lies { IfOk result (λ m. moov ≡ Some m) }
@@ -48,14 +48,14 @@ fn met_moov(moov: Option<Atom>) -> Result<Atom, MovieFault>
     }
 }
 
-/// The first `moov` of a file of so many bytes. The top level is walked once.
+/// The first `moov` of a file of `end` bytes. Walks the top level once.
 pub fn moov_of<M: ByteStore>(store: &mut M, end: u64) -> Result<Atom, MovieFault>
     requires end { Told (M.bytes store.old) (λ file. end ≡ length file) }
     ensures value { Told (M.bytes store.old) (λ file. Answers told_fault (λ x. x) result (moov_in file)) }
     ensures lies { IfOk result (LiesIn 0 end) }
     ensures bytes { M.bytes store.new ≡ M.bytes store.old }
     ensures cause { CountsFault (M.faults store.old) (M.faults store.new) (is_failed result) }
-    // No memory is taken.
+    // Takes no memory.
     ensures memory { is_out_of_memory result ≡ false }
 {
     let mut moov = None;
@@ -84,7 +84,7 @@ fn kind_of(other: &Atom) -> MovieKind
     }
 }
 
-/// Judges the children of a `moov`: none is a `cmov`, an `mvex`, or of a bad size.
+/// Validates the children of a `moov`: no `cmov`, no `mvex`, no bad size.
 #[tactic(auto, unfolding(crate::specs::Movie::whole_in, pw_outside::specs::Reading::bind), using(qt_atoms::proofs::Walks::none_is_whole))]
 pub fn judge_children<M: ByteStore>(store: &mut M, moov: &Atom) -> Result<(), MovieFault>
     requires order { moov.now.body ≤ moov.now.end }
@@ -93,7 +93,7 @@ pub fn judge_children<M: ByteStore>(store: &mut M, moov: &Atom) -> Result<(), Mo
     ensures whole { Told (M.bytes store.old) (λ file. OnOk result ((children file moov.now).bad ≡ None)) }
     ensures bytes { M.bytes store.new ≡ M.bytes store.old }
     ensures cause { CountsFault (M.faults store.old) (M.faults store.new) (is_failed result) }
-    // No memory is taken.
+    // Takes no memory.
     ensures memory { is_out_of_memory result ≡ false }
 {
     match find_either(store, moov, [*b"cmov", *b"mvex"])? {

@@ -1,4 +1,4 @@
-//! The atoms of a track that tell its pictures.
+//! The atoms of a track that describe its pictures.
 
 ghost use Rattle.std.specs.Prelude.{◌≡◌, ◌≤◌, length, IfOk, IfSome, false};
 ghost use Rattle.pw_outside.specs.Ports.{CountsFault};
@@ -11,7 +11,8 @@ use pw_outside::ByteStore;
 use qt_atoms::{Atom, find};
 use qt_tables::MovieFault;
 
-/// The atoms of a track that tell its pictures: the media, its handler, its information, the sample table and the descriptions.
+/// The atoms of a track that describe its pictures: media, handler, media information, sample table and
+/// descriptions.
 #[derive(Clone, Copy, Debug, PartialEq, Eq)]
 pub struct Parts {
     pub mdia: Atom,
@@ -21,7 +22,7 @@ pub struct Parts {
     pub stsd: Atom,
 }
 
-/// The atoms of a track that tell its pictures; `None` where one is wanting.
+/// The atoms of a track that describe its pictures; `None` if one is missing.
 #[tactic(auto, unfolding(crate::specs::Movie::parts_in, pw_outside::specs::Reading::bind))]
 pub fn parts_of<M: ByteStore>(store: &mut M, trak: &Atom) -> Result<Option<Parts>, MovieFault>
     requires order { trak.now.body ≤ trak.now.end }
@@ -30,7 +31,7 @@ pub fn parts_of<M: ByteStore>(store: &mut M, trak: &Atom) -> Result<Option<Parts
     ensures lie { IfOk result (λ found. IfSome found (PartsLie trak.now.body trak.now.end)) }
     ensures bytes { M.bytes store.new ≡ M.bytes store.old }
     ensures cause { CountsFault (M.faults store.old) (M.faults store.new) (is_failed result) }
-    // No memory is taken.
+    // Takes no memory.
     ensures memory { is_out_of_memory result ≡ false }
 {
     let mdia = match find(store, trak, *b"mdia")? {

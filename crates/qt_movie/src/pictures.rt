@@ -5,6 +5,7 @@ ghost use Rattle.pic_y4m.specs.HeadLine.{IsHead};
 ghost use Rattle.qt_tables.specs.Writing.{places_of};
 ghost use Rattle.qt_movie.specs.Trak.{IsTrak};
 ghost use Rattle.qt_movie.specs.MovieBytes.{kind_of, pixel_bits, one_run, frames_trak, moov_bytes, extents};
+ghost use Rattle.qt_tables.specs.declared.tables.TheConstants.{MAX_SAMPLES};
 
 use crate::containers::write_moov;
 use crate::trak::{Media, Trak};
@@ -14,12 +15,12 @@ use pw_planes::{AlphaKind, Chroma};
 use qt_atoms::AtomWriter;
 use std::alloc::Global;
 
-/// The place behind the file type.
+/// The offset after the file type.
 const FIRST_PLACE: u64 = 20;
 
-/// The places of frames of these sizes, each behind the head of its data atom.
+/// The offsets of frames of these sizes, each after the head of its data atom.
 fn places_of(alloc: Global, sizes: &[u32]) -> Result<Vec<u64>, NoMemory>
-    requires { length sizes.now ≤ 1000000 }
+    requires { length sizes.now ≤ MAX_SAMPLES }
     ensures { IfOk result (λ places. places.items ≡ places_of (extents sizes.now)) }
 {
     let mut places = Vec::new(alloc);
@@ -33,7 +34,7 @@ fn places_of(alloc: Global, sizes: &[u32]) -> Result<Vec<u64>, NoMemory>
     Ok(places)
 }
 
-/// One run of durations for so many samples, where there are any.
+/// One run of durations for `count` samples, if there are any.
 fn times_of(alloc: Global, count: u32, duration: u32) -> Result<Vec<(u32, u32)>, NoMemory>
     ensures { IfOk result (λ runs. runs.items ≡ one_run count (count, duration)) }
 {
@@ -47,7 +48,7 @@ fn times_of(alloc: Global, count: u32, duration: u32) -> Result<Vec<(u32, u32)>,
     }
 }
 
-/// One run of chunks with one sample each, where there are any.
+/// One run of chunks with one sample each, if there are any.
 fn runs_of(alloc: Global, count: u32) -> Result<Vec<(u32, u32, u32)>, NoMemory>
     ensures { IfOk result (λ runs. runs.items ≡ one_run count (1, 1, 1)) }
 {
@@ -61,7 +62,7 @@ fn runs_of(alloc: Global, count: u32) -> Result<Vec<(u32, u32, u32)>, NoMemory>
     }
 }
 
-/// The kind of the description, and how many bits a pixel has.
+/// The kind and the bits per pixel of the description.
 fn kind_of(head: &Head) -> [u8; 4]
     ensures { result ≡ kind_of head.now }
 {
@@ -82,7 +83,7 @@ fn pixel_bits(alpha: AlphaKind) -> u16
 
 /// The track of frames of these sizes, each in a chunk of its own.
 fn trak_of(alloc: Global, head: &Head, duration: u32, sizes: Vec<u32>) -> Result<Trak, NoMemory>
-    requires few { length sizes.items ≤ 1000000 }
+    requires few { length sizes.items ≤ MAX_SAMPLES }
     requires duration { duration ≡ length sizes.items * head.now.den }
     ensures value { IfOk result (λ trak. trak ≡ frames_trak head.now (extents sizes.items)) }
     ensures can { IfOk result IsTrak }
@@ -114,7 +115,7 @@ fn trak_of(alloc: Global, head: &Head, duration: u32, sizes: Vec<u32>) -> Result
 /// The movie atom over frames of these sizes.
 pub(crate) fn moov_of(alloc: Global, head: &Head, sizes: Vec<u32>) -> Result<AtomWriter, NoMemory>
     requires head { IsHead head.now }
-    requires few { length sizes.items ≤ 1000000 }
+    requires few { length sizes.items ≤ MAX_SAMPLES }
     ensures { IfOk result (λ atoms. atoms ≡ moov_bytes head.now (extents sizes.items)) }
 {
     let duration = sizes.len() as u32 * head.den;

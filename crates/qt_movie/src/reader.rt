@@ -1,4 +1,4 @@
-//! Reading a movie.
+//! Reads a movie.
 
 ghost use Rattle.std.specs.Prelude.{◌≡◌, ◌≤◌, ◌<◌, ◌+◌, ◌^◌, length, IfOk};
 ghost use Rattle.pw_outside.specs.Ports.{CountsFault};
@@ -16,7 +16,7 @@ use qt_tables::{MovieFault, MovieKind, Sample, SampleTables};
 use std::alloc::Global;
 use std::marker::Model;
 
-/// The track that is taken of a file of so many bytes.
+/// The selected track of a file of `end` bytes: the first of ProRes pictures.
 #[tactic(auto, unfolding(crate::specs::Movie::taken_in, pw_outside::specs::Reading::bind))]
 fn taken_of<M: ByteStore>(alloc: Global, store: &mut M, end: u64) -> Result<VideoTrack, MovieFault>
     requires end { Told (M.bytes store.old) (λ file. end ≡ length file) }
@@ -35,24 +35,24 @@ fn taken_of<M: ByteStore>(alloc: Global, store: &mut M, end: u64) -> Result<Vide
     Ok(track)
 }
 
-/// The track that is taken of a movie.
+/// The selected track of a movie.
 #[derive(Clone, Copy, Debug, PartialEq, Eq)]
 pub struct Track {
     /// Its number among the tracks of the movie, from 1.
     pub number: u64,
-    /// Units of time in a second, at least 1.
+    /// Units of time per second, at least 1.
     pub timescale: u32,
     /// The kind of its first description.
     pub kind: [u8; 4],
-    /// The width of the pictures by its first description.
+    /// The picture width by its first description.
     pub width: u16,
-    /// Their height.
+    /// The picture height by its first description.
     pub height: u16,
-    /// The number of its samples, at most 1,000,000.
+    /// The number of its samples, at most [`qt_tables::MAX_SAMPLES`].
     pub samples: u32,
 }
 
-/// A movie that was read: the track that is taken, and where its samples lie.
+/// A movie that was read: its selected track and sample tables.
 #[derive(Drop)]
 pub struct MovieReader {
     number: u64,
@@ -79,10 +79,10 @@ impl MovieReader {
     ghost use Rattle.qt_tables.specs.Tables.{AreTables};
     ghost use Rattle.qt_movie.specs.Movie.{movie_in, track_of, span_in};
 
-    /// Reads a movie up to its samples.
+    /// Reads a movie, except its samples.
     ///
-    /// `MovieFault::Bad` is its first fault in the order of reading: the top level, the children of the `moov`, the tracks, where the data
-    /// lies, the sample tables.
+    /// The parts are validated in this order: the top level, the children of the `moov`, the tracks, the data
+    /// references, the sample tables. `MovieFault::Bad` is the first fault.
     #[tactic(auto, unfolding(crate::specs::Movie::movie_in, pw_outside::specs::Reading::bind))]
     pub fn start<M: ByteStore>(alloc: Global, store: &mut M) -> Result<MovieReader, MovieFault>
         ensures value { Told (M.bytes store.old) (λ file. Answers told_fault (λ x. x) result (movie_in file)) }
@@ -107,7 +107,7 @@ impl MovieReader {
         })
     }
 
-    /// The track that is taken.
+    /// The selected track.
     pub fn track(&self) -> Track
         ensures { result ≡ track_of self.now }
     {
@@ -122,7 +122,7 @@ impl MovieReader {
         }
     }
 
-    /// The sample of this number, from 0. Its place is below 2^63.
+    /// Sample `i`, from 0. Its offset is below 2^63.
     pub fn sample(&self, i: u32) -> Sample
         requires { i < length self.now.tables.sizes }
         ensures value { slice_get (samples self.now.tables) i ≡ Some result }
@@ -131,8 +131,8 @@ impl MovieReader {
         self.tables.sample(i)
     }
 
-    /// Where the sample of this number, from 0, lies in the file: its first byte, and behind its last. `MovieFault::Bad` is
-    /// `SampleOutside`, at the sample's place, exactly where the sample passes the end of the file.
+    /// The start and end offsets of sample `i`, from 0, in the file. `MovieFault::Bad` is `SampleOutside`, at the
+    /// sample's offset, exactly if the sample passes the end of the file.
     #[tactic(auto, unfolding(crate::specs::Movie::span_in, pw_outside::specs::Reading::bind))]
     pub fn place<M: ByteStore>(&self, store: &mut M, i: u32) -> Result<(u64, u64), MovieFault>
         requires { i < length self.now.tables.sizes }
@@ -140,7 +140,7 @@ impl MovieReader {
         ensures order { IfOk result (λ x. x.0 ≤ x.1) }
         ensures bytes { M.bytes store.new ≡ M.bytes store.old }
         ensures cause { CountsFault (M.faults store.old) (M.faults store.new) (is_failed result) }
-        // No memory is taken.
+        // Takes no memory.
         ensures memory { is_out_of_memory result ≡ false }
     {
         let length = store.length()?;
@@ -152,8 +152,8 @@ impl MovieReader {
         Ok((sample.at, end))
     }
 
-    /// The bytes of the sample of this number, from 0, as a source. The errors are those of `place`, which tells besides what an error
-    /// leaves of the store.
+    /// The bytes of sample `i`, from 0, as a source. The errors are those of `place`, whose contract also says how
+    /// an error leaves the store.
     pub fn span<'a, M: ByteStore>(
         &self,
         store: &'a mut M,
@@ -164,7 +164,7 @@ impl MovieReader {
         ensures same_store { IfOk result (λ span. span.store.ghost_name ≡ store.entry.ghost_name) }
         ensures bytes { IfOk result (λ span. M.bytes span.store.now ≡ M.bytes store.old) }
         ensures faults { IfOk result (λ span. M.faults span.store.now ≡ M.faults store.old) }
-        // No memory is taken.
+        // Takes no memory.
         ensures memory { is_out_of_memory result ≡ false }
     {
         let (at, end) = self.place(store, i)?;

@@ -1,4 +1,4 @@
-//! The sample tables of a track, written.
+//! Writes the sample tables of a track.
 
 ghost use Rattle.std.specs.Prelude.{◌≡◌, ◌≤◌, ◌+◌, ◌*◌, [], ◌∷◌, ◌++◌, length, true, codes, IfOk, OnOk};
 ghost use Rattle.std.specs.List.{flat_map};
@@ -6,6 +6,7 @@ ghost use Rattle.std.specs.Int.{w64, to_be_bytes};
 ghost use Rattle.qt_atoms.specs.Written.{atom, atom_of};
 ghost use Rattle.qt_tables.specs.Writing.{numbers_bytes};
 ghost use Rattle.qt_movie.specs.Trak.{time_bytes, run_bytes, stts_body, stsc_body, stsz_body, are_near, stco_body, co64_body, offsets_node};
+ghost use Rattle.qt_tables.specs.declared.tables.TheConstants.{MAX_SAMPLES};
 
 use crate::leaves::put_atom;
 use crate::trak::Trak;
@@ -14,7 +15,7 @@ use pw_outside::NoMemory;
 use qt_atoms::AtomWriter;
 use std::alloc::Global;
 
-/// Appends numbers of 32 bits, one behind the other.
+/// Appends 32-bit numbers.
 fn put_numbers(body: &mut AtomWriter, numbers: &[u32]) -> Result<(), NoMemory>
     ensures bytes { OnOk result (body.new ≡ body.old ++ numbers_bytes numbers.now) }
     ensures size { OnOk result (length body.new ≡ length body.old + 4 * length numbers.now) }
@@ -25,7 +26,7 @@ fn put_numbers(body: &mut AtomWriter, numbers: &[u32]) -> Result<(), NoMemory>
     Ok(())
 }
 
-/// Appends places of 32 bits, one behind the other.
+/// Appends 32-bit offsets.
 fn put_near(body: &mut AtomWriter, offsets: &[u64]) -> Result<(), NoMemory>
     requires { are_near offsets.now ≡ true }
     ensures bytes { OnOk result (body.new ≡ body.old ++ numbers_bytes offsets.now) }
@@ -37,7 +38,7 @@ fn put_near(body: &mut AtomWriter, offsets: &[u64]) -> Result<(), NoMemory>
     Ok(())
 }
 
-/// Appends places of 64 bits, one behind the other.
+/// Appends 64-bit offsets.
 fn put_far(body: &mut AtomWriter, offsets: &[u64]) -> Result<(), NoMemory>
     ensures bytes { OnOk result (body.new ≡ body.old ++ flat_map (to_be_bytes w64) offsets.now) }
     ensures size { OnOk result (length body.new ≡ length body.old + 8 * length offsets.now) }
@@ -48,7 +49,7 @@ fn put_far(body: &mut AtomWriter, offsets: &[u64]) -> Result<(), NoMemory>
     Ok(())
 }
 
-/// Appends runs of samples with one duration, one behind the other.
+/// Appends runs of samples with one duration.
 fn put_times(body: &mut AtomWriter, runs: &[(u32, u32)]) -> Result<(), NoMemory>
     ensures bytes { OnOk result (body.new ≡ body.old ++ flat_map time_bytes runs.now) }
     ensures size { OnOk result (length body.new ≡ length body.old + 8 * length runs.now) }
@@ -59,7 +60,7 @@ fn put_times(body: &mut AtomWriter, runs: &[(u32, u32)]) -> Result<(), NoMemory>
     Ok(())
 }
 
-/// Appends runs of chunks, one behind the other.
+/// Appends runs of chunks.
 fn put_runs(body: &mut AtomWriter, runs: &[(u32, u32, u32)]) -> Result<(), NoMemory>
     ensures bytes { OnOk result (body.new ≡ body.old ++ flat_map run_bytes runs.now) }
     ensures size { OnOk result (length body.new ≡ length body.old + 12 * length runs.now) }
@@ -72,7 +73,7 @@ fn put_runs(body: &mut AtomWriter, runs: &[(u32, u32, u32)]) -> Result<(), NoMem
 
 /// The body of the `stts`.
 fn stts_body(alloc: Global, runs: &[(u32, u32)]) -> Result<AtomWriter, NoMemory>
-    requires { length runs.now ≤ 1000000 }
+    requires { length runs.now ≤ MAX_SAMPLES }
     ensures body { IfOk result (λ body. body ≡ stts_body runs.now) }
     ensures size { IfOk result (λ body. length body ≤ 8000008) }
 {
@@ -82,9 +83,9 @@ fn stts_body(alloc: Global, runs: &[(u32, u32)]) -> Result<AtomWriter, NoMemory>
     Ok(body)
 }
 
-/// Appends the durations.
+/// Appends the `stts`.
 pub(crate) fn put_stts(alloc: Global, atoms: &mut AtomWriter, trak: &Trak) -> Result<(), NoMemory>
-    requires { length trak.now.stts ≤ 1000000 }
+    requires { length trak.now.stts ≤ MAX_SAMPLES }
     ensures atom { OnOk result (atoms.new ≡ atoms.old ++ atom (codes "stts") (stts_body trak.now.stts)) }
     ensures size { OnOk result (length atoms.new ≤ length atoms.old + 8000016) }
 {
@@ -94,7 +95,7 @@ pub(crate) fn put_stts(alloc: Global, atoms: &mut AtomWriter, trak: &Trak) -> Re
 
 /// The body of the `stsc`.
 fn stsc_body(alloc: Global, runs: &[(u32, u32, u32)]) -> Result<AtomWriter, NoMemory>
-    requires { length runs.now ≤ 1000000 }
+    requires { length runs.now ≤ MAX_SAMPLES }
     ensures body { IfOk result (λ body. body ≡ stsc_body runs.now) }
     ensures size { IfOk result (λ body. length body ≤ 12000008) }
 {
@@ -104,9 +105,9 @@ fn stsc_body(alloc: Global, runs: &[(u32, u32, u32)]) -> Result<AtomWriter, NoMe
     Ok(body)
 }
 
-/// Appends the runs of chunks.
+/// Appends the `stsc`.
 pub(crate) fn put_stsc(alloc: Global, atoms: &mut AtomWriter, trak: &Trak) -> Result<(), NoMemory>
-    requires { length trak.now.stsc ≤ 1000000 }
+    requires { length trak.now.stsc ≤ MAX_SAMPLES }
     ensures atom { OnOk result (atoms.new ≡ atoms.old ++ atom (codes "stsc") (stsc_body trak.now.stsc)) }
     ensures size { OnOk result (length atoms.new ≤ length atoms.old + 12000016) }
 {
@@ -116,7 +117,7 @@ pub(crate) fn put_stsc(alloc: Global, atoms: &mut AtomWriter, trak: &Trak) -> Re
 
 /// The body of the `stsz`.
 fn stsz_body(alloc: Global, common: u32, count: u32, sizes: &[u32]) -> Result<AtomWriter, NoMemory>
-    requires { length sizes.now ≤ 1000000 }
+    requires { length sizes.now ≤ MAX_SAMPLES }
     ensures body { IfOk result (λ body. body ≡ stsz_body common count sizes.now) }
     ensures size { IfOk result (λ body. length body ≤ 4000012) }
 {
@@ -126,9 +127,9 @@ fn stsz_body(alloc: Global, common: u32, count: u32, sizes: &[u32]) -> Result<At
     Ok(body)
 }
 
-/// Appends the sizes.
+/// Appends the `stsz`.
 pub(crate) fn put_stsz(alloc: Global, atoms: &mut AtomWriter, trak: &Trak) -> Result<(), NoMemory>
-    requires { length trak.now.sizes ≤ 1000000 }
+    requires { length trak.now.sizes ≤ MAX_SAMPLES }
     ensures atom { OnOk result (atoms.new ≡ atoms.old ++ atom (codes "stsz") (stsz_body trak.now.common trak.now.count trak.now.sizes)) }
     ensures size { OnOk result (length atoms.new ≤ length atoms.old + 4000020) }
 {
@@ -138,7 +139,7 @@ pub(crate) fn put_stsz(alloc: Global, atoms: &mut AtomWriter, trak: &Trak) -> Re
 
 /// The body of the `stco`.
 fn stco_body(alloc: Global, offsets: &[u64]) -> Result<AtomWriter, NoMemory>
-    requires few { length offsets.now ≤ 1000000 }
+    requires few { length offsets.now ≤ MAX_SAMPLES }
     requires near { are_near offsets.now ≡ true }
     ensures body { IfOk result (λ body. body ≡ stco_body offsets.now) }
     ensures size { IfOk result (λ body. length body ≤ 4000008) }
@@ -151,7 +152,7 @@ fn stco_body(alloc: Global, offsets: &[u64]) -> Result<AtomWriter, NoMemory>
 
 /// The body of the `co64`.
 fn co64_body(alloc: Global, offsets: &[u64]) -> Result<AtomWriter, NoMemory>
-    requires { length offsets.now ≤ 1000000 }
+    requires { length offsets.now ≤ MAX_SAMPLES }
     ensures body { IfOk result (λ body. body ≡ co64_body offsets.now) }
     ensures size { IfOk result (λ body. length body ≤ 8000008) }
 {
@@ -161,16 +162,16 @@ fn co64_body(alloc: Global, offsets: &[u64]) -> Result<AtomWriter, NoMemory>
     Ok(body)
 }
 
-/// Whether each place has at most 32 bits.
+/// Whether each offset fits 32 bits.
 fn all_near(offsets: &[u64]) -> bool
     ensures { result ≡ are_near offsets.now }
 {
     offsets.iter().all(|offset| *offset < 1 << 32)
 }
 
-/// Appends the `stco`, or the `co64` where a place has more than 32 bits.
+/// Appends the `stco`, or the `co64` if an offset needs more than 32 bits.
 fn put_places(alloc: Global, atoms: &mut AtomWriter, offsets: &[u64]) -> Result<(), NoMemory>
-    requires { length offsets.now ≤ 1000000 }
+    requires { length offsets.now ≤ MAX_SAMPLES }
     ensures atom { OnOk result (atoms.new ≡ atoms.old ++ atom_of (offsets_node offsets.now)) }
     ensures size { OnOk result (length atoms.new ≤ length atoms.old + 8000016) }
 {
@@ -183,13 +184,13 @@ fn put_places(alloc: Global, atoms: &mut AtomWriter, offsets: &[u64]) -> Result<
     }
 }
 
-/// Appends the places of the chunks.
+/// Appends the offsets of the chunks.
 pub(crate) fn put_offsets(
     alloc: Global,
     atoms: &mut AtomWriter,
     trak: &Trak,
 ) -> Result<(), NoMemory>
-    requires { length trak.now.offsets ≤ 1000000 }
+    requires { length trak.now.offsets ≤ MAX_SAMPLES }
     ensures atom { OnOk result (atoms.new ≡ atoms.old ++ atom_of (offsets_node trak.now.offsets)) }
     ensures size { OnOk result (length atoms.new ≤ length atoms.old + 8000016) }
 {

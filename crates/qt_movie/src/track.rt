@@ -1,4 +1,4 @@
-//! The track that is taken.
+//! Selects the track.
 
 ghost use Rattle.std.specs.Prelude.{◌≡◌, ◌≤◌, ◌<◌, ◌+◌, ◌^◌, length, IfOk, IfSome, None, Ok, false};
 ghost use Rattle.std.specs.List.{All, list_all};
@@ -18,7 +18,7 @@ use qt_tables::MovieFault;
 use std::alloc::Global;
 use std::marker::Model;
 
-/// A track of pictures in ProRes.
+/// A track of ProRes pictures.
 #[derive(Drop)]
 pub(crate) struct VideoTrack {
     number: u64,
@@ -41,7 +41,7 @@ impl VideoTrack {
     ghost use Rattle.qt_movie.specs.Movie.{prores_track};
     ghost use Rattle.qt_movie.specs.Ranges.{HasSize};
 
-    /// The track with these descriptions, where there are some and each is one of ProRes.
+    /// The track with these descriptions, if there are any and all are of ProRes.
     fn of(number: u64, parts: Parts, descriptions: Vec<Description>) -> Option<VideoTrack>
         requires sizes { All (HasSize parts.stsd.end) descriptions.items }
         ensures value { result ≡ prores_track number parts descriptions.items }
@@ -67,21 +67,21 @@ impl VideoTrack {
         self.number
     }
 
-    /// The atoms that tell its pictures.
+    /// The atoms that describe its pictures.
     pub(crate) fn parts(&self) -> &Parts
         ensures { result.now ≡ self.now.parts }
     {
         &self.parts
     }
 
-    /// The first of its descriptions.
+    /// Its first description.
     pub(crate) fn first(&self) -> &Description
         ensures { result.now ≡ self.now.first }
     {
         &self.first
     }
 
-    /// All of its descriptions.
+    /// All its descriptions.
     pub(crate) fn descriptions(&self) -> &[Description]
         ensures { result.now ≡ self.now.descriptions }
     {
@@ -97,7 +97,7 @@ fn are_prores(descriptions: &[Description]) -> bool
         .all(|description| is_prores(description.kind))
 }
 
-/// Whether a handler is that of pictures.
+/// Whether the handler is for pictures.
 fn is_video<M: ByteStore>(store: &mut M, hdlr: &Atom) -> Result<bool, MovieFault>
     requires order { hdlr.now.body ≤ hdlr.now.end }
     requires inside { Told (M.bytes store.old) (λ file. hdlr.now.end ≤ length file) }
@@ -113,7 +113,7 @@ fn is_video<M: ByteStore>(store: &mut M, hdlr: &Atom) -> Result<bool, MovieFault
     Ok(subtype == *b"vide")
 }
 
-/// The track of a `trak`, the one with this number, where it isn't passed over.
+/// The track of a `trak`, with this number; `None` if it is skipped.
 #[tactic(auto, unfolding(crate::specs::Movie::track_in, pw_outside::specs::Reading::bind))]
 fn track_of<M: ByteStore>(
     alloc: Global,
@@ -139,7 +139,7 @@ fn track_of<M: ByteStore>(
     Ok(VideoTrack::of(number, parts, descriptions))
 }
 
-/// The first track of a `moov` that isn't passed over.
+/// The first track of a `moov` that isn't skipped.
 pub(crate) fn first_track_of<M: ByteStore>(
     alloc: Global,
     store: &mut M,

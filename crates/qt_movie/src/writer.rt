@@ -1,4 +1,4 @@
-//! Writing a movie.
+//! Writes a movie.
 
 use crate::pictures::moov_of;
 use pic_y4m::{Head, WriteEnd};
@@ -10,8 +10,8 @@ use std::marker::Model;
 /// The file type: QuickTime.
 const FTYP: [u8; 20] = *b"\x00\x00\x00\x14ftypqt  \x00\x00\x00\x00qt  ";
 
-/// Writes a movie: the file type, the head of the data atom of each frame, and the movie atom at the end. The bytes of a frame are
-/// written by the caller, behind its head.
+/// Writes a movie: the file type, the head of the data atom of each frame, and the movie atom at the end. The
+/// caller writes the bytes of a frame after its head.
 #[derive(Drop)]
 pub struct MovieWriter {
     head: Head,
@@ -22,12 +22,13 @@ impl Model for MovieWriter {
     ghost use Rattle.std.specs.Prelude.{◌≤◌, ◌-◌, length, vec_capacity, vec_len};
     ghost use Rattle.pic_y4m.specs.HeadLine.{IsHead};
     ghost use Rattle.qt_movie.specs.MovieBytes.{WriterState};
+    ghost use Rattle.qt_tables.specs.declared.tables.TheConstants.{MAX_SAMPLES};
 
     ghost Value = { WriterState };
 
     ghost view = { λ w. record { head = w.head; sizes = w.sizes.items; spare = vec_capacity w.sizes - vec_len w.sizes } };
 
-    ghost invariant = { λ w. IsHead w.head × (length w.sizes.items ≤ 1000000) };
+    ghost invariant = { λ w. IsHead w.head × (length w.sizes.items ≤ MAX_SAMPLES) };
 }
 
 impl MovieWriter {
@@ -37,8 +38,9 @@ impl MovieWriter {
     ghost use Rattle.pic_y4m.specs.HeadLine.{IsHead};
     ghost use Rattle.pic_y4m.specs.Writing.{Writes, write_failed};
     ghost use Rattle.qt_movie.specs.MovieBytes.{ftyp_bytes, frame_head_bytes, moov_bytes, extents};
+    ghost use Rattle.qt_tables.specs.declared.tables.TheConstants.{MAX_SAMPLES};
 
-    /// Appends the file type. Takes no memory. After `Failed` a part of it was appended, not all.
+    /// Appends the file type. Takes no memory. After `Failed` a proper prefix of it was appended.
     pub fn begin<K: ByteSink>(
         alloc: Global,
         sink: &mut K,
@@ -58,15 +60,15 @@ impl MovieWriter {
         })
     }
 
-    /// The number of frames whose heads were appended, at most 1,000,000.
+    /// The number of frames whose heads were appended, at most [`qt_tables::MAX_SAMPLES`].
     pub fn frames(&self) -> u32
         ensures value { result ≡ length self.now.sizes }
-        ensures few { result ≤ 1000000 }
+        ensures few { result ≤ MAX_SAMPLES }
     {
         self.sizes.len() as u32
     }
 
-    /// Takes the memory for so many more frames. After `NoMemory` the writer is as before.
+    /// Reserves memory for `frames` more frames. After `NoMemory` the writer is unchanged.
     pub fn reserve(&mut self, frames: u32) -> Result<(), NoMemory>
         ensures reserved { OnOk result (frames ≤ self.new.spare) }
         ensures kept { self.old.spare ≤ self.new.spare }
@@ -80,18 +82,18 @@ impl MovieWriter {
         }
     }
 
-    /// Appends the head of the data atom of a frame of so many bytes, at most 4,294,967,286. Takes no memory but what `reserve` took.
-    /// After `Failed` a part of it was appended, not all, and the frame doesn't count.
+    /// Appends the head of the data atom of a frame of `size` bytes, at most 4,294,967,286. Takes only memory that
+    /// `reserve` took. After `Failed` a proper prefix of it was appended, and the frame doesn't count.
     pub fn frame_head<K: ByteSink>(&mut self, sink: &mut K, size: u32) -> Result<(), Failed>
         requires reserved { 1 ≤ self.old.spare }
-        requires few { length self.old.sizes < 1000000 }
+        requires few { length self.old.sizes < MAX_SAMPLES }
         requires small { size ≤ 4294967286 }
         ensures all { OnOk result (Puts (sink_state (K.held sink.old) (K.taken sink.old)) (sink_state (K.held sink.new) (K.taken sink.new)) (frame_head_bytes size)) }
         ensures part { OnErr result (PutsPart (sink_state (K.held sink.old) (K.taken sink.old)) (sink_state (K.held sink.new) (K.taken sink.new)) (frame_head_bytes size)) }
         ensures head { self.new.head ≡ self.old.head }
         ensures sizes { OnOk result (self.new.sizes ≡ self.old.sizes ++ size ∷ []) }
         ensures same { OnErr result (self.new.sizes ≡ self.old.sizes) }
-        // One frame takes up the memory of one, and a head that failed none.
+        // A frame uses the memory of one frame, and a failed head none.
         ensures spare { self.old.spare ≤ self.new.spare + 1 }
         ensures spared { OnErr result (self.new.spare ≡ self.old.spare) }
         ensures settled { K.settled sink.old ≤ K.settled sink.new }
@@ -108,9 +110,10 @@ impl MovieWriter {
         Ok(())
     }
 
-    /// Appends the movie atom, over the frames whose heads were appended. Takes all its memory before it writes the first byte.
+    /// Appends the movie atom over the frames whose heads were appended. Takes all its memory before it writes the
+    /// first byte.
     pub fn finish<K: ByteSink>(self, alloc: Global, sink: &mut K) -> Result<(), WriteEnd>
-        // All of it is appended, or after `Failed` a part from its front, or after `NoMemory` nothing.
+        // All of it is appended; after `Failed` a prefix, after `NoMemory` nothing.
         ensures bytes { Writes result (sink_state (K.held sink.old) (K.taken sink.old)) (sink_state (K.held sink.new) (K.taken sink.new)) (moov_bytes self.head (extents self.sizes)) }
         ensures settled { K.settled sink.old ≤ K.settled sink.new }
         ensures cause { CountsFault (K.faults sink.old) (K.faults sink.new) (write_failed result) }

@@ -1,4 +1,4 @@
--- All tables that were written, read together.
+-- All written tables, read together.
 use Rattle.std.proofs.Common.{◌≡◌, ℕ, suc, ◌+◌, ◌≤◌, ◌<◌, ◌^◌, Bool, true, false, nat_lt, List, [], ◌∷◌, ◌++◌, Some, None, Ok, length, sum_by, refl, sym, ap, ◌∙◌, arith, append_assoc, length-append}
 use Rattle.std.specs.Prelude.{codes, if◌then◌else◌}
 use Rattle.std.specs.List.{flat_map, AllByRecursion}
@@ -20,8 +20,9 @@ use Rattle.qt_tables.proofs.Again.{held-ones}
 use Rattle.qt_tables.proofs.Reread.{placed_at, numbers-at, longs-at, times-read, times-read-none, runs-read, runs-read-none, sizes-read, near-read, far-read, descriptions-read, tables-read, is-not-none}
 use Rattle.qt_tables.proofs.Chunks.{and-left, and-right}
 use Rattle.qt_tables.proofs.Wrapping.{length-times_body, length-runs_body, length-sizes_body, length-near_body, length-far_body}
+use Rattle.qt_tables.specs.declared.tables.TheConstants.{MAX_SAMPLES}
 
--- ---- an atom that stands at a place
+-- ---- an atom at an offset
 
 pub record Stands (file : List ℕ) (p : ℕ) (kind body : List ℕ) : Type 0 where
   pub front : List ℕ
@@ -49,7 +50,7 @@ numbers-in file p kind body ns more s e four fits =
 
 -- ---- each table
 
-times-all : (es : List Extent) (duration : ℕ) (file : List ℕ) (p : ℕ) → length es ≤ 1000000 → duration < 2 ^ 32 → Stands file p (codes "stts") (times_body (length es) duration)
+times-all : (es : List Extent) (duration : ℕ) (file : List ℕ) (p : ℕ) → length es ≤ MAX_SAMPLES → duration < 2 ^ 32 → Stands file p (codes "stts") (times_body (length es) duration)
     → times_in file (placed_at (codes "stts") p (length (times_body (length es) duration))) ≡ Ok (one_run es (record { count = length es; duration = duration }))
 times-all [] duration file p few fits s =
     times-read-none file (codes "stts") p (length (times_body 0 duration)) refl (numbers-in file p (codes "stts") (times_body 0 duration) (0 ∷ 0 ∷ []) [] s refl refl (omega arith, (omega arith, tt)))
@@ -101,7 +102,7 @@ far-fit : (es : List Extent) → AllByRecursion (λ e. e.at < 2 ^ 62) es → All
 far-fit [] h = tt
 far-fit (e ∷ es) h = (h.0, far-fit es h.1)
 
-wider : (ns : List ℕ) → AllByRecursion (λ n. n < 2 ^ 62) ns → AllByRecursion (λ n. n < 2 ^ 64) ns
+pub wider : (ns : List ℕ) → AllByRecursion (λ n. n < 2 ^ 62) ns → AllByRecursion (λ n. n < 2 ^ 64) ns
 wider [] h = tt
 wider (n ∷ ns) h = (omega (arith, h.0), wider ns h.1)
 
@@ -124,7 +125,7 @@ held (e ∷ es) = held-ones (places_of (e ∷ es)) 1 (omega arith) ∙ length-ma
 
 -- ---- all tables
 
--- what is asked of the table of places
+-- what must hold of the table of offsets
 pub record IsPlaces (es : List Extent) (kind body : List ℕ) : Type 0 where
   pub node : places_node es ≡ record { kind = kind; body = body }
   pub four : length kind ≡ 4

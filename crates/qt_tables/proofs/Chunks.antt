@@ -1,4 +1,4 @@
--- Which run a chunk is of, and how many samples chunks hold.
+-- The run of a chunk, and the number of samples in chunks.
 use Rattle.std.proofs.Common.{◌≡◌, ℕ, zero, suc, ◌-◌, ◌+◌, ◌*◌, ◌≤◌, ◌<◌, Bool, true, false, nat_le, nat_lt, ◌&&◌, List, [], ◌∷◌, Option, Some, None, length, take, min, ◌/◌, ◌%◌, refl, sym, ap, ◌∙◌, arith, get_or, mod-lt}
 use Rattle.std.specs.Prelude.{slice_get, IfSome}
 use Rattle.std.specs.List.{All}
@@ -110,7 +110,7 @@ chunk-from-at runs number (offset ∷ offsets) zero d lt = ap (λ n. chunk_of of
 chunk-from-at runs number (offset ∷ offsets) (suc c) d lt =
     chunk-from-at runs (number + 1) offsets c d (omega arith) ∙ ap (λ n. chunk_of (get_or offsets c 0) (run_of runs n)) (let e : (number + 1) + c ≡ number + suc c = omega arith in e)
 
--- ---- samples of some chunks
+-- ---- samples of these chunks
 
 -- chunks that hold the same number of samples each
 pub held-more : (cs : List Chunk) (a m samples : ℕ) (d : Chunk) → a + m ≤ length cs → ((k : ℕ) → a ≤ k → k < a + m → (get_or cs k d).samples ≡ samples)
@@ -127,7 +127,7 @@ held-more cs a (suc m) samples d fits same =
     let product : suc m * samples ≡ m * samples + samples = suc-mul m samples in
     ap (λ n. held_by (take n cs)) e ∙ one ∙ (let f : held_by (take (a + m) cs) + (get_or cs (a + m) d).samples ≡ held_by (take a cs) + suc m * samples = omega (arith, before, last, product) in f)
 
--- ---- chunks in front of runs
+-- ---- chunks before runs
 
 front-of : (n : ℕ) (runs : List ChunkRun) (j : ℕ) (d : ChunkRun) → j < length runs → chunks_before n (slice_get runs j) ≡ min ((get_or runs j d).first - 1) n
 front-of n runs j d lt = ap (chunks_before n) (slice_get-get_or runs j d lt)
@@ -154,7 +154,7 @@ ends-before : (n c : ℕ) (next : Option ChunkRun) → c < chunks_before n next 
 ends-before n c None lt = tt
 ends-before n c (Some next) lt = omega arith
 
--- a chunk that lies in front of the next run, and not in front of this one, is of this run
+-- a chunk before the next run, and not before this one, belongs to this run
 pub chunk-of-run : (runs : List ChunkRun) (offsets : List ℕ) (j c : ℕ) (d : ChunkRun) (e : Chunk) → AreRuns runs → j < length runs
     → chunks_before (length offsets) (slice_get runs j) ≤ c → c < chunks_before (length offsets) (slice_get runs (j + 1))
     → get_or (chunks runs offsets) c e ≡ chunk_of (get_or offsets c 0) (get_or runs j d)
@@ -165,7 +165,7 @@ chunk-of-run runs offsets j c d e are lt from to =
     chunk-from-at runs 1 offsets c e (omega (arith, few, to))
     ∙ ap (chunk_of (get_or offsets c 0)) (run-at runs j (1 + c) d are lt begun (ends-before (length offsets) c (slice_get runs (j + 1)) to))
 
--- the samples in front of a chunk of a run
+-- the samples before a chunk of a run
 pub held-in-run : (runs : List ChunkRun) (offsets : List ℕ) (j m : ℕ) (d : ChunkRun) → AreRuns runs → j < length runs
     → chunks_before (length offsets) (slice_get runs j) + m ≤ chunks_before (length offsets) (slice_get runs (j + 1))
     → held_by (take (chunks_before (length offsets) (slice_get runs j) + m) (chunks runs offsets)) ≡ held_before runs offsets j + m * (get_or runs j d).samples
@@ -176,7 +176,7 @@ held-in-run runs offsets j m d are lt fits =
     held-more (chunks runs offsets) (chunks_before (length offsets) (slice_get runs j)) m (get_or runs j d).samples e (omega (arith, few, fits, len))
     (λ k le less. ap (λ (c : Chunk). c.samples) (chunk-of-run runs offsets j k d e are lt le (omega (arith, less, fits))))
 
--- the samples in front of the next run
+-- the samples before the next run
 pub held-next : (runs : List ChunkRun) (offsets : List ℕ) (j a b : ℕ) (d : ChunkRun) → AreRuns runs → j < length runs
     → a ≡ chunks_before (length offsets) (slice_get runs j) → b ≡ chunks_before (length offsets) (slice_get runs (j + 1))
     → held_before runs offsets (j + 1) ≡ held_before runs offsets j + (b - a) * (get_or runs j d).samples
@@ -185,7 +185,7 @@ held-next runs offsets j a b d are lt ea eb =
     let sum : chunks_before (length offsets) (slice_get runs j) + (b - a) ≡ chunks_before (length offsets) (slice_get runs (j + 1)) = omega (arith, rise, ea, eb) in
     ap (λ n. held_by (take n (chunks runs offsets))) (sym sum) ∙ held-in-run runs offsets j (b - a) d are lt (omega (arith, sum))
 
--- no samples are in front of the first run
+-- no samples lie before the first run
 pub held-first : (runs : List ChunkRun) (offsets : List ℕ) → AreRuns runs → 0 ≡ held_before runs offsets 0
 held-first [] offsets are =
     let e : Chunk = chunk_of 0 no_run in
@@ -234,14 +234,14 @@ in-run runs offsets j i d are lt begun ends =
       ends = omega (arith, below, parts, begun);
     }
 
--- all samples are in front of what is behind the last run
+-- the prefix sum after the last run counts all samples
 pub held-all : (runs : List ChunkRun) (offsets : List ℕ) → held_before runs offsets (length runs) ≡ held_by (chunks runs offsets)
 held-all runs offsets =
     let past : slice_get runs (length runs) ≡ None = slice_get_past runs (length runs) (omega arith) in
     let len = length-chunks_from runs 1 offsets in
     ap (λ o. held_by (take (chunks_before (length offsets) o) (chunks runs offsets))) past ∙ ap held_by (take_all (length offsets) (chunks runs offsets) (omega (arith, len)))
 
--- where there are samples, there is a run
+-- if there are samples, there is a run
 pub some-run : (runs : List ChunkRun) (offsets : List ℕ) (i : ℕ) → AreRuns runs → i < held_by (chunks runs offsets) → 1 ≤ length runs
 some-run [] offsets i are lt = absurd (omega (arith, held-first [] offsets are, held-all [] offsets, lt))
 some-run (run ∷ runs) offsets i are lt = omega arith

@@ -1,4 +1,4 @@
--- Reading rows one behind the other, as a loop does.
+-- Reading consecutive rows in a loop.
 use Rattle.std.proofs.Common.{◌≡◌, ℕ, suc, ◌-◌, ◌+◌, ◌*◌, ◌<◌, List, [], ◌∷◌, ◌++◌, Result, Ok, sym, ◌∙◌, append_assoc, arith}
 use Rattle.pw_outside.specs.Reading.{Fault}
 use Rattle.qt_tables.specs.declared.fault.MovieKind.{MovieKind}

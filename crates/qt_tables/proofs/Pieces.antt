@@ -2,7 +2,7 @@
 use Rattle.std.proofs.Common.{◌≡◌, ℕ, ◌-◌, ◌+◌, ◌≤◌, List, take, drop, sym, ap, ◌∙◌, arith}
 use Rattle.std.proofs.lemmas.List.{drop-take, take-take, drop-drop}
 
-part : (xs : List ℕ) (k count held : ℕ) → k + count ≤ held → take count (drop k (take held xs)) ≡ take count (drop k xs)
+pub part : (xs : List ℕ) (k count held : ℕ) → k + count ≤ held → take count (drop k (take held xs)) ≡ take count (drop k xs)
 part xs k count held h =
     let e : held ≡ k + (held - k) = omega arith in
     ap (λ n. take count (drop k (take n xs))) e ∙ ap (take count) (drop-take k (held - k) xs) ∙ take-take count (held - k) (drop k xs) (omega arith)

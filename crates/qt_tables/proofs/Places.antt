@@ -1,4 +1,4 @@
--- Where a sample stands in the list that is written out.
+-- The index of a sample in the expanded list.
 use Rattle.std.proofs.Common.{◌≡◌, ℕ, zero, suc, ◌-◌, ◌+◌, ◌*◌, ◌≤◌, ◌<◌, List, [], ◌∷◌, ◌++◌, Some, length, take, drop, replicate, sum_by, refl, sym, ap, ◌∙◌, arith, length-append, length-take-le, length-take, length-drop, get_or}
 use Rattle.std.specs.Prelude.{slice_get}
 use Rattle.std.proofs.lemmas.List.{length-replicate, get_or-replicate, drop-drop, drop-take, take-take}
@@ -148,7 +148,7 @@ bytes-fit sizes (suc i) small le =
 fields : (s : Sample) (description at size duration : ℕ) → s.description ≡ description → s.at ≡ at → s.size ≡ size → s.duration ≡ duration → sample description at size duration ≡ s
 fields s description at size duration e f g h = rw (← e, ← f, ← g, ← h) refl
 
--- the sample that the code gives is sample i
+-- the sample that the code returns is sample i
 pub sample-is : (cs : List Chunk) (sizes times : List ℕ) (c i from : ℕ) (chunk : Chunk) (s : Sample) → slice_get cs c ≡ Some chunk → from ≡ held_by (take c cs) → from ≤ i → i < from + chunk.samples
     → i < length sizes → length times ≡ length sizes → slice_get times i ≡ Some s.duration
     → s.at ≡ chunk.at + total (take (i - from) (drop from sizes)) → s.size ≡ get_or sizes i 0 → s.description ≡ chunk.description

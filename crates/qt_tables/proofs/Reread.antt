@@ -1,7 +1,7 @@
--- Tables that were written are read.
+-- Written tables are read back.
 use Rattle.std.proofs.Common.{◌≡◌, ℕ, zero, suc, ◌+◌, ◌*◌, ◌≤◌, ◌<◌, ◌^◌, true, false, nat_le, nat_lt, List, [], ◌∷◌, ◌++◌, Some, Ok, length, take, drop, sum_by, refl, sym, ap, ◌∙◌, arith, append_assoc, length-append, get_or}
 use Rattle.std.specs.Prelude.{codes, ◌==◌}
-use Rattle.std.specs.List.{flat_map, list_any, AllByRecursion}
+use Rattle.std.specs.List.{flat_map, AllByRecursion}
 use Rattle.std.specs.Int.{w32, w64, to_be_bytes, from_be_bytes}
 use Rattle.std.proofs.Math.Nat.{mul-suc}
 use Rattle.std.proofs.lemmas.Bool.Decides.{nat_tests}
@@ -17,6 +17,8 @@ use Rattle.qt_tables.specs.declared.runs.ChunkRun.{ChunkRun}
 use Rattle.qt_tables.specs.Samples.{chunks, held_by}
 use Rattle.qt_tables.specs.Tables.{body_length, table_in, count_in, timescale_in, sizes_in, times_in, runs_in, descriptions_of, offsets_in, tables_in}
 use Rattle.qt_tables.specs.Writing.{numbers_bytes}
+use Rattle.qt_tables.proofs.Near.{none-far}
+use Rattle.qt_tables.specs.declared.tables.TheConstants.{MAX_SAMPLES}
 
 -- ---- rows
 
@@ -33,7 +35,7 @@ rows-get row (x ∷ xs) place step d h (suc k) lt =
 abbrev head : (kind body : List ℕ) → List ℕ
 head kind body = to_be_bytes w32 (length body + 8) ++ kind
 
--- the numbers at the front of a body
+-- the numbers at the start of a body
 pub numbers-at : (file G kind ns more rest : List ℕ) (p : ℕ) → file ≡ G ++ (atom kind (numbers_bytes ns ++ more) ++ rest) → length kind ≡ 4 → p ≡ length G → AllByRecursion (λ n. n < 2 ^ 32) ns
     → rows (number_in w32 file) (p + 8) 4 (length ns) ≡ ns
 numbers-at file G kind ns more rest p f four pe fits =
@@ -46,7 +48,7 @@ numbers-at file G kind ns more rest p f four pe fits =
     ∙ ap (λ q. rows (number_in w32 ((G ++ H) ++ (numbers_bytes ns ++ (more ++ rest)))) q 4 (length ns)) place
     ∙ rows_written ns (G ++ H) (more ++ rest) fits
 
--- the long numbers behind two numbers at the front of a body
+-- the 64-bit numbers after two 32-bit numbers at the start of a body
 pub longs-at : (file G kind : List ℕ) (a b : ℕ) (ls rest : List ℕ) (p : ℕ) → file ≡ G ++ (atom kind (numbers_bytes (a ∷ b ∷ []) ++ flat_map (to_be_bytes w64) ls) ++ rest) → length kind ≡ 4 → p ≡ length G → AllByRecursion (λ n. n < 2 ^ 64) ls
     → rows (number_in w64 file) ((p + 8) + 8) 8 (length ls) ≡ ls
 longs-at file G kind a b ls rest p f four pe fits =
@@ -64,16 +66,16 @@ longs-at file G kind a b ls rest p f four pe fits =
 
 -- ---- counts
 
-pub counted : (file : List ℕ) (table : Atom) (before step len count : ℕ) → body_length table ≡ len → number_in w32 file (table.body + before) ≡ count → before + 4 ≤ len → count ≤ 1000000 → before + 4 + step * count ≤ len
+pub counted : (file : List ℕ) (table : Atom) (before step len count : ℕ) → body_length table ≡ len → number_in w32 file (table.body + before) ≡ count → before + 4 ≤ len → count ≤ MAX_SAMPLES → before + 4 + step * count ≤ len
     → count_in file table before step ≡ Ok count
 unfolding count_in bind
 counted file table before step len count l n le few fits =
     let a : nat_lt (body_length table) (before + 4) ≡ false = grind (arith, nat_tests, l) in
-    let b : nat_lt 1000000 count ≡ false = grind (arith, nat_tests) in
+    let b : nat_lt MAX_SAMPLES count ≡ false = grind (arith, nat_tests) in
     let c : nat_lt (body_length table) (before + 4 + step * count) ≡ false = grind (arith, nat_tests, l) in
     rw (a, n, b, c) refl
 
--- an atom at a place with a body of so many bytes
+-- an atom at an offset with a body of `len` bytes
 abbrev pub placed_at : (kind : List ℕ) → (p len : ℕ) → Atom
 placed_at kind p len = record { kind = kind; at = p; body = p + 8; end = p + (len + 8) }
 
@@ -121,43 +123,55 @@ runs-read-none file kind p len descriptions e ns =
     let c = counted file (placed_at kind p len) 4 12 len 0 (body-is kind p len) one (omega (arith, e)) (omega arith) (omega (arith, e)) in
     rw c refl
 
-pub sizes-read : (file : List ℕ) (kind : List ℕ) (p len count : ℕ) (sizes : List ℕ) → length sizes ≡ count → count ≤ 1000000 → len ≡ 12 + 4 * count → rows (number_in w32 file) (p + 8) 4 (length (0 ∷ 0 ∷ count ∷ sizes)) ≡ 0 ∷ 0 ∷ count ∷ sizes
-    → sizes_in file (placed_at kind p len) ≡ Ok sizes
+pub sizes-given : (file : List ℕ) (stsz : Atom) (count : ℕ) (sizes : List ℕ) (len : ℕ) → body_length stsz ≡ len → number_in w32 file (stsz.body + 4) ≡ 0
+    → number_in w32 file (stsz.body + 8) ≡ count → count ≤ MAX_SAMPLES → len ≡ 12 + 4 * count
+    → rows (number_in w32 file) (stsz.body + 12) 4 count ≡ sizes → sizes_in file stsz ≡ Ok sizes
 unfolding sizes_in bind
+sizes-given file stsz count sizes len l c n few e all =
+    rw (c, counted file stsz 8 4 len count l n (omega (arith, e)) few (omega (arith, e)), all) refl
+
+pub sizes-read : (file : List ℕ) (kind : List ℕ) (p len count : ℕ) (sizes : List ℕ) → length sizes ≡ count → count ≤ MAX_SAMPLES → len ≡ 12 + 4 * count → rows (number_in w32 file) (p + 8) 4 (length (0 ∷ 0 ∷ count ∷ sizes)) ≡ 0 ∷ 0 ∷ count ∷ sizes
+    → sizes_in file (placed_at kind p len) ≡ Ok sizes
 sizes-read file kind p len count sizes n few e ns =
     let all = 0 ∷ 0 ∷ count ∷ sizes in
     let one = rows-get (number_in w32 file) all (p + 8) 4 0 ns 1 (omega arith) in
     let two = rows-get (number_in w32 file) all (p + 8) 4 0 ns 2 (omega arith) in
-    let c = counted file (placed_at kind p len) 8 4 len count (body-is kind p len) two (omega (arith, e)) few (omega (arith, e)) in
     let q : (p + 8) + 12 ≡ (((p + 8) + 4) + 4) + 4 = omega arith in
     let rest : rows (number_in w32 file) ((p + 8) + 12) 4 count ≡ sizes = ap (λ m. rows (number_in w32 file) ((p + 8) + 12) 4 m) (sym n) ∙ ap (λ m. rows (number_in w32 file) m 4 (length sizes)) q ∙ ap (drop 3) ns in
-    rw (one, c, rest) refl
+    sizes-given file (placed_at kind p len) count sizes len (body-is kind p len) one two few e rest
 
-pub near-read : (file : List ℕ) (p len count : ℕ) (places : List ℕ) → length places ≡ count → count ≤ 1000000 → len ≡ 8 + 4 * count → rows (number_in w32 file) (p + 8) 4 (length (0 ∷ count ∷ places)) ≡ 0 ∷ count ∷ places
-    → offsets_in file (placed_at (codes "stco") p len) ≡ Ok places
+pub near-given : (file : List ℕ) (p len count : ℕ) (offsets : List ℕ) → number_in w32 file ((p + 8) + 4) ≡ count → count ≤ MAX_SAMPLES → len ≡ 8 + 4 * count
+    → rows (number_in w32 file) ((p + 8) + 8) 4 count ≡ offsets → offsets_in file (placed_at (codes "stco") p len) ≡ Ok offsets
 unfolding offsets_in bind
+near-given file p len count offsets n few e all =
+    let table = placed_at (codes "stco") p len in
+    rw (counted file table 4 4 len count (body-is (codes "stco") p len) n (omega (arith, e)) few (omega (arith, e)), all) refl
+
+pub near-read : (file : List ℕ) (p len count : ℕ) (places : List ℕ) → length places ≡ count → count ≤ MAX_SAMPLES → len ≡ 8 + 4 * count → rows (number_in w32 file) (p + 8) 4 (length (0 ∷ count ∷ places)) ≡ 0 ∷ count ∷ places
+    → offsets_in file (placed_at (codes "stco") p len) ≡ Ok places
 near-read file p len count places n few e ns =
     let all = 0 ∷ count ∷ places in
     let one = rows-get (number_in w32 file) all (p + 8) 4 0 ns 1 (omega arith) in
-    let c = counted file (placed_at (codes "stco") p len) 4 4 len count (body-is (codes "stco") p len) one (omega (arith, e)) few (omega (arith, e)) in
     let q : (p + 8) + 8 ≡ ((p + 8) + 4) + 4 = omega arith in
     let rest : rows (number_in w32 file) ((p + 8) + 8) 4 count ≡ places = ap (λ m. rows (number_in w32 file) ((p + 8) + 8) 4 m) (sym n) ∙ ap (λ m. rows (number_in w32 file) m 4 (length places)) q ∙ ap (drop 2) ns in
-    rw (c, rest) refl
+    near-given file p len count places one few e rest
 
-none-far : (places : List ℕ) → AllByRecursion (λ place. place < 2 ^ 62) places → list_any (λ offset. nat_le (2 ^ 62) offset) places ≡ false
-none-far [] h = refl
-none-far (place ∷ places) h = let e : nat_le (2 ^ 62) place ≡ false = grind (arith, nat_tests, h.0) in rw e (none-far places h.1)
-
-pub far-read : (file : List ℕ) (p len count : ℕ) (places : List ℕ) → length places ≡ count → count ≤ 1000000 → len ≡ 8 + 8 * count → AllByRecursion (λ place. place < 2 ^ 62) places → rows (number_in w32 file) (p + 8) 4 2 ≡ 0 ∷ count ∷ []
-    → rows (number_in w64 file) ((p + 8) + 8) 8 (length places) ≡ places → offsets_in file (placed_at (codes "co64") p len) ≡ Ok places
+pub far-given : (file : List ℕ) (p len count : ℕ) (offsets : List ℕ) → number_in w32 file ((p + 8) + 4) ≡ count → count ≤ MAX_SAMPLES → len ≡ 8 + 8 * count
+    → rows (number_in w64 file) ((p + 8) + 8) 8 count ≡ offsets → AllByRecursion (λ offset. offset < 2 ^ 62) offsets
+    → offsets_in file (placed_at (codes "co64") p len) ≡ Ok offsets
 unfolding offsets_in bind
+far-given file p len count offsets n few e all near =
+    let table = placed_at (codes "co64") p len in
+    rw (counted file table 4 8 len count (body-is (codes "co64") p len) n (omega (arith, e)) few (omega (arith, e)), all, none-far offsets near) refl
+
+pub far-read : (file : List ℕ) (p len count : ℕ) (places : List ℕ) → length places ≡ count → count ≤ MAX_SAMPLES → len ≡ 8 + 8 * count → AllByRecursion (λ place. place < 2 ^ 62) places → rows (number_in w32 file) (p + 8) 4 2 ≡ 0 ∷ count ∷ []
+    → rows (number_in w64 file) ((p + 8) + 8) 8 (length places) ≡ places → offsets_in file (placed_at (codes "co64") p len) ≡ Ok places
 far-read file p len count places n few e near ns ls =
     let one = rows-get (number_in w32 file) (0 ∷ count ∷ []) (p + 8) 4 0 ns 1 (omega arith) in
-    let c = counted file (placed_at (codes "co64") p len) 4 8 len count (body-is (codes "co64") p len) one (omega (arith, e)) few (omega (arith, e)) in
     let rest : rows (number_in w64 file) ((p + 8) + 8) 8 count ≡ places = ap (λ m. rows (number_in w64 file) ((p + 8) + 8) 8 m) (sym n) ∙ ls in
-    rw (c, rest, none-far places near) refl
+    far-given file p len count places one few e rest near
 
--- how many descriptions an `stsd` says there are
+-- the number of descriptions by an `stsd`
 pub descriptions-read : (file G described rest : List ℕ) (p : ℕ) → file ≡ G ++ (atom (codes "stsd") described ++ rest) → p ≡ length G → 8 ≤ length described
     → descriptions_of file (Some (placed_at (codes "stsd") p (length described))) ≡ number_in w32 described 4
 descriptions-read file G described rest p f pe le =
@@ -173,6 +187,11 @@ descriptions-read file G described rest p f pe le =
     rw e here
 
 -- ---- all tables
+
+-- a child of this kind is the table
+pub table-there : (file kind : List ℕ) (parent table : Atom) → child file parent kind ≡ Ok (Some table) → table_in file parent kind ≡ Ok table
+unfolding bind
+table-there file kind parent table h = rw h refl
 
 pub tables-read : (file : List ℕ) (stbl mdia mdhd stsd stts stsc stsz table : Atom) (timescale : ℕ) (sizes : List ℕ) (times : List TimeRun) (runs : List ChunkRun) (offsets : List ℕ)
     → table_in file mdia (codes "mdhd") ≡ Ok mdhd → timescale_in file mdhd ≡ Ok timescale

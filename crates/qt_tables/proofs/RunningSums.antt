@@ -1,9 +1,9 @@
--- Running sums, one item further.
+-- Prefix sums, one item further.
 use Rattle.std.proofs.Common.{◌≡◌, ℕ, zero, suc, ◌+◌, ◌<◌, List, [], ◌∷◌, ◌++◌, refl, ◌∙◌, arith, get_or, below_more, length-append}
 use Rattle.std.proofs.lemmas.List.{get_or_append_left, get_or_push}
 use Rattle.qt_tables.specs.Sums.{AreSums}
 
--- the sum in front of the first item
+-- the sum before the first item
 pub sums-first : (before : ℕ → ℕ) → 0 ≡ before 0 → AreSums 0 before (0 ∷ [])
 sums-first before e = record { count = refl; each = first }
   where

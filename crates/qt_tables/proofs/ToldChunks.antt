@@ -1,5 +1,5 @@
--- The chunks of a track as they are told one by one.
-use Rattle.std.proofs.Common.{◌≡◌, ℕ, zero, suc, ◌+◌, ◌<◌, List, [], ◌∷◌, Some, length, map, refl, ap, ◌∙◌, arith, get_or}
+-- The chunks of a track, read one by one.
+use Rattle.std.proofs.Common.{◌≡◌, ℕ, zero, suc, ◌+◌, ◌<◌, List, [], ◌∷◌, Some, length, map, ap, ◌∙◌, arith, get_or}
 use Rattle.std.specs.Prelude.{slice_get}
 use Rattle.qt_tables.specs.declared.runs.ChunkRun.{ChunkRun}
 use Rattle.qt_tables.specs.declared.chunk_tables.Chunk.{Chunk}
@@ -8,7 +8,7 @@ use Rattle.qt_tables.specs.Samples.{run_of, chunks_from}
 abbrev pub a_chunk : (at samples : ℕ) → Chunk
 a_chunk at samples = record { at = at; samples = samples }
 
--- what is told of a chunk
+-- a chunk as it is returned
 abbrev pub told : (at : ℕ) → ChunkRun → Chunk
 told at run = record { at = at; samples = run.samples }
 

@@ -1,4 +1,4 @@
--- Atoms written round bodies.
+-- Atoms written around bodies.
 use Rattle.std.proofs.Common.{◌≡◌, ℕ, ◌+◌, ◌-◌, ◌*◌, ◌≤◌, ◌<◌, ◌^◌, Bool, true, false, List, [], ◌∷◌, ◌++◌, length, refl, sym, ap, ◌∙◌, arith, append_assoc, length-append}
 use Rattle.std.specs.Prelude.{codes, ◌==◌, if◌then◌else◌}
 use Rattle.std.specs.List.{flat_map}
@@ -60,7 +60,7 @@ four-pieces old a b c d one two three new e f g h =
     ∙ append_assoc ((old ++ a) ++ b) c d ∙ append_assoc (old ++ a) b (c ++ d) ∙ append_assoc old a (b ++ (c ++ d))
     ∙ ap (λ l. old ++ (a ++ (b ++ (c ++ l)))) (sym (append-nil d))
 
--- the four tables, one behind the other
+-- the four tables
 pub four-tables : (es : List Extent) (duration : ℕ) (old one two three new : List ℕ) → one ≡ old ++ atom (codes "stts") (times_body (length es) duration) → two ≡ one ++ atom (codes "stsc") (runs_body (length es))
     → three ≡ two ++ atom (codes "stsz") (sizes_body es) → new ≡ three ++ atom_of (places_node es) → new ≡ old ++ tables_bytes es duration
 unfolding tables_bytes

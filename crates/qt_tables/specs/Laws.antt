@@ -1,4 +1,4 @@
--- Laws: what was written is read again, and the samples of tables are as many as their sizes.
+-- Laws: written tables are read back, and tables have as many samples as sizes.
 use Rattle.std.specs.Prelude.{◌≡◌, ℕ, ◌+◌, ◌<◌, ◌≤◌, ◌^◌, List, ◌++◌, length, codes, Ok}
 use Rattle.std.specs.List.{All}
 use Rattle.std.specs.Int.{w32}
@@ -9,22 +9,23 @@ use Rattle.qt_tables.specs.declared.writer.Extent.{Extent}
 use Rattle.qt_tables.specs.Samples.{Tables, samples}
 use Rattle.qt_tables.specs.Tables.{AreTables, table_in, timescale_in, tables_in}
 use Rattle.qt_tables.specs.Writing.{tables_bytes, written_tables, written_samples}
+use Rattle.qt_tables.specs.declared.tables.TheConstants.{MAX_SAMPLES}
 
--- the samples of tables that agree are as many as their sizes
+-- tables that agree have as many samples as sizes
 abbrev pub SamplesAreCounted : Type 0
 SamplesAreCounted = (t : Tables) → AreTables t → length (samples t) ≡ length t.sizes
 
--- the samples of the tables that were written are those that were given
+-- the samples of written tables are those that were given
 abbrev pub WrittenSamplesAreGiven : Type 0
 WrittenSamplesAreGiven = (es : List Extent) (duration timescale : ℕ) → samples (written_tables es duration timescale) ≡ written_samples es duration
 
--- samples that can be written and read again
+-- samples that can be written and read back
 pub record AreExtents (es : List Extent) : Type 0 where
-  pub few : length es ≤ 1000000
+  pub few : length es ≤ MAX_SAMPLES
   pub near : All (λ e. e.at < 2 ^ 62) es
   pub sized : All (λ e. e.size < 2 ^ 32) es
 
--- Tables that were written behind an `stsd` with a description are read, where the `mdhd` has a time scale.
+-- Tables that were written after an `stsd` with a description are read back, if the `mdhd` has a time scale.
 abbrev pub WrittenTablesAreRead : Type 0
 WrittenTablesAreRead = (front described behind : List ℕ) (es : List Extent) (duration timescale : ℕ) (stbl mdia mdhd : Atom) (file : List ℕ)
     → 8 ≤ length described → length described + 8 < 2 ^ 32 → 1 ≤ number_in w32 described 4 → AreExtents es → duration < 2 ^ 32

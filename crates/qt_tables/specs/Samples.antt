@@ -1,4 +1,4 @@
--- The samples of a track, written out from its tables chunk by chunk (QuickTime File Format, sample tables).
+-- The samples of a track, expanded from its tables chunk by chunk (QuickTime File Format, sample tables).
 use Rattle.std.specs.Prelude.{ℕ, ◌+◌, List, [], ◌∷◌, ◌++◌, take, drop, nat_le, if◌then◌else◌, sum_by, replicate}
 use Rattle.std.specs.List.{flat_map}
 use Rattle.qt_tables.specs.declared.runs.TimeRun.{TimeRun}
@@ -15,7 +15,7 @@ pub record Tables : Type 0 where
   pub times : List TimeRun
   -- runs of chunks with one number of samples and one description
   pub runs : List ChunkRun
-  -- the place of each chunk
+  -- the offset of each chunk
   pub offsets : List ℕ
 
 -- the duration of each sample
@@ -24,18 +24,18 @@ durations times = flat_map (λ r. replicate r.count r.duration) times
 
 -- ---- chunks
 
--- a chunk: its place, the number of its samples and their description
+-- a chunk: its offset, its number of samples and their description
 pub record Chunk : Type 0 where
   pub at : ℕ
   pub samples : ℕ
   pub description : ℕ
 
--- the last of the runs that begins at this chunk or in front of it, and else the run given
+-- the last run that begins at this chunk or before it; the given run if there is none
 abbrev pub run_from : ChunkRun → List ChunkRun → (number : ℕ) → ChunkRun
 run_from run [] number = run
 run_from run (next ∷ runs) number = if nat_le next.first number then run_from next runs number else run
 
--- chunks that no run names have no samples
+-- chunks before the first run have no samples
 abbrev pub no_run : ChunkRun
 no_run = record { first = 1; samples = 0; description = 0 }
 
@@ -55,25 +55,25 @@ chunks_from runs number (offset ∷ offsets) = chunk_of offset (run_of runs numb
 abbrev pub chunks : List ChunkRun → (offsets : List ℕ) → List Chunk
 chunks runs offsets = chunks_from runs 1 offsets
 
--- the tables that tell the chunks of a track
+-- the chunk tables of a track
 pub record ChunkLists : Type 0 where
   -- runs of chunks with one number of samples and one description
   pub runs : List ChunkRun
-  -- the place of each chunk
+  -- the offset of each chunk
   pub offsets : List ℕ
 
--- how many samples some chunks hold
+-- the number of samples in these chunks
 abbrev pub held_by : List Chunk → ℕ
 held_by cs = sum_by (λ c. c.samples) cs
 
 -- ---- samples
 
--- samples of these sizes and durations, one behind the other from a place on
+-- consecutive samples of these sizes and durations, the first at offset `at`
 abbrev pub samples_at : (description at : ℕ) → (sizes durations : List ℕ) → List Sample
 samples_at description at (size ∷ sizes) (duration ∷ durations) = record { at = at; size = size; duration = duration; description = description } ∷ samples_at description (at + size) sizes durations
 samples_at description at _ _ = []
 
--- the samples of some chunks
+-- the samples of these chunks
 abbrev pub samples_in : List Chunk → (sizes durations : List ℕ) → List Sample
 samples_in [] sizes durations = []
 samples_in (c ∷ cs) sizes durations =

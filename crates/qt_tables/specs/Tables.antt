@@ -11,22 +11,23 @@ use Rattle.qt_tables.specs.Faults.{Found, some_or, sized}
 use Rattle.qt_tables.specs.declared.runs.TimeRun.{TimeRun}
 use Rattle.qt_tables.specs.declared.runs.ChunkRun.{ChunkRun}
 use Rattle.qt_tables.specs.Samples.{Tables, ChunkLists, chunks, held_by}
+use Rattle.qt_tables.specs.declared.tables.TheConstants.{MAX_SAMPLES}
 
 abbrev pub body_length : Atom → ℕ
 body_length a = a.end - a.body
 
--- the first child of that kind, without which a table is missing
+-- the first child of this kind; `MissingTable` if there is none
 abbrev pub table_in : List ℕ → Atom → List ℕ → Found Atom
 table_in file parent kind = do
   found ← sized (child file parent kind)
   some_or found MissingTable parent.at
 
--- how many rows of so many bytes a table has: the count stands behind so many bytes of its body, and the rows behind it
+-- the number of rows of a table, each of `step` bytes: its body has `before` bytes, the count, and the rows
 unfoldable pub count_in : List ℕ → Atom → (before step : ℕ) → Found ℕ
 count_in file table before step = do
   _ ← refuse (nat_lt (body_length table) (before + 4)) TableShape table.at
   let count = number_in w32 file (table.body + before)
-  _ ← refuse (nat_lt 1000000 count) TooManySamples table.at
+  _ ← refuse (nat_lt MAX_SAMPLES count) TooManySamples table.at
   _ ← refuse (nat_lt (body_length table) (before + 4 + step * count)) TableShape table.at
   Ok count
 
@@ -42,7 +43,7 @@ timescale_in file mdhd = do
   _ ← refuse (timescale == 0) TableShape mdhd.at
   Ok timescale
 
--- `stsz`: one size for all samples, or, where it is 0, the size of each
+-- `stsz`: one size for all samples, or, if that is 0, the size of each
 unfoldable pub sizes_in : List ℕ → Atom → Found (List ℕ)
 sizes_in file stsz = do
   let common = number_in w32 file (stsz.body + 4)
@@ -66,7 +67,7 @@ abbrev pub begins_at_1 : List ChunkRun → Bool
 begins_at_1 [] = true
 begins_at_1 (run ∷ runs) = run.first == 1
 
--- from a chunk on, first chunks rise, no run has empty chunks, and each names a description that is there
+-- after chunk `from`, first chunks rise, no run has empty chunks, and each names an existing description
 abbrev pub is_in_order : (descriptions from : ℕ) → List ChunkRun → Bool
 is_in_order descriptions from [] = true
 is_in_order descriptions from (run ∷ runs) = nat_lt from run.first && nat_lt 0 run.samples && nat_lt 0 run.description && nat_le run.description descriptions && is_in_order descriptions run.first runs
@@ -79,12 +80,12 @@ runs_in file stsc descriptions = do
   _ ← refuse (not (begins_at_1 runs && is_in_order descriptions 0 runs)) TableShape stsc.at
   Ok runs
 
--- how many descriptions the `stsd` says there are, if there is one
+-- the number of descriptions by the `stsd`, 0 if there is none
 abbrev pub descriptions_of : List ℕ → Option Atom → ℕ
 descriptions_of file None = 0
 descriptions_of file (Some stsd) = if nat_lt (body_length stsd) 8 then 0 else number_in w32 file (stsd.body + 4)
 
--- `stco` or `co64`: the places of the chunks
+-- `stco` or `co64`: the offsets of the chunks
 unfoldable pub offsets_in : List ℕ → Atom → Found (List ℕ)
 offsets_in file table =
     if is_kind (codes "stco") table
@@ -103,7 +104,7 @@ offsets_table_in file stbl = do
   found ← sized (child_of file stbl (codes "stco" ∷ codes "co64" ∷ []))
   some_or found MissingTable stbl.at
 
--- The chunks of a track, or the first fault of the two tables that tell them.
+-- The chunk tables of a track, or the first fault of the two tables.
 unfoldable pub chunk_tables_in : List ℕ → (stbl : Atom) → Found ChunkLists
 chunk_tables_in file stbl = do
   stsc ← table_in file stbl (codes "stsc")
@@ -113,7 +114,7 @@ chunk_tables_in file stbl = do
   offsets ← offsets_in file table
   Ok (record { runs = runs; offsets = offsets })
 
--- The tables of a track, or the first fault: each table is found and judged before the next is looked for.
+-- The tables of a track. They are validated in this order; the first fault is reported.
 unfoldable pub tables_in : List ℕ → (stbl mdia : Atom) → Found Tables
 tables_in file stbl mdia = do
   mdhd ← table_in file mdia (codes "mdhd")
@@ -140,18 +141,18 @@ pub record AreRuns (runs : List ChunkRun) : Type 0 where
 -- Tables within the limits, which agree on the number of samples.
 pub record AreTables (t : Tables) : Type 0 where
   pub timescale : 1 ≤ t.timescale
-  pub few_samples : length t.sizes ≤ 1000000
-  pub few_times : length t.times ≤ 1000000
-  pub few_runs : length t.runs ≤ 1000000
-  pub few_chunks : length t.offsets ≤ 1000000
+  pub few_samples : length t.sizes ≤ MAX_SAMPLES
+  pub few_times : length t.times ≤ MAX_SAMPLES
+  pub few_runs : length t.runs ≤ MAX_SAMPLES
+  pub few_chunks : length t.offsets ≤ MAX_SAMPLES
   pub near : All (λ offset. offset < 2 ^ 62) t.offsets
   pub runs : AreRuns t.runs
   pub timed : sum_by (λ r. r.count) t.times ≡ length t.sizes
   pub chunked : held_by (chunks t.runs t.offsets) ≡ length t.sizes
 
--- Chunks within the limits.
+-- Chunk tables within the limits.
 pub record AreChunkLists (t : ChunkLists) : Type 0 where
-  pub few_runs : length t.runs ≤ 1000000
-  pub few_chunks : length t.offsets ≤ 1000000
+  pub few_runs : length t.runs ≤ MAX_SAMPLES
+  pub few_chunks : length t.offsets ≤ MAX_SAMPLES
   pub near : All (λ offset. offset < 2 ^ 62) t.offsets
   pub runs : AreRuns t.runs

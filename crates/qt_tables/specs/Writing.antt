@@ -1,5 +1,5 @@
--- The tables of samples that lie in chunks of their own, each with the same duration, as they are written
--- (QuickTime File Format, sample table atoms; one entry for all samples is our own).
+-- Written tables of samples in chunks of their own, each with the same duration (QuickTime File Format, sample
+-- table atoms; one entry for all samples is our own).
 use Rattle.std.specs.Prelude.{ℕ, ◌^◌, ◌==◌, nat_lt, Bool, List, [], ◌∷◌, ◌++◌, length, map, codes, if◌then◌else◌}
 use Rattle.std.specs.List.{flat_map, list_all}
 use Rattle.std.specs.Int.{w32, w64, to_be_bytes}
@@ -8,7 +8,7 @@ use Rattle.qt_tables.specs.declared.runs.Sample.{Sample}
 use Rattle.qt_tables.specs.declared.writer.Extent.{Extent}
 use Rattle.qt_tables.specs.Samples.{Tables}
 
--- numbers of 32 bits, one behind the other
+-- consecutive 32-bit numbers
 abbrev pub numbers_bytes : List ℕ → List ℕ
 numbers_bytes ns = flat_map (to_be_bytes w32) ns
 
@@ -18,11 +18,11 @@ sizes_of es = map (λ e. e.size) es
 abbrev pub places_of : List Extent → List ℕ
 places_of es = map (λ e. e.at) es
 
--- `stts`: one run of all samples, where there are any
+-- `stts`: one run of all samples, if there are any
 abbrev pub times_body : (count duration : ℕ) → List ℕ
 times_body count duration = numbers_bytes (if count == 0 then 0 ∷ 0 ∷ [] else 0 ∷ 1 ∷ count ∷ duration ∷ [])
 
--- `stsc`: one sample in each chunk, by the first description
+-- `stsc`: one sample in each chunk, with the first description
 abbrev pub runs_body : (count : ℕ) → List ℕ
 runs_body count = numbers_bytes (if count == 0 then 0 ∷ 0 ∷ [] else 0 ∷ 1 ∷ 1 ∷ 1 ∷ 1 ∷ [])
 
@@ -30,23 +30,23 @@ runs_body count = numbers_bytes (if count == 0 then 0 ∷ 0 ∷ [] else 0 ∷ 1 
 abbrev pub sizes_body : List Extent → List ℕ
 sizes_body es = numbers_bytes (0 ∷ 0 ∷ length es ∷ sizes_of es)
 
--- whether each place has at most 32 bits
+-- whether each offset fits 32 bits
 abbrev pub are_near : List Extent → Bool
 are_near es = list_all (λ e. nat_lt e.at (2 ^ 32)) es
 
--- `stco`: places of 32 bits
+-- `stco`: 32-bit offsets
 abbrev pub near_body : List Extent → List ℕ
 near_body es = numbers_bytes (0 ∷ length es ∷ places_of es)
 
--- `co64`: places of 64 bits
+-- `co64`: 64-bit offsets
 abbrev pub far_body : List Extent → List ℕ
 far_body es = numbers_bytes (0 ∷ length es ∷ []) ++ flat_map (to_be_bytes w64) (places_of es)
 
--- the table of places
+-- the table of offsets
 abbrev pub places_node : List Extent → Node
 places_node es = if are_near es then record { kind = codes "stco"; body = near_body es } else record { kind = codes "co64"; body = far_body es }
 
--- the tables, one behind the other
+-- the four tables
 abbrev pub table_nodes : List Extent → (duration : ℕ) → List Node
 table_nodes es duration =
     record { kind = codes "stts"; body = times_body (length es) duration }
@@ -57,14 +57,14 @@ table_nodes es duration =
 unfoldable pub tables_bytes : List Extent → (duration : ℕ) → List ℕ
 tables_bytes es duration = flat_map atom_of (table_nodes es duration)
 
--- ---- what they say
+-- ---- their meaning
 
--- one run for all samples, where there are any
+-- one run of all samples, if there are any
 abbrev pub one_run : {Run : Type 0} → List Extent → Run → List Run
 one_run [] run = []
 one_run (e ∷ es) run = run ∷ []
 
--- the tables of samples that were written
+-- the written tables
 abbrev pub written_tables : List Extent → (duration timescale : ℕ) → Tables
 written_tables es duration timescale = record {
   timescale = timescale;
@@ -74,6 +74,6 @@ written_tables es duration timescale = record {
   offsets = places_of es;
 }
 
--- the samples that were written
+-- the written samples
 abbrev pub written_samples : List Extent → (duration : ℕ) → List Sample
 written_samples es duration = map (λ e. record { at = e.at; size = e.size; duration = duration; description = 1 }) es

@@ -6,6 +6,7 @@ ghost use Rattle.pw_outside.specs.Reading.{Answers, Told};
 ghost use Rattle.qt_tables.specs.Faults.{told_fault, is_failed};
 ghost use Rattle.qt_tables.specs.Samples.{run_of};
 ghost use Rattle.qt_tables.specs.Tables.{chunk_tables_in, AreChunkLists, AreRuns};
+ghost use Rattle.qt_tables.specs.declared.tables.TheConstants.{MAX_SAMPLES};
 
 use crate::fault::MovieFault;
 use crate::judging::{descriptions_in, offsets_of, offsets_table_of, runs_of, table_of};
@@ -15,16 +16,16 @@ use qt_atoms::{Atom, find};
 use std::alloc::Global;
 use std::marker::Model;
 
-/// A chunk of a track: samples that lie one behind the other.
+/// A chunk of a track: consecutive samples in the file.
 #[derive(Clone, Copy, Debug, PartialEq, Eq)]
 pub struct Chunk {
-    /// The place of its first byte in the file, below 2^62.
+    /// The offset of its first byte in the file, below 2^62.
     pub at: u64,
     /// The number of its samples.
     pub samples: u32,
 }
 
-/// The tables that tell the chunks of a track: at most 1,000,000.
+/// The chunk tables of a track: at most [`MAX_SAMPLES`](crate::MAX_SAMPLES) chunks.
 #[derive(Drop)]
 pub struct ChunkTables {
     runs: Vec<ChunkRun>,
@@ -42,11 +43,12 @@ impl Model for ChunkTables {
     ghost invariant = { λ t. AreChunkLists (record { runs = t.runs.items; offsets = t.offsets.items }) };
 }
 
-/// How many samples the chunk of this number, from 1, has: those of the last run that begins at it or in front of it. Found by halving.
+/// The number of samples of chunk `number`, from 1: that of the last run that begins at it or before it. Binary
+/// search.
 fn samples_of(runs: &[ChunkRun], number: u32) -> u32
     requires from_1 { 1 ≤ number }
     requires runs { AreRuns runs.now }
-    requires few { length runs.now ≤ 1000000 }
+    requires few { length runs.now ≤ MAX_SAMPLES }
     ensures { result ≡ (run_of runs.now number).samples }
 {
     if runs.len() == 0 {
@@ -68,9 +70,10 @@ fn samples_of(runs: &[ChunkRun], number: u32) -> u32
 impl ChunkTables {
     ghost use Rattle.std.specs.Prelude.{◌≡◌, ◌<◌, ◌≤◌, ◌^◌, length, slice_get, Some, map};
     ghost use Rattle.qt_tables.specs.Samples.{chunks};
+    ghost use Rattle.qt_tables.specs.declared.tables.TheConstants.{MAX_SAMPLES};
 
-    /// Reads the tables of the track with this `stbl`: `stsc`, and the first of `stco` and `co64`. Each is found and judged before
-    /// the next is looked for.
+    /// Reads the chunk tables of the track with this `stbl`: `stsc`, and the first of `stco` and `co64`, each
+    /// validated in this order.
     ///
     /// The errors are those of [`crate::SampleTables::read`] for these two tables.
     #[tactic(auto, unfolding(crate::specs::Tables::chunk_tables_in, pw_outside::specs::Reading::bind))]
@@ -81,12 +84,12 @@ impl ChunkTables {
     ) -> Result<ChunkTables, MovieFault>
         requires order { stbl.now.body ≤ stbl.now.end }
         requires inside { Told (M.bytes store.old) (λ file. stbl.now.end ≤ length file) }
-        // Where the store tells its bytes, the answer is the chunks that they tell, or the first fault of their tables.
+        // If the store's bytes are visible, the result is their chunk tables, or the first fault of them.
         ensures value { Told (M.bytes store.old) (λ file. Answers told_fault (λ t. t) result (chunk_tables_in file stbl.now)) }
-        // Told or not, the tables are within the limits.
+        // The tables are within the limits, whether the bytes are visible or opaque.
         ensures tables { IfOk result AreChunkLists }
         ensures bytes { M.bytes store.new ≡ M.bytes store.old }
-        // The error is `Failed` only where a call of the store failed, and each such call is answered by it.
+        // The result is `Failed` exactly if a call of the store failed.
         ensures cause { CountsFault (M.faults store.old) (M.faults store.new) (is_failed result) }
     {
         let stsc = table_of(store, stbl, *b"stsc")?;
@@ -98,15 +101,16 @@ impl ChunkTables {
         Ok(ChunkTables { runs, offsets })
     }
 
-    /// The number of chunks, at most 1,000,000.
+    /// The number of chunks, at most [`MAX_SAMPLES`](crate::MAX_SAMPLES).
     pub fn count(&self) -> u32
         ensures value { result ≡ length self.now.offsets }
-        ensures few { result ≤ 1000000 }
+        ensures few { result ≤ MAX_SAMPLES }
     {
         self.offsets.len() as u32
     }
 
-    /// Chunk i of the track, from 0: its place, and the number of its samples, which is 0 where the `stsc` has no entries. Takes no memory.
+    /// Chunk `i` of the track, from 0: its offset and its number of samples, which is 0 if the `stsc` has no
+    /// entries. Takes no memory.
     pub fn chunk(&self, i: u32) -> Chunk
         requires { i < length self.now.offsets }
         ensures value { slice_get (map (λ c. record { at = c.at; samples = c.samples }) (chunks self.now.runs self.now.offsets)) i ≡ Some result }

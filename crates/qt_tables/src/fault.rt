@@ -1,4 +1,4 @@
-//! Why a movie could not be read.
+//! Errors of reading a movie.
 
 ghost use Rattle.std.specs.Prelude.{◌≡◌};
 ghost use Rattle.qt_tables.specs.declared.fault.MovieFault.TheVariants as faults;
@@ -9,47 +9,47 @@ use qt_atoms::AtomFault;
 use std::alloc::{AllocError, AllocFailed};
 use thiserror::Error;
 
-/// What is wrong with a movie.
+/// Kinds of faults of a movie.
 #[derive(Clone, Copy, Debug, PartialEq, Eq)]
 pub enum MovieKind {
-    /// The size of an atom is below its head, or passes the parent or the file.
+    /// The size of an atom is less than its head, or passes the end of the parent or the file.
     AtomSize,
     /// No movie atom at the top level.
     NoMoov,
     /// The movie atom is compressed.
     Compressed,
-    /// The movie is in fragments.
+    /// The movie is fragmented.
     Fragmented,
-    /// No track with pictures in ProRes alone.
+    /// No track of pictures whose descriptions are all of ProRes.
     NoProResTrack,
-    /// A description's data lies in another file, or nowhere.
+    /// The data of a description lies in another file, or nowhere.
     ExternalData,
-    /// A table that a track needs is wanting.
+    /// A table that a track needs is missing.
     MissingTable,
-    /// A table's body is too short for what it says, or its values are outside what they may be.
+    /// A table's body is too short for its counts, or its values are out of range.
     TableShape,
     /// The tables don't agree on the number of samples.
     TablesDisagree,
-    /// A table of more than 1,000,000 samples or entries.
+    /// A table with more than [`MAX_SAMPLES`](crate::MAX_SAMPLES) samples or entries.
     TooManySamples,
     /// A sample passes the end of the file.
     SampleOutside,
     /// No track of plain PCM sound.
     NoSound,
-    /// The description of the sound is too short, or says a form other than 16 bits and one channel or two.
+    /// The sound description is too short, or its form isn't 16 bits with one or two channels.
     SoundForm,
     /// The chunks of the sound hold more than 4,294,967,250 bytes.
     SoundLong,
-    /// A sample is too large for the head of a data atom of 32 bits.
+    /// A sample is too large for a data atom with a 32-bit size.
     SampleLarge,
-    /// No frame stands anywhere in the file.
+    /// The file has no frame.
     NoFrames,
 }
 
-/// Why a call has nothing of a movie to give.
+/// Why a call on a movie failed.
 #[derive(Clone, Copy, Debug, PartialEq, Eq, Error)]
 pub enum MovieFault {
-    /// The bytes are no movie that can be read; `place` counts from the first byte of the file.
+    /// The bytes are no readable movie; `place` is an offset in the file.
     #[error("Bad")]
     Bad { kind: MovieKind, place: u64 },
     /// A call of the store failed.

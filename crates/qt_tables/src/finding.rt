@@ -1,10 +1,11 @@
-//! A sample, found by halving.
+//! Finds a sample by binary search.
 
 ghost use Rattle.std.specs.Prelude.{◌≡◌, ◌≤◌, ◌<◌, ◌+◌, ◌-◌, ◌/◌, ◌%◌, ◌^◌, Some, length, sum, sum_by, take, drop, slice_get, slice_index};
 ghost use Rattle.std.specs.List.{All};
 ghost use Rattle.qt_tables.specs.Samples.{chunks, durations, held_by};
 ghost use Rattle.qt_tables.specs.Sums.{AreSums, bytes_before, timed_before, held_before, InRun};
 ghost use Rattle.qt_tables.specs.Tables.{AreRuns};
+ghost use Rattle.qt_tables.specs.declared.tables.TheConstants.{MAX_SAMPLES};
 
 use crate::runs::{ChunkRun, Sample, TimeRun};
 use crate::sums::last_begun;
@@ -18,7 +19,7 @@ pub(crate) fn duration_of(times: &[TimeRun], sums: &[u64], i: u32) -> u32
     times[last_begun(sums, u64::from(i))].duration
 }
 
-/// The chunk of a sample: its index, its run, and the index of its first sample.
+/// The chunk that holds a sample: its index, its run, and the index of its first sample.
 #[derive(Clone, Copy)]
 pub(crate) struct Held {
     pub(crate) chunk: usize,
@@ -26,7 +27,7 @@ pub(crate) struct Held {
     pub(crate) first: u32,
 }
 
-/// The chunk of sample i of a run, in front of which are so many samples.
+/// The chunk of sample `i`, which lies in this run, with `before` samples before the run.
 fn held_in(run: ChunkRun, before: u32, i: u32) -> Held
     requires filled { 0 < run.samples }
     requires first { 1 ≤ run.first }
@@ -43,7 +44,7 @@ fn held_in(run: ChunkRun, before: u32, i: u32) -> Held
     }
 }
 
-/// The chunk that holds sample i.
+/// The chunk that holds sample `i`.
 pub(crate) fn held_of(runs: &[ChunkRun], sums: &[u64], offsets: &[u64], i: u32) -> Held
     requires runs { AreRuns runs.now }
     requires sums { AreSums (length runs.now) (held_before runs.now offsets.now) sums.now }
@@ -54,7 +55,7 @@ pub(crate) fn held_of(runs: &[ChunkRun], sums: &[u64], offsets: &[u64], i: u32) 
     held_in(runs[k], sums[k] as u32, i)
 }
 
-/// Sample i, which a chunk holds, with this duration.
+/// Sample `i`, which lies in this chunk and has this duration.
 pub(crate) fn sample_in(
     sizes: &[u32],
     sums: &[u64],
@@ -63,7 +64,7 @@ pub(crate) fn sample_in(
     duration: u32,
     i: u32,
 ) -> Sample
-    requires few { length sizes.now ≤ 1000000 }
+    requires few { length sizes.now ≤ MAX_SAMPLES }
     requires sums { AreSums (length sizes.now) (bytes_before sizes.now) sums.now }
     requires near { All (λ offset. offset < 2 ^ 62) offsets.now }
     requires inside { i < length sizes.now }

@@ -1,4 +1,4 @@
-//! Each sample table, found and judged.
+//! Finds and validates each sample table.
 
 ghost use Rattle.std.specs.Prelude.{nat_le, ◌≡◌, ◌≤◌, ◌<◌, ◌+◌, ◌-◌, ◌*◌, ◌^◌, length, Option, Some, Ok, false, true, IfOk, OnOk, IfSome, codes, ◌&&◌, [], ◌∷◌};
 ghost use Rattle.std.specs.List.{list_any, All};
@@ -8,15 +8,17 @@ ghost use Rattle.pw_outside.specs.Reading.{Answers, Told};
 ghost use Rattle.qt_atoms.specs.Atoms.{number_in, LiesIn};
 ghost use Rattle.qt_tables.specs.Faults.{told_fault, is_failed};
 ghost use Rattle.qt_tables.specs.Tables.{table_in, count_in, timescale_in, sizes_in, times_in, begins_at_1, is_in_order, AreRuns, runs_in, descriptions_of, offsets_in, offsets_table_in};
+ghost use Rattle.qt_tables.specs.declared.tables.TheConstants.{MAX_SAMPLES};
 
 use crate::fault::{MovieFault, MovieKind, bad};
 use crate::rows::{chunk_runs_of, numbers_of, places32_of, places64_of, repeated, time_runs_of};
 use crate::runs::{ChunkRun, TimeRun};
+use crate::tables::MAX_SAMPLES;
 use pw_outside::{ByteStore, fill_at};
 use qt_atoms::{Atom, find, find_either};
 use std::alloc::Global;
 
-/// The byte at a place, which the store has.
+/// The byte at an offset that the store has.
 fn byte_at<M: ByteStore>(store: &mut M, place: u64) -> Result<u8, MovieFault>
     requires inside { Told (M.bytes store.old) (λ file. place + 1 ≤ length file) }
     requires room { place + 1 < 2 ^ 64 }
@@ -32,7 +34,7 @@ fn byte_at<M: ByteStore>(store: &mut M, place: u64) -> Result<u8, MovieFault>
     Ok(u8::from_be_bytes(piece))
 }
 
-/// The number of four bytes at a place, which the store has.
+/// The 32-bit number at an offset that the store has.
 fn number_at<M: ByteStore>(store: &mut M, place: u64) -> Result<u32, MovieFault>
     requires inside { Told (M.bytes store.old) (λ file. place + 4 ≤ length file) }
     requires room { place + 4 < 2 ^ 64 }
@@ -48,7 +50,7 @@ fn number_at<M: ByteStore>(store: &mut M, place: u64) -> Result<u32, MovieFault>
     Ok(u32::from_be_bytes(piece))
 }
 
-/// The first child of that kind, without which a table is missing.
+/// The first child of this kind; `MissingTable` if there is none.
 #[tactic(auto, unfolding(pw_outside::specs::Reading::bind))]
 pub(crate) fn table_of<M: ByteStore>(
     store: &mut M,
@@ -68,7 +70,7 @@ pub(crate) fn table_of<M: ByteStore>(
     }
 }
 
-/// The first table of places.
+/// The first table of chunk offsets.
 #[tactic(auto, unfolding(pw_outside::specs::Reading::bind))]
 pub(crate) fn offsets_table_of<M: ByteStore>(store: &mut M, stbl: &Atom) -> Result<Atom, MovieFault>
     requires order { stbl.now.body ≤ stbl.now.end }
@@ -84,7 +86,7 @@ pub(crate) fn offsets_table_of<M: ByteStore>(store: &mut M, stbl: &Atom) -> Resu
     }
 }
 
-/// How many rows of so many bytes a table has, behind so many bytes and the count.
+/// The number of rows of a table, each of `step` bytes, after `before` bytes and the count.
 #[tactic(auto, unfolding(crate::specs::Tables::count_in, pw_outside::specs::Reading::bind))]
 fn count_of<M: ByteStore>(
     store: &mut M,
@@ -96,7 +98,8 @@ fn count_of<M: ByteStore>(
     requires small { (before ≤ 8) × (step ≤ 12) }
     requires inside { Told (M.bytes store.old) (λ file. table.now.end ≤ length file) }
     ensures value { Told (M.bytes store.old) (λ file. Answers told_fault (λ n. n) result (count_in file table.now before step)) }
-    ensures room { IfOk result (λ n. (n ≤ 1000000) × (table.now.body + before + 4 + step * n ≤ table.now.end) × (table.now.end < 2 ^ 64)) }
+    ensures room { IfOk result (λ n. (n ≤ MAX_SAMPLES)
+        × (table.now.body + before + 4 + step * n ≤ table.now.end) × (table.now.end < 2 ^ 64)) }
     ensures bytes { M.bytes store.new ≡ M.bytes store.old }
     ensures cause { CountsFault (M.faults store.old) (M.faults store.new) (is_failed result) }
 {
@@ -104,7 +107,7 @@ fn count_of<M: ByteStore>(
         return Err(bad(MovieKind::TableShape, table.at));
     }
     let count = number_at(store, table.body + before)?;
-    if 1_000_000 < count {
+    if MAX_SAMPLES < count {
         return Err(bad(MovieKind::TooManySamples, table.at));
     }
     if table.end - table.body < before + 4 + step * count as u64 {
@@ -113,7 +116,7 @@ fn count_of<M: ByteStore>(
     Ok(count as u64)
 }
 
-/// The time scale of an `mdhd`.
+/// Validates an `mdhd` and returns its time scale.
 #[tactic(auto, unfolding(crate::specs::Tables::timescale_in, pw_outside::specs::Reading::bind))]
 pub(crate) fn timescale_of<M: ByteStore>(store: &mut M, mdhd: &Atom) -> Result<u32, MovieFault>
     requires order { mdhd.now.body ≤ mdhd.now.end }
@@ -142,7 +145,7 @@ pub(crate) fn timescale_of<M: ByteStore>(store: &mut M, mdhd: &Atom) -> Result<u
     Ok(timescale)
 }
 
-/// The sizes of an `stsz`.
+/// Validates an `stsz` and returns its sizes.
 #[tactic(auto, unfolding(crate::specs::Tables::sizes_in, crate::specs::Tables::count_in, pw_outside::specs::Reading::bind))]
 pub(crate) fn sizes_of<M: ByteStore>(
     alloc: Global,
@@ -152,7 +155,7 @@ pub(crate) fn sizes_of<M: ByteStore>(
     requires order { stsz.now.body ≤ stsz.now.end }
     requires inside { Told (M.bytes store.old) (λ file. stsz.now.end ≤ length file) }
     ensures value { Told (M.bytes store.old) (λ file. Answers told_fault (λ v. v.items) result (sizes_in file stsz.now)) }
-    ensures few { IfOk result (λ v. length v.items ≤ 1000000) }
+    ensures few { IfOk result (λ v. length v.items ≤ MAX_SAMPLES) }
     ensures bytes { M.bytes store.new ≡ M.bytes store.old }
     ensures cause { CountsFault (M.faults store.old) (M.faults store.new) (is_failed result) }
 {
@@ -168,7 +171,7 @@ pub(crate) fn sizes_of<M: ByteStore>(
     numbers_of(alloc, store, stsz.body + 12, count)
 }
 
-/// The runs of an `stts`.
+/// Validates an `stts` and returns its runs.
 #[tactic(auto, unfolding(crate::specs::Tables::times_in, pw_outside::specs::Reading::bind))]
 pub(crate) fn times_of<M: ByteStore>(
     alloc: Global,
@@ -178,7 +181,7 @@ pub(crate) fn times_of<M: ByteStore>(
     requires order { stts.now.body ≤ stts.now.end }
     requires inside { Told (M.bytes store.old) (λ file. stts.now.end ≤ length file) }
     ensures value { Told (M.bytes store.old) (λ file. Answers told_fault (λ v. v.items) result (times_in file stts.now)) }
-    ensures few { IfOk result (λ v. length v.items ≤ 1000000) }
+    ensures few { IfOk result (λ v. length v.items ≤ MAX_SAMPLES) }
     ensures bytes { M.bytes store.new ≡ M.bytes store.old }
     ensures cause { CountsFault (M.faults store.old) (M.faults store.new) (is_failed result) }
 {
@@ -186,7 +189,7 @@ pub(crate) fn times_of<M: ByteStore>(
     time_runs_of(alloc, store, stts.body + 8, count)
 }
 
-/// Whether runs of chunks begin at 1 and rise, with samples in their chunks and descriptions that are there.
+/// Whether the runs begin at chunk 1 and rise, none has empty chunks, and each names an existing description.
 fn are_runs(runs: &[ChunkRun], descriptions: u32) -> bool
     ensures { result ≡ (begins_at_1 runs.now && is_in_order descriptions 0 runs.now) }
 {
@@ -207,7 +210,7 @@ fn are_runs(runs: &[ChunkRun], descriptions: u32) -> bool
     true
 }
 
-/// The runs of an `stsc`, for so many descriptions.
+/// Validates an `stsc`, for this number of descriptions, and returns its runs.
 #[tactic(auto, unfolding(crate::specs::Tables::runs_in, pw_outside::specs::Reading::bind))]
 pub(crate) fn runs_of<M: ByteStore>(
     alloc: Global,
@@ -218,7 +221,7 @@ pub(crate) fn runs_of<M: ByteStore>(
     requires order { stsc.now.body ≤ stsc.now.end }
     requires inside { Told (M.bytes store.old) (λ file. stsc.now.end ≤ length file) }
     ensures value { Told (M.bytes store.old) (λ file. Answers told_fault (λ v. v.items) result (runs_in file stsc.now descriptions)) }
-    ensures few { IfOk result (λ v. length v.items ≤ 1000000) }
+    ensures few { IfOk result (λ v. length v.items ≤ MAX_SAMPLES) }
     ensures good { IfOk result (λ v. AreRuns v.items) }
     ensures bytes { M.bytes store.new ≡ M.bytes store.old }
     ensures cause { CountsFault (M.faults store.old) (M.faults store.new) (is_failed result) }
@@ -231,7 +234,7 @@ pub(crate) fn runs_of<M: ByteStore>(
     Ok(runs)
 }
 
-/// How many descriptions the `stsd` says there are, if there is one.
+/// The number of descriptions by the `stsd`, 0 if there is none.
 pub(crate) fn descriptions_in<M: ByteStore>(
     store: &mut M,
     stsd: &Option<Atom>,
@@ -253,14 +256,14 @@ pub(crate) fn descriptions_in<M: ByteStore>(
     }
 }
 
-/// Whether a place is 2^62 or behind it.
+/// Whether an offset is 2^62 or more.
 fn has_far(offsets: &[u64]) -> bool
     ensures { result ≡ list_any (λ offset. nat_le (2 ^ 62) offset) offsets.now }
 {
     offsets.iter().any(|offset| *offset >= 1 << 62)
 }
 
-/// The places of an `stco` or a `co64`.
+/// Validates an `stco` or a `co64` and returns its offsets.
 #[tactic(auto, unfolding(crate::specs::Tables::offsets_in, pw_outside::specs::Reading::bind))]
 pub(crate) fn offsets_of<M: ByteStore>(
     alloc: Global,
@@ -270,7 +273,7 @@ pub(crate) fn offsets_of<M: ByteStore>(
     requires order { table.now.body ≤ table.now.end }
     requires inside { Told (M.bytes store.old) (λ file. table.now.end ≤ length file) }
     ensures value { Told (M.bytes store.old) (λ file. Answers told_fault (λ v. v.items) result (offsets_in file table.now)) }
-    ensures few { IfOk result (λ v. length v.items ≤ 1000000) }
+    ensures few { IfOk result (λ v. length v.items ≤ MAX_SAMPLES) }
     ensures near { IfOk result (λ v. All (λ offset. offset < 2 ^ 62) v.items) }
     ensures bytes { M.bytes store.new ≡ M.bytes store.old }
     ensures cause { CountsFault (M.faults store.old) (M.faults store.new) (is_failed result) }

@@ -2,19 +2,19 @@
 
 ghost use Rattle.qt_tables.specs.Laws.{SamplesAreCounted, WrittenSamplesAreGiven, WrittenTablesAreRead};
 
-/// The samples of tables that agree are as many as their sizes.
+/// Tables that agree have as many samples as sizes.
 #[tactic(auto, using(crate::proofs::Again::samples_counted))]
 pub fn samples_are_counted()
     ensures { SamplesAreCounted }
 {}
 
-/// The samples of the tables that were written are those that were given.
+/// The samples of written tables are those that were given.
 
 pub fn written_samples_are_given()
     ensures { WrittenSamplesAreGiven }
 {}
 
-/// Tables that were written are read.
+/// Written tables are read back.
 
 pub fn written_tables_are_read()
     ensures { WrittenTablesAreRead }

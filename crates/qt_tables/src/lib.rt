@@ -1,4 +1,4 @@
-//! The sample tables of a QuickTime track, read and written.
+//! Reads and writes the sample tables of a QuickTime track.
 #![tactic(auto)]
 
 mod chunk_tables;
@@ -10,8 +10,6 @@ mod rows;
 mod runs;
 mod sums;
 mod tables;
-#[cfg(test)]
-mod tests;
 mod window;
 mod writer;
 
@@ -19,5 +17,5 @@ pub use chunk_tables::{Chunk, ChunkTables};
 pub use fault::{MovieFault, MovieKind};
 pub use laws::{samples_are_counted, written_samples_are_given, written_tables_are_read};
 pub use runs::{ChunkRun, Sample, TimeRun};
-pub use tables::SampleTables;
+pub use tables::{MAX_SAMPLES, SampleTables};
 pub use writer::{Extent, TableWriter};

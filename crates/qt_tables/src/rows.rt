@@ -1,4 +1,4 @@
-//! The rows of tables.
+//! Reads the rows of tables.
 
 ghost use Rattle.std.specs.Prelude.{◌≡◌, ◌+◌, ◌*◌, ◌^◌, ◌<◌, ◌≤◌, length, Ok, IfOk, OnOk, replicate, false};
 ghost use Rattle.std.specs.List.{All};
@@ -10,6 +10,7 @@ ghost use Rattle.qt_atoms.specs.Written.{rows};
 ghost use Rattle.qt_tables.specs.Faults.{told_fault, is_failed};
 ghost use Rattle.qt_tables.specs.Tables.{time_run_at, chunk_run_at};
 ghost use Rattle.qt_tables.specs.inner.Window.{Shows};
+ghost use Rattle.qt_tables.specs.declared.tables.TheConstants.{MAX_SAMPLES};
 
 use crate::fault::MovieFault;
 use crate::runs::{ChunkRun, TimeRun};
@@ -17,14 +18,14 @@ use crate::window::{Window, u32_at, u64_at};
 use pw_outside::ByteStore;
 use std::alloc::Global;
 
-/// So many numbers of four bytes, one behind the other.
+/// `count` consecutive 32-bit numbers.
 pub(crate) fn numbers_of<M: ByteStore>(
     alloc: Global,
     store: &mut M,
     from: u64,
     count: u64,
 ) -> Result<Vec<u32>, MovieFault>
-    requires few { count ≤ 1000000 }
+    requires few { count ≤ MAX_SAMPLES }
     requires inside { Told (M.bytes store.old) (λ file. from + 4 * count ≤ length file) }
     requires room { from + 4 * count < 2 ^ 64 }
     ensures value { Told (M.bytes store.old) (λ file. Answers told_fault (λ v. v.items) result (Ok (rows (number_in w32 file) from 4 count))) }
@@ -41,7 +42,7 @@ pub(crate) fn numbers_of<M: ByteStore>(
     Ok(found)
 }
 
-/// The same number so many times.
+/// `number`, `count` times.
 pub(crate) fn repeated(alloc: Global, number: u32, count: u64) -> Result<Vec<u32>, MovieFault>
     ensures value { Answers told_fault (λ v. v.items) result (Ok (replicate count number)) }
     ensures len { IfOk result (λ v. length v.items ≡ count) }
@@ -97,14 +98,14 @@ fn chunk_run_of<M: ByteStore>(
     })
 }
 
-/// So many runs of durations, one behind the other.
+/// `count` consecutive runs of durations.
 pub(crate) fn time_runs_of<M: ByteStore>(
     alloc: Global,
     store: &mut M,
     from: u64,
     count: u64,
 ) -> Result<Vec<TimeRun>, MovieFault>
-    requires few { count ≤ 1000000 }
+    requires few { count ≤ MAX_SAMPLES }
     requires inside { Told (M.bytes store.old) (λ file. from + 8 * count ≤ length file) }
     requires room { from + 8 * count < 2 ^ 64 }
     ensures value { Told (M.bytes store.old) (λ file. Answers told_fault (λ v. v.items) result (Ok (rows (time_run_at file) from 8 count))) }
@@ -121,14 +122,14 @@ pub(crate) fn time_runs_of<M: ByteStore>(
     Ok(found)
 }
 
-/// So many runs of chunks, one behind the other.
+/// `count` consecutive runs of chunks.
 pub(crate) fn chunk_runs_of<M: ByteStore>(
     alloc: Global,
     store: &mut M,
     from: u64,
     count: u64,
 ) -> Result<Vec<ChunkRun>, MovieFault>
-    requires few { count ≤ 1000000 }
+    requires few { count ≤ MAX_SAMPLES }
     requires inside { Told (M.bytes store.old) (λ file. from + 12 * count ≤ length file) }
     requires room { from + 12 * count < 2 ^ 64 }
     ensures value { Told (M.bytes store.old) (λ file. Answers told_fault (λ v. v.items) result (Ok (rows (chunk_run_at file) from 12 count))) }
@@ -145,7 +146,7 @@ pub(crate) fn chunk_runs_of<M: ByteStore>(
     Ok(found)
 }
 
-/// The place of four bytes at a place of a table, which has it.
+/// The 32-bit offset at a position of a table, which has it.
 fn place32_at<M: ByteStore>(
     window: &mut Window,
     store: &mut M,
@@ -164,14 +165,14 @@ fn place32_at<M: ByteStore>(
     Ok(u64::from(u32_at(window, store, place)?))
 }
 
-/// So many places of four bytes, one behind the other.
+/// `count` consecutive 32-bit offsets.
 pub(crate) fn places32_of<M: ByteStore>(
     alloc: Global,
     store: &mut M,
     from: u64,
     count: u64,
 ) -> Result<Vec<u64>, MovieFault>
-    requires few { count ≤ 1000000 }
+    requires few { count ≤ MAX_SAMPLES }
     requires inside { Told (M.bytes store.old) (λ file. from + 4 * count ≤ length file) }
     requires room { from + 4 * count < 2 ^ 64 }
     ensures value { Told (M.bytes store.old) (λ file. Answers told_fault (λ v. v.items) result (Ok (rows (number_in w32 file) from 4 count))) }
@@ -189,14 +190,14 @@ pub(crate) fn places32_of<M: ByteStore>(
     Ok(found)
 }
 
-/// So many places of eight bytes, one behind the other.
+/// `count` consecutive 64-bit offsets.
 pub(crate) fn places64_of<M: ByteStore>(
     alloc: Global,
     store: &mut M,
     from: u64,
     count: u64,
 ) -> Result<Vec<u64>, MovieFault>
-    requires few { count ≤ 1000000 }
+    requires few { count ≤ MAX_SAMPLES }
     requires inside { Told (M.bytes store.old) (λ file. from + 8 * count ≤ length file) }
     requires room { from + 8 * count < 2 ^ 64 }
     ensures value { Told (M.bytes store.old) (λ file. Answers told_fault (λ v. v.items) result (Ok (rows (number_in w64 file) from 8 count))) }

@@ -3,18 +3,18 @@
 /// A run of samples with one duration.
 #[derive(Clone, Copy, Debug, PartialEq, Eq)]
 pub struct TimeRun {
-    /// How many samples.
+    /// The number of samples.
     pub count: u32,
-    /// The duration of each, in units of the time scale.
+    /// The duration of each sample, in units of the time scale.
     pub duration: u32,
 }
 
-/// A run of chunks, up to the next run's first.
+/// A run of chunks, which ends before the next run's first chunk.
 #[derive(Clone, Copy, Debug, PartialEq, Eq)]
 pub struct ChunkRun {
     /// The number of the first chunk, from 1.
     pub first: u32,
-    /// How many samples each chunk holds.
+    /// The number of samples of each chunk.
     pub samples: u32,
     /// The number of the samples' description, from 1.
     pub description: u32,
@@ -23,9 +23,9 @@ pub struct ChunkRun {
 /// A sample of a track.
 #[derive(Clone, Copy, Debug, PartialEq, Eq)]
 pub struct Sample {
-    /// The place of its first byte in the file.
+    /// The offset of its first byte in the file.
     pub at: u64,
-    /// The number of its bytes.
+    /// Its size in bytes.
     pub size: u32,
     /// Its duration, in units of the time scale.
     pub duration: u32,

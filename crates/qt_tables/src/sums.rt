@@ -1,17 +1,18 @@
-//! Running sums over tables, so that a sample is found by halving.
+//! Prefix sums over tables, for binary search.
 
 ghost use Rattle.std.specs.Prelude.{◌≡◌, ◌≤◌, ◌<◌, ◌+◌, ◌-◌, ◌*◌, length, slice_get, slice_index, IfOk, IfErr};
 ghost use Rattle.qt_tables.specs.declared.fault.MovieFault.TheVariants as faults;
 ghost use Rattle.qt_tables.specs.Sums.{AreSums, bytes_before, timed_before, chunks_before, held_before};
 ghost use Rattle.qt_tables.specs.Tables.{AreRuns};
+ghost use Rattle.qt_tables.specs.declared.tables.TheConstants.{MAX_SAMPLES};
 
 use crate::fault::MovieFault;
 use crate::runs::{ChunkRun, TimeRun};
 use std::alloc::Global;
 
-/// The bytes in front of each sample, and of all.
+/// The number of bytes before each sample, and the total.
 pub(crate) fn size_sums(alloc: Global, sizes: &[u32]) -> Result<Vec<u64>, MovieFault>
-    requires few { length sizes.now ≤ 1000000 }
+    requires few { length sizes.now ≤ MAX_SAMPLES }
     ensures value { IfOk result (λ v. AreSums (length sizes.now) (bytes_before sizes.now) v.items) }
     ensures cause { IfErr result (λ e. e ≡ faults.NoMemory) }
 {
@@ -25,9 +26,9 @@ pub(crate) fn size_sums(alloc: Global, sizes: &[u32]) -> Result<Vec<u64>, MovieF
     Ok(sums)
 }
 
-/// The samples in front of each run of durations, and of all.
+/// The number of samples before each run of durations, and the total.
 pub(crate) fn time_sums(alloc: Global, times: &[TimeRun]) -> Result<Vec<u64>, MovieFault>
-    requires few { length times.now ≤ 1000000 }
+    requires few { length times.now ≤ MAX_SAMPLES }
     ensures value { IfOk result (λ v. AreSums (length times.now) (timed_before times.now) v.items) }
     ensures cause { IfErr result (λ e. e ≡ faults.NoMemory) }
 {
@@ -41,7 +42,7 @@ pub(crate) fn time_sums(alloc: Global, times: &[TimeRun]) -> Result<Vec<u64>, Mo
     Ok(sums)
 }
 
-/// Of so many chunks, those in front of run k, or all where there is none.
+/// The number of chunks before run `k`, or `chunks` if there is no run `k`.
 fn chunks_in_front(runs: &[ChunkRun], chunks: u64, k: usize) -> u64
     ensures value { result ≡ chunks_before chunks (slice_get runs.now k) }
     ensures few { result ≤ chunks }
@@ -52,23 +53,23 @@ fn chunks_in_front(runs: &[ChunkRun], chunks: u64, k: usize) -> u64
     }
 }
 
-/// So many samples, and those of so many chunks of a run.
+/// `total` samples plus those of `chunks` chunks of a run.
 fn with_chunks(total: u64, chunks: u64, run: ChunkRun) -> u64
-    requires few { chunks ≤ 1000000 }
-    requires room { total ≤ 4294967295 * 1000000 }
+    requires few { chunks ≤ MAX_SAMPLES }
+    requires room { total ≤ 4294967295 * MAX_SAMPLES }
     ensures value { result ≡ total + chunks * run.samples }
     ensures small { result ≤ total + chunks * 4294967295 }
 {
     total + chunks * u64::from(run.samples)
 }
 
-/// The samples in front of each run of chunks, and of all chunks.
+/// The number of samples before each run of chunks, and the total of all chunks.
 pub(crate) fn run_sums(
     alloc: Global,
     runs: &[ChunkRun],
     offsets: &[u64],
 ) -> Result<Vec<u64>, MovieFault>
-    requires few { length offsets.now ≤ 1000000 }
+    requires few { length offsets.now ≤ MAX_SAMPLES }
     requires runs { AreRuns runs.now }
     ensures value { IfOk result (λ v. AreSums (length runs.now) (held_before runs.now offsets.now) v.items) }
     ensures cause { IfErr result (λ e. e ≡ faults.NoMemory) }
@@ -87,7 +88,7 @@ pub(crate) fn run_sums(
     Ok(sums)
 }
 
-/// The last item in front of which at most so many are, by the sums in front of items.
+/// The last index whose prefix sum is at most `count`. Binary search.
 pub(crate) fn last_begun(sums: &[u64], count: u64) -> usize
     requires some { 2 ≤ length sums.now }
     requires first { slice_index sums.now 0 ≤ count }

@@ -21,7 +21,10 @@ use qt_atoms::{Atom, find};
 use std::alloc::Global;
 use std::marker::Model;
 
-/// The sample tables of a track, which agree on the number of its samples: at most 1,000,000.
+/// The maximum number of samples, and of rows of one table, that a track may have.
+pub const MAX_SAMPLES: u32 = 1_000_000;
+
+/// The sample tables of a track, which agree on its number of samples: at most [`MAX_SAMPLES`].
 #[derive(Drop)]
 pub struct SampleTables {
     timescale: u32,
@@ -47,7 +50,7 @@ impl Model for SampleTables {
     ghost invariant = { λ t. AreTables (record { timescale = t.timescale; sizes = t.sizes.items; times = t.times.items; runs = t.runs.items; offsets = t.offsets.items }) × AreSums (length t.sizes.items) (bytes_before t.sizes.items) t.size_sums.items × AreSums (length t.times.items) (timed_before t.times.items) t.time_sums.items × AreSums (length t.runs.items) (held_before t.runs.items t.offsets.items) t.run_sums.items };
 }
 
-/// Whether runs of durations speak of so many samples.
+/// Whether the runs of durations cover exactly `count` samples.
 fn are_timed(times: &[TimeRun], sums: &[u64], count: usize) -> bool
     requires { AreSums (length times.now) (timed_before times.now) sums.now }
     ensures { result ≡ (sum_by (λ r. r.count) times.now == count) }
@@ -55,7 +58,7 @@ fn are_timed(times: &[TimeRun], sums: &[u64], count: usize) -> bool
     sums[times.len()] == count as u64
 }
 
-/// Whether chunks hold so many samples.
+/// Whether the chunks hold exactly `count` samples.
 fn are_held(runs: &[ChunkRun], offsets: &[u64], sums: &[u64], count: usize) -> bool
     requires { AreSums (length runs.now) (held_before runs.now offsets.now) sums.now }
     ensures { result ≡ (held_by (chunks runs.now offsets.now) == count) }
@@ -66,13 +69,14 @@ fn are_held(runs: &[ChunkRun], offsets: &[u64], sums: &[u64], count: usize) -> b
 impl SampleTables {
     ghost use Rattle.std.specs.Prelude.{◌≡◌, ◌<◌, ◌≤◌, ◌^◌, length, slice_get, Some};
     ghost use Rattle.qt_tables.specs.Samples.{Tables, samples};
+    ghost use Rattle.qt_tables.specs.declared.tables.TheConstants.{MAX_SAMPLES};
 
-    /// Reads the tables of the track with this `stbl` and this `mdia`: `mdhd`, `stsz`, `stts`, `stsc`, and the first of `stco`
-    /// and `co64`. Each is found and judged before the next is looked for.
+    /// Reads the tables of the track with this `stbl` and this `mdia`: `mdhd`, `stsz`, `stts`, `stsc`, and the
+    /// first of `stco` and `co64`, each validated in this order.
     ///
-    /// The errors are `Bad` with the first fault (`AtomSize`, `MissingTable`, `TooManySamples`, `TableShape`, `TablesDisagree`), `Failed`
-    /// where a call of the store failed, and `NoMemory`. A store that doesn't tell its bytes and has fewer than the atoms say is
-    /// `Bad` with `AtomSize` or `TableShape`.
+    /// The errors are `Bad` with the first fault (`AtomSize`, `MissingTable`, `TooManySamples`, `TableShape`,
+    /// `TablesDisagree`), `Failed` if a call of the store failed, and `NoMemory`. If an opaque store has fewer
+    /// bytes than its atoms say, the error is `Bad` with `AtomSize` or `TableShape`.
     #[tactic(auto, unfolding(crate::specs::Tables::tables_in, pw_outside::specs::Reading::bind))]
     pub fn read<M: ByteStore>(
         alloc: Global,
@@ -84,12 +88,12 @@ impl SampleTables {
         requires mdia_order { mdia.now.body ≤ mdia.now.end }
         requires stbl_inside { Told (M.bytes store.old) (λ file. stbl.now.end ≤ length file) }
         requires mdia_inside { Told (M.bytes store.old) (λ file. mdia.now.end ≤ length file) }
-        // Where the store tells its bytes, the answer is the tables that they hold, or their first fault.
+        // If the store's bytes are visible, the result is their tables, or the first fault of them.
         ensures value { Told (M.bytes store.old) (λ file. Answers told_fault (λ t. t) result (tables_in file stbl.now mdia.now)) }
-        // Told or not, the tables are within the limits and agree.
+        // The tables are within the limits and agree, whether the bytes are visible or opaque.
         ensures tables { IfOk result AreTables }
         ensures bytes { M.bytes store.new ≡ M.bytes store.old }
-        // The error is `Failed` only where a call of the store failed, and each such call is answered by it.
+        // The result is `Failed` exactly if a call of the store failed.
         ensures cause { CountsFault (M.faults store.old) (M.faults store.new) (is_failed result) }
     {
         let mdhd = table_of(store, mdia, *b"mdhd")?;
@@ -125,15 +129,15 @@ impl SampleTables {
         })
     }
 
-    /// The number of samples, at most 1,000,000.
+    /// The number of samples, at most [`MAX_SAMPLES`].
     pub fn count(&self) -> u32
         ensures value { result ≡ length self.now.sizes }
-        ensures few { result ≤ 1000000 }
+        ensures few { result ≤ MAX_SAMPLES }
     {
         self.sizes.len() as u32
     }
 
-    /// The units of a duration in a second, at least 1.
+    /// Units of durations per second, at least 1.
     pub fn timescale(&self) -> u32
         ensures value { result ≡ self.now.timescale }
         ensures least { 1 ≤ result }
@@ -141,7 +145,7 @@ impl SampleTables {
         self.timescale
     }
 
-    /// Sample i of the track, from 0. Takes no memory, and finds the sample by halving.
+    /// Sample `i` of the track, from 0, by binary search. Takes no memory.
     pub fn sample(&self, i: u32) -> Sample
         requires { i < length self.now.sizes }
         ensures value { slice_get (samples self.now) i ≡ Some result }

@@ -1,4 +1,4 @@
-//! The bytes of a table, read many at once.
+//! Buffered reading of a table's bytes.
 
 ghost use Rattle.std.specs.Prelude.{◌≡◌, ◌+◌, ◌-◌, ◌^◌, ◌<◌, ◌≤◌, min, length, take, drop, Ok, IfOk, OnOk};
 ghost use Rattle.std.specs.Int.{w32, w64, from_be_bytes};
@@ -11,7 +11,7 @@ ghost use Rattle.qt_tables.specs.inner.Window.{Shows};
 use crate::fault::{MovieFault, MovieKind, bad};
 use pw_outside::{ByteStore, fill_at};
 
-/// Some of a table's bytes: those from a place on, as many of the piece as are held, none at or behind the end.
+/// A read buffer over a table: `piece` holds `held` bytes of the store from offset `from` on, none past `end`.
 #[derive(Drop)]
 pub(crate) struct Window {
     pub(crate) piece: [u8; 4096],
@@ -21,7 +21,7 @@ pub(crate) struct Window {
 }
 
 impl Window {
-    /// Shows nothing yet of a table that ends here.
+    /// An empty window over a table that ends at `end`.
     pub(crate) fn new(end: u64) -> Window
         ensures held { result.held ≡ 0 }
         ensures end { result.end ≡ end }
@@ -35,7 +35,7 @@ impl Window {
     }
 }
 
-/// Moves a window to a place of its table.
+/// Refills the window from an offset of its table.
 fn move_to<M: ByteStore>(window: &mut Window, store: &mut M, place: u64) -> Result<(), MovieFault>
     requires place { place ≤ window.old.end }
     requires inside { Told (M.bytes store.old) (λ file. window.old.end ≤ length file) }
@@ -53,7 +53,7 @@ fn move_to<M: ByteStore>(window: &mut Window, store: &mut M, place: u64) -> Resu
     Ok(())
 }
 
-/// Where in a window's piece the bytes of a row stand, which begins at this place of the table.
+/// The position in the window's piece of the row at an offset of the table.
 fn row_at<M: ByteStore>(
     window: &mut Window,
     store: &mut M,
@@ -81,7 +81,7 @@ fn row_at<M: ByteStore>(
     Ok(0)
 }
 
-/// The number of four bytes of a piece.
+/// The 32-bit number at a position of a piece.
 fn u32_of(piece: &[u8], at: usize) -> u32
     requires { at + 4 ≤ length piece.now }
     ensures { result ≡ from_be_bytes w32 (take 4 (drop at piece.now)) }
@@ -89,7 +89,7 @@ fn u32_of(piece: &[u8], at: usize) -> u32
     u32::from_be_bytes([piece[at], piece[at + 1], piece[at + 2], piece[at + 3]])
 }
 
-/// The number of eight bytes of a piece.
+/// The 64-bit number at a position of a piece.
 fn u64_of(piece: &[u8], at: usize) -> u64
     requires { at + 8 ≤ length piece.now }
     ensures { result ≡ from_be_bytes w64 (take 8 (drop at piece.now)) }
@@ -106,7 +106,7 @@ fn u64_of(piece: &[u8], at: usize) -> u64
     ])
 }
 
-/// The number at a place of a table, which has it.
+/// The 32-bit number at an offset of a table, which has it.
 pub(crate) fn u32_at<M: ByteStore>(
     window: &mut Window,
     store: &mut M,
@@ -125,7 +125,7 @@ pub(crate) fn u32_at<M: ByteStore>(
     Ok(u32_of(&window.piece, at))
 }
 
-/// The number of eight bytes at a place of a table, which has it.
+/// The 64-bit number at an offset of a table, which has it.
 pub(crate) fn u64_at<M: ByteStore>(
     window: &mut Window,
     store: &mut M,

@@ -1,26 +1,28 @@
-//! The sample tables of samples with one duration, written.
+//! Writes the sample tables of samples with one duration.
 
 ghost use Rattle.std.specs.Prelude.{◌≡◌, ◌≤◌, ◌<◌, ◌++◌, true, length, OnOk, codes};
 ghost use Rattle.std.specs.List.{flat_map};
 ghost use Rattle.std.specs.Int.{w64, to_be_bytes};
 ghost use Rattle.qt_atoms.specs.Written.{atom, atom_of};
 ghost use Rattle.qt_tables.specs.Writing.{numbers_bytes, times_body, runs_body, sizes_of, sizes_body, places_of, are_near, near_body, far_body, places_node, tables_bytes};
+ghost use Rattle.qt_tables.specs.declared.tables.TheConstants.{MAX_SAMPLES};
 
 use pw_outside::NoMemory;
 use qt_atoms::AtomWriter;
 use std::alloc::Global;
 use std::marker::Model;
 
-/// The bytes of a sample: where they begin in the file, and how many they are.
+/// The bytes of a sample: their offset in the file and their number.
 #[derive(Clone, Copy, Debug, PartialEq, Eq)]
 pub struct Extent {
-    /// The place of the first byte.
+    /// The offset of the first byte.
     pub at: u64,
     /// The number of bytes.
     pub size: u32,
 }
 
-/// Gathers samples, each in a chunk of its own, and writes their tables. At most 1,000,000.
+/// Collects samples, each in a chunk of its own, and writes their tables. At most
+/// [`MAX_SAMPLES`](crate::MAX_SAMPLES) samples.
 #[derive(Drop)]
 pub struct TableWriter {
     extents: Vec<Extent>,
@@ -29,15 +31,16 @@ pub struct TableWriter {
 impl Model for TableWriter {
     ghost use Rattle.std.specs.Prelude.{List, ◌≤◌, length};
     ghost use Rattle.qt_tables.specs.declared.writer.Extent.{Extent};
+    ghost use Rattle.qt_tables.specs.declared.tables.TheConstants.{MAX_SAMPLES};
 
     ghost Value = { List Extent };
 
     ghost view = { λ w. w.extents.items };
 
-    ghost invariant = { λ w. length w.extents.items ≤ 1000000 };
+    ghost invariant = { λ w. length w.extents.items ≤ MAX_SAMPLES };
 }
 
-/// Appends numbers, one behind the other.
+/// Appends numbers.
 fn put_numbers(atoms: &mut AtomWriter, numbers: &[u32]) -> Result<(), NoMemory>
     ensures { OnOk result (atoms.new ≡ atoms.old ++ numbers_bytes numbers.now) }
 {
@@ -47,7 +50,7 @@ fn put_numbers(atoms: &mut AtomWriter, numbers: &[u32]) -> Result<(), NoMemory>
     Ok(())
 }
 
-/// Appends the sizes, one behind the other.
+/// Appends the sizes.
 fn put_sizes(extents: &[Extent], atoms: &mut AtomWriter) -> Result<(), NoMemory>
     ensures { OnOk result (atoms.new ≡ atoms.old ++ numbers_bytes (sizes_of extents.now)) }
 {
@@ -57,7 +60,7 @@ fn put_sizes(extents: &[Extent], atoms: &mut AtomWriter) -> Result<(), NoMemory>
     Ok(())
 }
 
-/// Appends places of 32 bits, one behind the other.
+/// Appends 32-bit offsets.
 fn put_near(extents: &[Extent], atoms: &mut AtomWriter) -> Result<(), NoMemory>
     requires { are_near extents.now ≡ true }
     ensures { OnOk result (atoms.new ≡ atoms.old ++ numbers_bytes (places_of extents.now)) }
@@ -68,7 +71,7 @@ fn put_near(extents: &[Extent], atoms: &mut AtomWriter) -> Result<(), NoMemory>
     Ok(())
 }
 
-/// Appends places of 64 bits, one behind the other.
+/// Appends 64-bit offsets.
 fn put_far(extents: &[Extent], atoms: &mut AtomWriter) -> Result<(), NoMemory>
     ensures { OnOk result (atoms.new ≡ atoms.old ++ flat_map (to_be_bytes w64) (places_of extents.now)) }
 {
@@ -78,7 +81,7 @@ fn put_far(extents: &[Extent], atoms: &mut AtomWriter) -> Result<(), NoMemory>
     Ok(())
 }
 
-/// Appends the body of the `stts` of so many samples.
+/// Appends the body of the `stts` of `count` samples.
 fn put_times_body(count: u32, duration: u32, atoms: &mut AtomWriter) -> Result<(), NoMemory>
     ensures { OnOk result (atoms.new ≡ atoms.old ++ times_body count duration) }
 {
@@ -88,7 +91,7 @@ fn put_times_body(count: u32, duration: u32, atoms: &mut AtomWriter) -> Result<(
     put_numbers(atoms, &[0, 1, count, duration])
 }
 
-/// Appends the body of the `stsc` of so many samples.
+/// Appends the body of the `stsc` of `count` samples.
 fn put_runs_body(count: u32, atoms: &mut AtomWriter) -> Result<(), NoMemory>
     ensures { OnOk result (atoms.new ≡ atoms.old ++ runs_body count) }
 {
@@ -100,7 +103,7 @@ fn put_runs_body(count: u32, atoms: &mut AtomWriter) -> Result<(), NoMemory>
 
 /// Appends the body of the `stsz`.
 fn put_sizes_body(extents: &[Extent], atoms: &mut AtomWriter) -> Result<(), NoMemory>
-    requires { length extents.now ≤ 1000000 }
+    requires { length extents.now ≤ MAX_SAMPLES }
     ensures { OnOk result (atoms.new ≡ atoms.old ++ sizes_body extents.now) }
 {
     put_numbers(atoms, &[0, 0, extents.len() as u32])?;
@@ -109,7 +112,7 @@ fn put_sizes_body(extents: &[Extent], atoms: &mut AtomWriter) -> Result<(), NoMe
 
 /// Appends the body of the `stco`.
 fn put_near_body(extents: &[Extent], atoms: &mut AtomWriter) -> Result<(), NoMemory>
-    requires few { length extents.now ≤ 1000000 }
+    requires few { length extents.now ≤ MAX_SAMPLES }
     requires near { are_near extents.now ≡ true }
     ensures { OnOk result (atoms.new ≡ atoms.old ++ near_body extents.now) }
 {
@@ -119,14 +122,14 @@ fn put_near_body(extents: &[Extent], atoms: &mut AtomWriter) -> Result<(), NoMem
 
 /// Appends the body of the `co64`.
 fn put_far_body(extents: &[Extent], atoms: &mut AtomWriter) -> Result<(), NoMemory>
-    requires { length extents.now ≤ 1000000 }
+    requires { length extents.now ≤ MAX_SAMPLES }
     ensures { OnOk result (atoms.new ≡ atoms.old ++ far_body extents.now) }
 {
     put_numbers(atoms, &[0, extents.len() as u32])?;
     put_far(extents, atoms)
 }
 
-/// Appends the `stts` of so many samples.
+/// Appends the `stts` of `count` samples.
 fn write_times(count: u32, duration: u32, atoms: &mut AtomWriter) -> Result<(), NoMemory>
     ensures { OnOk result (atoms.new ≡ atoms.old ++ atom (codes "stts") (times_body count duration)) }
 {
@@ -136,7 +139,7 @@ fn write_times(count: u32, duration: u32, atoms: &mut AtomWriter) -> Result<(), 
     Ok(())
 }
 
-/// Appends the `stsc` of so many samples.
+/// Appends the `stsc` of `count` samples.
 fn write_runs(count: u32, atoms: &mut AtomWriter) -> Result<(), NoMemory>
     ensures { OnOk result (atoms.new ≡ atoms.old ++ atom (codes "stsc") (runs_body count)) }
 {
@@ -148,7 +151,7 @@ fn write_runs(count: u32, atoms: &mut AtomWriter) -> Result<(), NoMemory>
 
 /// Appends the `stsz`.
 fn write_sizes(extents: &[Extent], atoms: &mut AtomWriter) -> Result<(), NoMemory>
-    requires { length extents.now ≤ 1000000 }
+    requires { length extents.now ≤ MAX_SAMPLES }
     ensures { OnOk result (atoms.new ≡ atoms.old ++ atom (codes "stsz") (sizes_body extents.now)) }
 {
     let begun = atoms.begin(*b"stsz")?;
@@ -159,7 +162,7 @@ fn write_sizes(extents: &[Extent], atoms: &mut AtomWriter) -> Result<(), NoMemor
 
 /// Appends the `stco`.
 fn write_near(extents: &[Extent], atoms: &mut AtomWriter) -> Result<(), NoMemory>
-    requires few { length extents.now ≤ 1000000 }
+    requires few { length extents.now ≤ MAX_SAMPLES }
     requires near { are_near extents.now ≡ true }
     ensures { OnOk result (atoms.new ≡ atoms.old ++ atom (codes "stco") (near_body extents.now)) }
 {
@@ -171,7 +174,7 @@ fn write_near(extents: &[Extent], atoms: &mut AtomWriter) -> Result<(), NoMemory
 
 /// Appends the `co64`.
 fn write_far(extents: &[Extent], atoms: &mut AtomWriter) -> Result<(), NoMemory>
-    requires { length extents.now ≤ 1000000 }
+    requires { length extents.now ≤ MAX_SAMPLES }
     ensures { OnOk result (atoms.new ≡ atoms.old ++ atom (codes "co64") (far_body extents.now)) }
 {
     let begun = atoms.begin(*b"co64")?;
@@ -180,16 +183,16 @@ fn write_far(extents: &[Extent], atoms: &mut AtomWriter) -> Result<(), NoMemory>
     Ok(())
 }
 
-/// Whether each place has at most 32 bits.
+/// Whether each offset fits 32 bits.
 fn all_near(extents: &[Extent]) -> bool
     ensures { result ≡ are_near extents.now }
 {
     extents.iter().all(|extent| extent.at < 1 << 32)
 }
 
-/// Appends the `stco`, or the `co64` where a place has more than 32 bits.
+/// Appends the `stco`, or the `co64` if an offset needs more than 32 bits.
 fn write_places(extents: &[Extent], atoms: &mut AtomWriter) -> Result<(), NoMemory>
-    requires { length extents.now ≤ 1000000 }
+    requires { length extents.now ≤ MAX_SAMPLES }
     ensures { OnOk result (atoms.new ≡ atoms.old ++ atom_of (places_node extents.now)) }
 {
     if all_near(extents) {
@@ -199,9 +202,9 @@ fn write_places(extents: &[Extent], atoms: &mut AtomWriter) -> Result<(), NoMemo
     }
 }
 
-/// Appends the tables, one behind the other.
+/// Appends the four tables.
 fn write_tables(extents: &[Extent], duration: u32, atoms: &mut AtomWriter) -> Result<(), NoMemory>
-    requires { length extents.now ≤ 1000000 }
+    requires { length extents.now ≤ MAX_SAMPLES }
     ensures { OnOk result (atoms.new ≡ atoms.old ++ tables_bytes extents.now duration) }
 {
     let count = extents.len() as u32;
@@ -214,8 +217,9 @@ fn write_tables(extents: &[Extent], duration: u32, atoms: &mut AtomWriter) -> Re
 
 impl TableWriter {
     ghost use Rattle.std.specs.Prelude.{[], ◌∷◌, OnErr};
+    ghost use Rattle.qt_tables.specs.declared.tables.TheConstants.{MAX_SAMPLES};
 
-    /// No samples yet.
+    /// A writer without samples.
     pub fn new(alloc: Global) -> TableWriter
         ensures { result ≡ [] }
     {
@@ -224,9 +228,9 @@ impl TableWriter {
         }
     }
 
-    /// One more sample, behind the others. After `NoMemory` the samples are as before.
+    /// Appends a sample. After `NoMemory` the samples are unchanged.
     pub fn push(&mut self, at: u64, size: u32) -> Result<(), NoMemory>
-        requires { length self.old < 1000000 }
+        requires { length self.old < MAX_SAMPLES }
         ensures pushed { OnOk result (self.new ≡ self.old ++ record { at = at; size = size } ∷ []) }
         ensures same { OnErr result (self.new ≡ self.old) }
     {

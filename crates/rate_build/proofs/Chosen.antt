@@ -1,4 +1,4 @@
--- Slices coded one after the other, and what each has.
+-- Slices coded in order, and what each has.
 use Rattle.std.proofs.Common.{◌≡◌, ℕ, zero, suc, ◌+◌, ◌-◌, ◌*◌, ◌<◌, ◌≤◌, List, [], ◌∷◌, ◌++◌, length, map, take, drop, get_or, ℤ, pos, nat_abs, refl, sym, ap, ◌∙◌, subst, arith, length-take-le}
 use Rattle.std.specs.List.{All, AllZip}
 use Rattle.std.proofs.lemmas.List.{length-map, get_or_default}
@@ -49,7 +49,7 @@ coded_more w slices choice i s d coded x within number is made so_far =
     let one : coded ++ x ∷ [] ≡ coded_slices w (take i slices) (take i choice) ++ coded_slice w (get_or choice i 0) s ∷ [] = λ j. so_far j ++ made j ∷ [] in
     one ∙ sym (coded_push w (take i slices) (take i choice) s (get_or choice i 0) same) ∙ sym (λ j. coded_slices w (a j) (b j))
 
--- the slices from a place on, and the first ones
+-- the slices from an index on, and the first ones
 coded_drop : (w : Weights) (slices : List SliceCoefficients) (choice : List ℕ) (m : ℕ) → length choice ≡ length slices → coded_slices w (drop m slices) (drop m choice) ≡ drop m (coded_slices w slices choice)
 coded_drop w slices choice zero e = refl
 coded_drop w [] [] (suc m) e = refl

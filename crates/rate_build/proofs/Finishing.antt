@@ -1,4 +1,4 @@
--- The measure of an index, of its state behind all places.
+-- The measure of an index, from its state after all positions.
 use Rattle.std.proofs.Common.{◌≡◌, ℕ, ◌+◌, ◌-◌, ◌*◌, ◌/◌, ◌<◌, ◌≤◌, List, [], ◌∷◌, length, drop, map, get_or, ℤ, pos, refl, sym, ap, ◌∙◌, arith}
 use Rattle.std.specs.List.{All}
 use Rattle.std.proofs.lemmas.Nat.{mul-le}

@@ -19,7 +19,7 @@ use Rattle.rate_build.specs.Measures.{quantised_block}
 use Rattle.rate_build.specs.inner.Walk.{start_state, level_at, taken, after_value, after_blocks, after_places, size_at}
 use Rattle.rate_build.proofs.Walking.{value_none, value_some}
 
--- the state behind n places with these values
+-- the state after n positions with these values
 pub record Follows (n : ℕ) (vs : List ℤ) (st : State) : Type 0 where
   pub behind : st.behind ≤ n
   pub known : Known vs st.bits (n - st.behind) st.run_class st.level_class
@@ -94,7 +94,7 @@ module _ (ms : List ℕ) (blocks : List (List ℤ)) where
       let place : from + i + 1 ≡ from + suc i = omega arith in
       subst (λ n. Follows n (vs ++ take (suc i) col) (after_value (from + i) (nat_abs c) m now)) place (subst (λ l. Follows (from + i + 1) l (after_value (from + i) (nat_abs c) m now)) list one)
 
--- ---- places
+-- ---- positions
 
 module _ (scan weights : List ℕ) (blocks : List (List ℤ)) (index : ℕ) (is : IsScan scan) (whole : length weights ≡ 64) where
   abbrev pub part : List (List ℤ)
@@ -123,7 +123,7 @@ module _ (scan weights : List ℕ) (blocks : List (List ℤ)) (index : ℕ) (is 
       let place : k * n + n ≡ suc k * n = omega arith in
       subst (λ i. Follows i (listed (take (suc k) (drop 1 scan)) part) (after_blocks blocks p m (k * n) n st)) place (subst (λ l. Follows (k * n + n) l (after_blocks blocks p m (k * n) n st)) list one)
 
-  -- behind all places the bits are those of all words
+  -- after all positions the bits are those of all codewords
   pub all_bits : (after_places scan weights blocks (scale_of index) 63 start_state).bits ≡ length (ac_words 4 2 0 (listed (drop 1 scan) part))
   all_bits =
       let f = places_follow 63 (omega arith) in

@@ -1,4 +1,4 @@
--- A frame of chosen slices: what its tables, its pictures and its length are.
+-- The tables, the pictures and the length of a frame of chosen slices.
 use Rattle.std.proofs.Common.{◌≡◌, ℕ, ◌+◌, ◌-◌, ◌*◌, ◌^◌, ◌<◌, List, length, map, take, drop, get_or, sum, sym, ap, ◌∙◌, subst, arith}
 use Rattle.std.specs.List.{All, Contains}
 use Rattle.std.proofs.lemmas.List.{length-map}
@@ -96,7 +96,7 @@ module _ (c : FrameCoefficients) (h : FrameHeader) (tables : List (List Entry)) 
           one-length (picture_length h.interlace h.alpha) (coded_frame c h choice).pictures k picture (picture_within c h choice k lt) (picture_at c h choice k lt picture),
         )
 
--- ---- those of a picture, as the code takes them: from a place on, so many
+-- ---- those of a picture, as the code takes them: a given number from an index on
 
 pub part_same : {A : Type 0} (xs ys : List A) (count place n k : ℕ) → xs ≡ ys → count ≡ n → place ≡ k → take (count * place + count - count * place) (drop (count * place) xs) ≡ take n (drop (n * k) ys)
 part_same xs ys count place n k same count_is place_is =

@@ -1,4 +1,4 @@
--- What the states gain is what the squares of coefficients lose to their errors.
+-- The gains of the states are the squares of the coefficients minus their errors.
 use Rattle.std.proofs.Common.{◌≡◌, ℕ, zero, suc, ◌+◌, ◌*◌, ◌<◌, ◌≤◌, inl, inr, List, [], ◌∷◌, length, map, get_or, ℤ, pos, nat_abs, refl, sym, ap, ◌∙◌, arith}
 use Rattle.std.specs.List.{sum, sum_by, range_with_len}
 use Rattle.std.proofs.lemmas.Bool.{cases_lt}
@@ -72,7 +72,7 @@ unfolding sum_blocks
 sum_same f g zero h = refl
 sum_same f g (suc n) h = omega (arith, sum_same f g n h, h n)
 
--- place by place or block by block
+-- position by position or block by block
 turned_sum : (e : ℕ → ℕ → ℕ) (ps : List ℕ) (n : ℕ) → sum (map (λ p. sum_blocks (e p) n) ps) ≡ sum_blocks (λ i. sum (map (λ p. e p i) ps)) n
 turned_sum e [] n = sym (sum_nothing n)
 turned_sum e (p ∷ ps) n =
@@ -97,7 +97,7 @@ sum_listed : (g : List ℤ → ℕ) (blocks : List (List ℤ)) → sum_blocks (�
 sum_listed g [] = sum_zero (λ i. g [])
 sum_listed g (b ∷ blocks) = omega (arith, sum_first (λ i. g (get_or (b ∷ blocks) i [])) (length blocks), sum_listed g blocks, sum_by-cons g b blocks)
 
--- the places of a scan are all places
+-- the positions of a scan are all positions
 all_places : (scan : Scan) (f : ℕ → ℕ) → sum_blocks (λ k. f (get_or (places scan) (k + 1) 0)) 63 + f 0 ≡ sum (map f (range_with_len 0 64))
 unfolding sum_blocks
 all_places Progressive f = omega arith
@@ -111,7 +111,7 @@ module _ (weights : List ℕ) (blocks : List (List ℤ)) (index : ℕ) (whole : 
   unfolding multipliers
   multiplier_at p h = sym (get_or-map (λ (w : ℕ). w * scale_of index) weights p 0 0 (omega arith))
 
-  -- the errors of all blocks at a place
+  -- the errors of all blocks at a position
   abbrev errors : ℕ → ℕ
   errors p = sum_blocks (error_at blocks p (get_or ms p 0)) (length blocks)
 
@@ -131,7 +131,7 @@ module _ (weights : List ℕ) (blocks : List (List ℤ)) (index : ℕ) (whole : 
   unfolding part_error block_error
   part_is = turned_sum (λ p i. error_at blocks p (get_or ms p 0) i) (range_with_len 0 64) (length blocks) ∙ sum_listed (block_error ms) blocks
 
-  -- what all coefficients gain, and their errors, are their squares
+  -- the gains of all coefficients and their errors add up to their squares
   pub part_gain : (scan : Scan) → IsScan (places scan) → (after_places (places scan) weights blocks (scale_of index) 63 start_state).gain + dc_gain blocks (get_or weights 0 0 * scale_of index) (length blocks) + part_error weights index blocks
       ≡ squares_behind (places scan) blocks 63 + squares_at blocks 0 (length blocks)
   part_gain scan is =

@@ -1,4 +1,4 @@
--- The entries of a slice, joined of the measures of its parts.
+-- The entries of a slice, joined from the measures of its parts.
 use Rattle.std.proofs.Common.{◌≡◌, ℕ, ◌+◌, ◌-◌, ◌<◌, List, [], ◌∷◌, ◌++◌, length, map, take, get_or, ℤ, refl, sym, ap, ◌∙◌, arith}
 use Rattle.std.specs.List.{range_with_len}
 use Rattle.std.proofs.lemmas.List.{ext_get_or, get_or-take}
@@ -28,7 +28,7 @@ joined_more beside y cb cr lo i k entries e same index size error so_far =
     let one : entries ++ e ∷ [] ≡ map (joined_entry beside y cb cr lo) (range_with_len 0 i) ++ joined_entry beside y cb cr lo i ∷ [] = λ j. so_far j ++ entry j ∷ [] in
     one ∙ sym (map-range_with_len_more (joined_entry beside y cb cr lo) 0 i i (omega arith))
 
--- the measure at place k is the one of index lo + k
+-- the measure at index k is the one of quantisation index lo + k
 measure_is : (scan weights : List ℕ) (blocks : List (List ℤ)) (lo hi : ℕ) (measures : List Measure) (k : ℕ) → take (hi + 1 - lo) measures ≡ all_measured scan weights blocks lo hi → k < hi + 1 - lo
     → get_or measures k no_measure ≡ measured scan weights blocks (lo + k)
 measure_is scan weights blocks lo hi measures k is h =

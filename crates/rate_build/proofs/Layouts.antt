@@ -1,4 +1,4 @@
--- The coefficients of a picture are of its layout.
+-- The coefficients of a picture have its layout.
 use Rattle.std.proofs.Common.{◌≡◌, ℕ, ◌+◌, ◌-◌, ◌*◌, ◌/◌, ◌%◌, ◌^◌, ◌<◌, ◌≤◌, inl, inr, List, [], ◌∷◌, ◌++◌, length, map, min, get_or, ℤ, pos, nat_abs, Option, None, Some, refl, sym, ◌∙◌, subst, arith, lit<}
 use Rattle.std.specs.List.{All, AllZip, Contains, flat_map, range_with_len}
 use Rattle.std.proofs.lemmas.Int.{ints}
@@ -199,7 +199,7 @@ field_is depth alpha p parity are =
       has_alpha = field_alpha alpha p.alpha parity are.has_alpha;
     }
 
--- two pictures, the one behind the other
+-- two pictures in order
 both_are : (l : Layout) (depth : Depth) (alpha : AlphaKind) (p q : Planes) → ArePlanes depth alpha p → ArePlanes depth alpha q
     → AllZip (IsSliceAt l.chroma alpha) (slices_of l ++ (slices_of l ++ [])) (picture_coefficients l depth p ++ (picture_coefficients l depth q ++ []))
 both_are l depth alpha p q first second =

@@ -1,4 +1,4 @@
--- How long coded frames are, and their slices.
+-- The lengths of coded frames and of their slices.
 use Rattle.std.proofs.Common.{◌≡◌, ℕ, zero, suc, ◌+◌, ◌-◌, ◌*◌, List, [], ◌∷◌, length, map, take, drop, refl, sym, ap, ◌∙◌, subst, arith, length-take-le}
 use Rattle.std.specs.List.{Contains, sum, range_with_len}
 use Rattle.std.proofs.lemmas.List.{length-map, length-drop, drop-drop, take-append-drop, map-append, nil_from_length}
@@ -54,7 +54,7 @@ coded_number w (s ∷ slices) (i ∷ choice) e = omega (arith, coded_number w sl
 -- ---- pictures
 
 module _ (mode : Interlace) (alpha : AlphaKind) (log2 n : ℕ) (all : List CodedSlice) where
-  -- the picture of a number, n slices each
+  -- the picture of an index, n slices each
   abbrev pub part : ℕ → CodedPicture
   part k = record { log2 = log2; slices = take n (drop (n * k) all) }
 

@@ -8,6 +8,7 @@ use Rattle.std.proofs.lemmas.List.FromFn.{get_or-map-range_with_len, length-map-
 use Rattle.pw_planes.specs.declared.kinds.AlphaKind.{AlphaKind}
 use Rattle.pw_planes.specs.declared.kinds.AlphaKind.TheVariants.{Absent, Eight, Sixteen}
 use Rattle.pw_planes.specs.declared.kinds.Interlace.{Interlace}
+use Rattle.pr_geom.specs.declared.places.TheConstants.{MAX_SLICES}
 use Rattle.pr_geom.specs.declared.layout.Layout.{Layout}
 use Rattle.pr_geom.specs.Faults.{slice_count}
 use Rattle.pr_geom.specs.Layout.{slices_of, columns_of, rows_of}
@@ -23,7 +24,8 @@ use Rattle.rate_table.specs.Table.{IsEntry, IndicesRise, IsSliceTable}
 use Rattle.rate_build.specs.declared.slices.SliceCoefficients.{SliceCoefficients}
 use Rattle.rate_build.specs.Tables.{entry_of, entries_of, fixed_bytes, HasParts, AreWeights}
 use Rattle.rate_build.specs.Laws.{AreMatrices, TableIsTable}
-use Rattle.rate_build.proofs.Small.{part_short, part_error_within, mode_scan}
+use Rattle.pr_frame.proofs.Standing.{scan-is}
+use Rattle.rate_build.proofs.Small.{part_short, part_error_within}
 use Rattle.rate_build.proofs.Whole.{parts_of, frame_slices, pictures_few}
 
 -- ---- a slice
@@ -44,9 +46,9 @@ module _ (mode : Interlace) (alpha : AlphaKind) (w : Weights) (whole : AreMatric
     index_from = least;
     index_to = most;
     size =
-        let y = part_short w.luma index whole.luma weights.luma least most (scan_of mode) (mode_scan mode) s.y parts.y in
-        let cb = part_short w.chroma index whole.chroma weights.chroma least most (scan_of mode) (mode_scan mode) s.cb parts.cb in
-        let cr = part_short w.chroma index whole.chroma weights.chroma least most (scan_of mode) (mode_scan mode) s.cr parts.cr in
+        let y = part_short w.luma index whole.luma weights.luma least most (scan_of mode) (scan-is mode) s.y parts.y in
+        let cb = part_short w.chroma index whole.chroma weights.chroma least most (scan_of mode) (scan-is mode) s.cb parts.cb in
+        let cr = part_short w.chroma index whole.chroma weights.chroma least most (scan_of mode) (scan-is mode) s.cr parts.cr in
         let coded = coded_slice w index s in
         let n = least_slice_header (has_alpha alpha) + length (component_bytes mode coded.y) + length (component_bytes mode coded.cb) + length (component_bytes mode coded.cr) in
         let short = with-short alpha s.alpha n parts.values (omega (arith, header_small alpha, y, cb, cr)) in
@@ -80,7 +82,7 @@ slices_some l =
     let rows = pictures_whole l.interlace l.height a.some_rows a.whole in
     picture_some (rows_of l) (columns_of l) l.log2 (omega arith) (omega (arith, a.some_columns))
 
-slices_few : (l : Layout) → length (slices_of l) ≤ 65535
+slices_few : (l : Layout) → length (slices_of l) ≤ MAX_SLICES
 unfolding slice_count
 slices_few l = l.allowed.slices
 

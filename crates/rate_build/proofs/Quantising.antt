@@ -1,4 +1,4 @@
--- A block quantised place by place, and a part block by block.
+-- A block quantised position by position, and a part block by block.
 use Rattle.std.proofs.Common.{◌≡◌, ℕ, ◌+◌, ◌-◌, ◌<◌, ◌≤◌, List, [], length, map, take, get_or, ℤ, pos, nat_abs, set, to_z, of_z, w16, refl, sym, ap, ◌∙◌, subst, arith}
 use Rattle.std.specs.List.{sum_by, range_with_len}
 use Rattle.std.proofs.lemmas.List.{get_or-map, ext_get_or, length-map, get_or-take, length-take-le}
@@ -17,7 +17,7 @@ pub block_filled : (ms : List ℕ) (block values : List ℤ) → length values �
 unfolding quantised_block
 block_filled ms block values whole each = fill_by_all (λ p. quantised (get_or block p (pos 0)) (get_or ms p 0)) values 64 (pos 0) whole each
 
--- blocks that stand at the front of others
+-- blocks that are a prefix of others
 pub blocks_filled : (ms : List ℕ) (blocks quantised : List (List ℤ)) → length blocks ≤ length quantised
     → ((k : ℕ) → k < length blocks → get_or quantised k [] ≡ quantised_block ms (get_or blocks k [])) → take (length blocks) quantised ≡ map (quantised_block ms) blocks
 blocks_filled ms blocks quantised room each =

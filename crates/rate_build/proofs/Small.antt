@@ -1,4 +1,4 @@
--- How large quantised values, errors and components are.
+-- Bounds of quantised values, errors and components.
 use Rattle.std.proofs.Common.{◌≡◌, ℕ, ◌+◌, ◌*◌, ◌-◌, ◌^◌, ◌<◌, ◌≤◌, inl, inr, List, [], ◌∷◌, length, map, take, get_or, ℤ, pos, nat_abs, refl, sym, ap, ◌∙◌, subst, arith}
 use Rattle.std.specs.List.{All}
 use Rattle.std.proofs.Math.Nat.{mul-le-mul_right}
@@ -32,7 +32,7 @@ scale_range index least most = elim (cases_lt 128 index) [
   | inr h ↦ rw (le-leb index 128 h) (least, omega arith)
 ]
 
--- a product of a weight and a factor of an index
+-- a product of a weight and a scale of an index
 product_range : (w f : ℕ) → (2 ≤ w) × (w ≤ 63) → (1 ≤ f) × (f ≤ 512) → IsFrameMultiplier (w * f)
 product_range w f weight factor = record {
   least = omega (arith, mul-le 2 1 w f weight.0 factor.0);
@@ -91,11 +91,6 @@ module _ (weights : List ℕ) (index : ℕ) (whole : length weights ≡ 64) (ran
       omega (arith, cost, n, are.few)
 
 -- ---- measures
-
-pub mode_scan : (mode : Interlace) → IsScan (scan_of mode)
-mode_scan Progressive = is_scan scans.Progressive
-mode_scan TopFirst = is_scan scans.Interlaced
-mode_scan BottomFirst = is_scan scans.Interlaced
 
 pub measures_small : (scan weights : List ℕ) (blocks : List (List ℤ)) (lo hi : ℕ) (measures : List Measure) → IsScan scan → length weights ≡ 64 → All IsWeight weights → ArePart blocks → 1 ≤ lo → hi ≤ 224
     → take (hi + 1 - lo) measures ≡ all_measured scan weights blocks lo hi → AreSmall measures (hi + 1 - lo)

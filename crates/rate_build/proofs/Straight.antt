@@ -58,7 +58,7 @@ module _ (mode : Interlace) (alpha : AlphaKind) (w : Weights) (s : SliceCoeffici
         get_or-map-range_with_len f lo n (index - lo) index no_entry (omega (arith, from.least, from.most)) (omega (arith, from.least)) in
         ap (λ k. (get_or (map f (range_with_len lo n)) (index - k) no_entry).size) (first_of lo n some) ∙ ap (λ (e : Entry). e.size) at
 
--- ---- slices in turn
+-- ---- slices in order
 
 module _ (mode : Interlace) (alpha : AlphaKind) (w : Weights) (lo hi : ℕ) where
   reach_all : (slices : List SliceCoefficients) (choice : List ℕ) → length choice ≡ length slices → All (IsFrom lo hi) choice → AllZip Reaches (map (entries_of mode alpha w lo hi) slices) choice
@@ -91,7 +91,7 @@ module _ (mode : Interlace) (alpha : AlphaKind) (w : Weights) (slices : List Sli
   pub tables_number : length tables ≡ length slices
   tables_number = ap length are.tables_are ∙ length-map slices (entries_of mode alpha w are.lo are.hi)
 
-  -- those of a picture: n from number m on
+  -- those of a picture: n from index m on
   pub chosen_range : (m n : ℕ) → AreChosen mode alpha w (take n (drop m slices)) (take n (drop m tables)) (take n (drop m choice))
   chosen_range m n =
       let f = entries_of mode alpha w are.lo are.hi in
@@ -115,7 +115,7 @@ module _ (mode : Interlace) (alpha : AlphaKind) (w : Weights) (slices : List Sli
       ap (λ l. picture_header_bytes size count log2 ++ sizes_bytes l ++ flat_map (slice_bytes mode alpha) (coded_slices w slices choice)) chosen_lengths
       ∙ picture-whole mode alpha (picture log2) size count (coded_slices w slices choice) e (f ∙ sym (coded_number w slices choice are.number)) refl
 
--- ---- at one place of a loop
+-- ---- at one iteration of a loop
 
 pub coded_at : (w : Weights) (slices : List SliceCoefficients) (choice : List ℕ) (i : ℕ) (d : SliceCoefficients) (e : CodedSlice) → length choice ≡ length slices → i < length slices
     → get_or (coded_slices w slices choice) i e ≡ coded_slice w (get_or choice i 0) (get_or slices i d)

@@ -10,6 +10,8 @@ use Rattle.pw_planes.specs.declared.kinds.Interlace.{Interlace}
 use Rattle.pw_planes.specs.declared.kinds.Interlace.TheVariants.{Progressive, TopFirst, BottomFirst}
 use Rattle.pw_planes.specs.declared.kinds.AlphaKind.{AlphaKind}
 use Rattle.pw_planes.specs.declared.kinds.Chroma.{Chroma}
+use Rattle.rate_table.specs.declared.table.TheConstants.{MAX_TABLE_SLICES}
+use Rattle.pr_geom.specs.declared.places.TheConstants.{MAX_SLICES}
 use Rattle.pr_geom.specs.declared.layout.Layout.{Layout}
 use Rattle.pr_geom.specs.declared.places.SlicePlace.{SlicePlace}
 use Rattle.pr_geom.specs.declared.places.Part.TheVariants.{Y}
@@ -37,7 +39,7 @@ parts_of chroma alpha [] (s ∷ slices) h = absurd h
 parts_of chroma alpha (p ∷ places) [] h = absurd h
 parts_of chroma alpha (p ∷ places) (s ∷ slices) h = All-cons HasParts s slices (record { y = h.0.y_part; cb = h.0.cb_part; cr = h.0.cr_part; values = few_values chroma alpha p s h.0 }) (parts_of chroma alpha places slices h.1)
 
--- how many slices a frame has
+-- the number of slices of a frame
 repeated : (l : Layout) (mode : Interlace) → length (flat_map (λ picture. slices_of l) (range_with_len 0 (pictures_of mode))) ≡ pictures_of mode * length (slices_of l)
 repeated l Progressive = omega (arith, length-append (slices_of l) [])
 repeated l TopFirst = omega (arith, length-append (slices_of l) (slices_of l ++ []), length-append (slices_of l) [])
@@ -57,7 +59,7 @@ pictures_few Progressive = (omega arith, omega arith)
 pictures_few TopFirst = (omega arith, omega arith)
 pictures_few BottomFirst = (omega arith, omega arith)
 
-pub frame_slices : (c : FrameCoefficients) → AreOfLayout c → 1 ≤ length (slices_of c.layout) → length (slices_of c.layout) ≤ 65535 → (1 ≤ length c.slices) × (length c.slices ≤ 131070)
+pub frame_slices : (c : FrameCoefficients) → AreOfLayout c → 1 ≤ length (slices_of c.layout) → length (slices_of c.layout) ≤ MAX_SLICES → (1 ≤ length c.slices) × (length c.slices ≤ MAX_TABLE_SLICES)
 frame_slices c h some few =
     let n = slices_number c h in
     let p = pictures_few c.layout.interlace in
@@ -76,6 +78,6 @@ choice_error (s ∷ slices) (e ∷ choice) each h =
     let rest = choice_error slices choice (All-tail IsSliceTable s slices each) h.1 in
     omega (arith, limits, rest, sum_by-cons (λ (x : Entry). x.error) e choice)
 
--- the error of a choice of at most 131,070 slices
-pub choice_error_small : (slices : List (List Entry)) (choice : List Entry) → All IsSliceTable slices → length slices ≤ 131070 → IsChoice slices choice → error_of choice < 2 ^ 60
+-- the error of a choice of at most `MAX_TABLE_SLICES` slices
+pub choice_error_small : (slices : List (List Entry)) (choice : List Entry) → All IsSliceTable slices → length slices ≤ MAX_TABLE_SLICES → IsChoice slices choice → error_of choice < 2 ^ 60
 choice_error_small slices choice each few h = omega (arith, choice_error slices choice each h, mul-le-mul_right (2 ^ 43) few)

@@ -10,7 +10,7 @@ use Rattle.rate_build.specs.declared.slices.SliceCoefficients.{SliceCoefficients
 use Rattle.rate_build.specs.Coefficients.{FrameCoefficients}
 use Rattle.rate_build.specs.Tables.{entries_of}
 
--- the tables of a frame's slices: what each costs at each index from one to another
+-- the tables of a frame's slices: the cost of each at each index from `lo` to `hi`
 pub record AreTablesOf (c : FrameCoefficients) (w : Weights) (slices : List (List Entry)) : Type 0 where
   pub lo : ℕ
   pub hi : ℕ
@@ -18,7 +18,7 @@ pub record AreTablesOf (c : FrameCoefficients) (w : Weights) (slices : List (Lis
   pub most : hi ≤ 224
   pub tables : slices ≡ map (entries_of c.layout.interlace c.alpha w lo hi) c.slices
 
--- indices of a choice of these slices, of so few bytes that a frame's length is a number of 32 bits
+-- indices of a choice of these slices, with so few bytes that a frame's length is a number of 32 bits
 pub record IsPart (slices : List (List Entry)) (choice : List ℕ) : Type 0 where
   pub entries : List Entry
   pub is_choice : IsChoice slices entries
@@ -27,7 +27,7 @@ pub record IsPart (slices : List (List Entry)) (choice : List ℕ) : Type 0 wher
 
 -- ---- slices with their tables, and an index of each
 
--- an index from one to another
+-- an index from `lo` to `hi`
 pub record IsFrom (lo : ℕ) (hi : ℕ) (index : ℕ) : Type 0 where
   pub least : lo ≤ index
   pub most : index ≤ hi
@@ -57,7 +57,7 @@ pub record Reaches (table : List Entry) (index : ℕ) : Type 0 where
 abbrev pub size_in : List Entry → ℕ → ℕ
 size_in table index = (get_or table (index - first_index table) no_entry).size
 
--- the size that each of these tables has at its own index
+-- the size of each of these tables at its own index
 abbrev pub sizes_in : List (List Entry) → List ℕ → List ℕ
 sizes_in [] choice = []
 sizes_in (table ∷ tables) [] = []

@@ -1,4 +1,4 @@
--- A frame coded by a choice of quantisation indices, one a slice.
+-- A frame coded with a choice of quantisation indices, one per slice.
 use Rattle.std.specs.Prelude.{◌≡◌, ℕ, ◌*◌, ◌≤◌, List, [], ◌∷◌, length, map, take, drop}
 use Rattle.std.specs.List.{range_with_len}
 use Rattle.pr_geom.specs.Layout.{slices_of}
@@ -32,7 +32,7 @@ coded_slices w (s ∷ slices) (index ∷ choice) = coded_slice w index s ∷ cod
 abbrev pub weights_in : FrameHeader → Weights
 weights_in h = record { luma = h.luma; chroma = h.chroma_weights }
 
--- the coded picture of a number: as many slices as each picture has, behind those of the pictures before it
+-- the coded picture of an index: as many slices as each picture has, after those of the pictures before it
 abbrev pub coded_picture : FrameCoefficients → List CodedSlice → ℕ → CodedPicture
 coded_picture c slices k = record {
   log2 = c.layout.log2;

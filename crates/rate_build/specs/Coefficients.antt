@@ -28,15 +28,15 @@ use Rattle.rate_build.specs.Measures.{ArePart}
 
 -- ---- blocks and slices
 
--- the coefficients of the block of a plane with its corner at a place
+-- the coefficients of the block of a plane with its corner at a position
 unfoldable pub coefficients_at : Raster → Depth → ℕ × ℕ → List ℤ
 coefficients_at plane depth corner = coefficients (block_at plane corner.0 corner.1 depth)
 
--- the coefficients of the blocks that a part of a slice has in its plane
+-- the coefficients of the blocks of a part of a slice in its plane
 unfoldable pub part_coefficients : Raster → Depth → Chroma → Part → SlicePlace → List (List ℤ)
 part_coefficients plane depth chroma part slice = map (coefficients_at plane depth) (blocks_of chroma part slice)
 
--- the alpha values of a slice, where there is a plane of alpha: its 16 rows from the left
+-- the alpha values of a slice, if there is an alpha plane: its 16 rows from the left
 unfoldable pub alpha_values : Option Raster → SlicePlace → List ℕ
 alpha_values None slice = []
 alpha_values (Some plane) slice = raster (16 * slice.width) 16 (λ column row. sample_at plane (16 * slice.column + column) (16 * slice.row + row))
@@ -80,11 +80,11 @@ slice_coefficients p depth chroma slice = record {
 unfoldable pub picture_coefficients : Layout → Depth → Planes → List SliceCoefficients
 picture_coefficients l depth p = map (slice_coefficients p depth l.chroma) (slices_of l)
 
--- those of all slices of a frame: of the first coded picture, and then of the second
+-- those of all slices of a frame: of the first coded picture, then of the second
 abbrev pub frame_coefficients : Picture → Layout → List SliceCoefficients
 frame_coefficients p l = flat_map (picture_coefficients l p.depth) (coded_pictures l.interlace (planes_of p))
 
--- ---- what coefficients are of
+-- ---- the conditions on coefficients
 
 -- a slice has the blocks and the alpha values of its place in the layout
 pub record IsSliceAt (chroma : Chroma) (alpha : AlphaKind) (place : SlicePlace) (s : SliceCoefficients) : Type 0 where
@@ -97,7 +97,7 @@ pub record IsSliceAt (chroma : Chroma) (alpha : AlphaKind) (place : SlicePlace) 
   pub cr_part : ArePart s.cr
   pub alpha_range : All (λ value. value < 2 ^ alpha_depth alpha) s.alpha
 
--- where the slices of a frame lie: those of the first coded picture, and then those of the second
+-- the places of the slices of a frame: those of the first coded picture, then those of the second
 abbrev pub frame_places : Layout → List SlicePlace
 frame_places l = flat_map (λ picture. slices_of l) (range_with_len 0 (pictures_of l.interlace))
 
@@ -111,7 +111,7 @@ pub record FrameCoefficients : Type 0 where
 abbrev pub AreOfLayout : FrameCoefficients → Type 0
 AreOfLayout c = AllZip (IsSliceAt c.layout.chroma c.alpha) (frame_places c.layout) c.slices
 
--- ---- what pictures are of
+-- ---- the conditions on pictures
 
 -- the samples of a plane are of this depth
 abbrev pub HasDepth : Raster → Depth → Type 0

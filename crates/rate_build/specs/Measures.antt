@@ -1,5 +1,5 @@
--- What a part of a slice costs at a quantisation index: the bytes of its component, and its squared error (the component is
--- that of SMPTE RDD 36, scanned coefficients; the error, in coefficients, is our own).
+-- The cost of a part of a slice at a quantisation index: the bytes of its component, and its squared error (the
+-- component is that of SMPTE RDD 36, scanned coefficients; the error, in coefficients, is our own).
 use Rattle.std.specs.Prelude.{◌≡◌, ℕ, ◌+◌, ◌-◌, ◌^◌, ◌<◌, ◌≤◌, List, length, map, get_or, ℤ, pos}
 use Rattle.std.specs.List.{All, range_with_len}
 use Rattle.pr_dct.specs.Transform.{AreWithin}
@@ -13,7 +13,7 @@ pub record IsFrameMultiplier (m : ℕ) : Type 0 where
   pub least : 2 ≤ m
   pub most : m ≤ greatest_multiplier
 
--- a block quantised, each coefficient by the multiplier at its place
+-- a block quantised, each coefficient by the multiplier at its position
 unfoldable pub quantised_block : List ℕ → List ℤ → List ℤ
 quantised_block ms block = map (λ p. quantised (get_or block p (pos 0)) (get_or ms p 0)) (range_with_len 0 64)
 
@@ -21,7 +21,7 @@ quantised_block ms block = map (λ p. quantised (get_or block p (pos 0)) (get_or
 unfoldable pub quantised_part : List ℕ → ℕ → List (List ℤ) → List (List ℤ)
 quantised_part weights index blocks = map (quantised_block (multipliers weights index)) blocks
 
--- what a part costs at an index: the bytes of its component in the order of the scan, and its squared error
+-- the cost of a part at an index: the bytes of its component in scan order, and its squared error
 abbrev pub measured : List ℕ → List ℕ → List (List ℤ) → ℕ → Measure
 measured scan weights blocks index = record {
   bytes = length (component scan (quantised_part weights index blocks));

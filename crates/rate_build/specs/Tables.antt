@@ -1,4 +1,4 @@
--- The table of a frame: what each slice costs at each quantisation index (our own).
+-- The table of a frame: the cost of each slice at each quantisation index (our own).
 use Rattle.std.specs.Prelude.{ℕ, ◌+◌, ◌-◌, ◌*◌, ◌<◌, ◌≤◌, List, length, map, get_or}
 use Rattle.std.specs.List.{All, range_with_len}
 use Rattle.pw_planes.specs.declared.kinds.AlphaKind.{AlphaKind}
@@ -18,7 +18,7 @@ use Rattle.rate_build.specs.Measures.{ArePart, no_measure}
 use Rattle.rate_build.specs.Coefficients.{FrameCoefficients}
 use Rattle.rate_build.specs.Coding.{coded_slice}
 
--- the bytes of a slice that is quantised at an index, its header with them
+-- the bytes of a slice that is quantised at an index, including its header
 abbrev pub slice_size : Interlace → AlphaKind → Weights → SliceCoefficients → ℕ → ℕ
 slice_size mode alpha w s index = slice_length mode alpha (coded_slice w index s)
 
@@ -26,15 +26,15 @@ slice_size mode alpha w s index = slice_length mode alpha (coded_slice w index s
 abbrev pub slice_error : Weights → SliceCoefficients → ℕ → ℕ
 slice_error w s index = part_error w.luma index s.y + part_error w.chroma index s.cb + part_error w.chroma index s.cr
 
--- what a slice costs at an index
+-- the cost of a slice at an index
 abbrev pub entry_of : Interlace → AlphaKind → Weights → SliceCoefficients → ℕ → Entry
 entry_of mode alpha w s index = record { index = index; size = slice_size mode alpha w s index; error = slice_error w s index }
 
--- what a slice costs at each index from `lo` to `hi`
+-- the cost of a slice at each index from `lo` to `hi`
 unfoldable pub entries_of : Interlace → AlphaKind → Weights → ℕ → ℕ → SliceCoefficients → List Entry
 entries_of mode alpha w lo hi s = map (entry_of mode alpha w s) (range_with_len lo (hi + 1 - lo))
 
--- the entry at an index, joined of what its three parts cost there and of the bytes beside them
+-- the entry at an index, joined from the costs of its three parts there and the bytes apart from them
 abbrev pub joined_entry : ℕ → List Measure → List Measure → List Measure → ℕ → ℕ → Entry
 joined_entry beside y cb cr lo k = record {
   index = lo + k;
@@ -42,8 +42,8 @@ joined_entry beside y cb cr lo k = record {
   error = (get_or y k no_measure).error + (get_or cb k no_measure).error + (get_or cr k no_measure).error;
 }
 
--- the bytes that a frame has whatever its indices are: the frame's header of 156 bytes, and for each picture a header of 8
--- bytes and two bytes a slice
+-- the bytes of a frame that don't depend on its indices: the frame's header of 156 bytes, and for each picture a
+-- header of 8 bytes and two bytes a slice
 abbrev pub fixed_bytes : Layout → ℕ
 fixed_bytes l = 156 + pictures_of l.interlace * (8 + 2 * length (slices_of l))
 
@@ -67,6 +67,6 @@ pub record AreWeights (w : Weights) : Type 0 where
   pub luma : All IsWeight w.luma
   pub chroma : All IsWeight w.chroma
 
--- an entry of a slice that can be written: its size has a place in a table of sizes
+-- an entry of a slice that can be written: its size fits a table of sizes
 abbrev pub IsShort : Entry → Type 0
 IsShort e = e.size < 65535

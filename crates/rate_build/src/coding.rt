@@ -9,13 +9,14 @@ ghost use Rattle.rate_build.specs.Measures.{quantised_part, ArePart};
 ghost use Rattle.rate_build.specs.Coding.{coded_slice, coded_slices, coded_picture, coded_frame, weights_in, IsHeaderOf, IsIndex};
 ghost use Rattle.rate_build.specs.Tables.{HasParts, AreWeights};
 
-use crate::costs::{multipliers_of, quantise_block};
+use crate::costs::quantise_block;
 use crate::slices::{Coefficients, SliceCoefficients};
 use pr_coeff::Block;
 use pr_frame::{
     AlphaValues, Blocks, CodedFrame, CodedPicture, CodedPictures, CodedSlice, CodedSlices,
 };
 use pr_head::FrameHeader;
+use pr_quant::multipliers_of;
 use pw_outside::NoMemory;
 use std::alloc::{AllocError, Global};
 
@@ -89,7 +90,7 @@ fn slices_at(
     Ok(coded)
 }
 
-/// The coded picture of a number, each slice quantised at its own index.
+/// The coded picture of an index, each slice quantised at its own index.
 fn picture_at(
     alloc: Global,
     coefficients: &Coefficients,
@@ -144,11 +145,11 @@ fn frame_at(
     })
 }
 
-/// The frame of these coefficients with this header, each slice quantised at its own index, from 1 to 224, by the weights
-/// of the header. The header has the size and the form of the coefficients; its other fields are such that the frame can be
-/// written.
+/// The frame of these coefficients with this header, each slice quantised at its own index, from 1 to 224, by the
+/// weights of the header. The header has the size and the form of the coefficients; its other fields are such that
+/// the frame can be written.
 ///
-/// The error says that memory ran out.
+/// The error is that memory ran out.
 pub fn coded(
     alloc: Global,
     coefficients: &Coefficients,

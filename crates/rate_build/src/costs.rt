@@ -1,4 +1,4 @@
-//! What a part of a slice costs at each quantisation index.
+//! The cost of a part of a slice at each quantisation index.
 
 ghost use Rattle.std.specs.Prelude.{◌≡◌, ◌+◌, ◌-◌, ◌*◌, ◌^◌, ◌<◌, ◌≤◌, ℕ, length, slice_index, take, map, nat_abs};
 ghost use Rattle.std.specs.List.{All, sum_by};
@@ -10,16 +10,10 @@ ghost use Rattle.pr_quant.specs.Errors.{multipliers, block_error, part_error};
 ghost use Rattle.rate_build.specs.Measures.{quantised_block, quantised_part, all_measured, IsFrameMultiplier, IsCoefficientBlock, ArePart};
 
 use crate::walk::{Measuring, measure_part};
-#[cfg(test)]
-use pr_coeff::component_length;
 use pr_coeff::{Block, Scan};
-use pr_quant::{quantise, scale, squared_error};
+use pr_quant::{quantise, squared_error};
 
-/// The most blocks that a part of a slice has.
-#[cfg(test)]
-const MOST_BLOCKS: usize = 32;
-
-/// What a part of a slice costs at an index.
+/// The cost of a part of a slice at an index.
 #[derive(Clone, Copy, Debug, Default, PartialEq, Eq)]
 pub struct Measure {
     /// The bytes of its component.
@@ -28,21 +22,7 @@ pub struct Measure {
     pub error: u64,
 }
 
-/// The multiplier at each place of a block.
-pub(crate) fn multipliers_of(weights: &[u8; 64], index: u8) -> [u32; 64]
-    requires least { 1 ≤ index }
-    requires most { index ≤ 224 }
-    ensures { result ≡ multipliers weights.now index }
-{
-    let factor = scale(index);
-    let mut products = [0; 64];
-    for place in 0..64 {
-        products[place] = u32::from(weights[place]) * factor;
-    }
-    products
-}
-
-/// A coefficient quantised, and the square of what it loses.
+/// A coefficient quantised, and its squared error.
 fn quantise_value(value: i16, multiplier: u32) -> (i16, u64)
     requires value { nat_abs value ≤ greatest_coefficient }
     requires multiplier { IsFrameMultiplier multiplier }
@@ -56,7 +36,7 @@ fn quantise_value(value: i16, multiplier: u32) -> (i16, u64)
     (size as i16, squared_error(value, size, multiplier))
 }
 
-/// Writes a block quantised, and gives the sum of its squared errors.
+/// Writes a block quantised, and returns the sum of its squared errors.
 pub(crate) fn quantise_block(block: &Block, multipliers: &[u32; 64], quantised: &mut Block) -> u64
     requires block { AreWithin greatest_coefficient block.now }
     requires multipliers { (p : ℕ) → p < 64 → IsFrameMultiplier (slice_index multipliers.now p) }
@@ -73,7 +53,7 @@ pub(crate) fn quantise_block(block: &Block, multipliers: &[u32; 64], quantised: 
     error
 }
 
-/// Writes the blocks of a part quantised, and gives the sum of their squared errors.
+/// Writes the blocks of a part quantised, and returns the sum of their squared errors.
 pub(crate) fn quantise_blocks(
     blocks: &[Block],
     multipliers: &[u32; 64],
@@ -94,30 +74,9 @@ pub(crate) fn quantise_blocks(
     error
 }
 
-/// What a part costs where a block's coefficients have these multipliers. The first blocks of `quantised` are used.
-#[cfg(test)]
-fn measure_at(
-    blocks: &[Block],
-    multipliers: &[u32; 64],
-    scan: Scan,
-    quantised: &mut [Block],
-) -> Measure
-    requires part { ArePart blocks.now }
-    requires room { length blocks.now ≤ length quantised.old }
-    requires multipliers { (p : ℕ) → p < 64 → IsFrameMultiplier (slice_index multipliers.now p) }
-    ensures bytes { result.bytes ≡ length (component (places scan) (map (quantised_block multipliers.now) blocks.now)) }
-    ensures error { result.error ≡ sum_by (block_error multipliers.now) blocks.now }
-{
-    let error = quantise_blocks(blocks, multipliers, quantised);
-    Measure {
-        bytes: component_length(&quantised[..blocks.len()], scan),
-        error,
-    }
-}
-
-/// What a part costs at each index from `lo` to `hi`: the measure of index `lo + i` is written at place `i`. There are
-/// 1 to 32 blocks of coefficients of magnitude at most 16,383, and as many measures as indices, which are from 1 to 224;
-/// the weights are from 2 to 63. No memory is taken.
+/// The cost of a part at each index from `lo` to `hi`: the measure of index `lo + i` is written at index `i` of the
+/// slice. There are 1 to 32 blocks of coefficients of magnitude at most 16,383, and as many measures as
+/// quantisation indices, which are from 1 to 224; the weights are from 2 to 63. No memory is taken.
 pub fn measure_all(
     blocks: &[Block],
     weights: &[u8; 64],
@@ -136,29 +95,4 @@ pub fn measure_all(
 {
     let measuring = Measuring::new(lo, hi);
     measure_part(blocks, weights, scan, &measuring, measures);
-}
-
-/// The same, index by index: the plain program, for tests.
-#[cfg(test)]
-pub(crate) fn measure_each(
-    blocks: &[Block],
-    weights: &[u8; 64],
-    scan: Scan,
-    lo: u8,
-    hi: u8,
-    measures: &mut [Measure],
-)
-    requires part { ArePart blocks.now }
-    requires weights { All IsWeight weights.now }
-    requires least { 1 ≤ lo }
-    requires order { lo ≤ hi }
-    requires most { hi ≤ 224 }
-    requires room { length measures.old ≡ hi + 1 - lo }
-    ensures { measures.new ≡ all_measured (places scan) weights.now blocks.now lo hi }
-{
-    let mut quantised = [[0; 64]; MOST_BLOCKS];
-    for i in 0..measures.len() {
-        let multipliers = multipliers_of(weights, lo + i as u8);
-        measures[i] = measure_at(blocks, &multipliers, scan, &mut quantised);
-    }
 }

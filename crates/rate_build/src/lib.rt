@@ -1,4 +1,4 @@
-//! The tables of pictures: what each slice of a picture costs at each quantisation index.
+//! The tables of pictures: the cost of each slice of a picture at each quantisation index.
 #![tactic(auto)]
 
 mod coding;
@@ -20,6 +20,3 @@ pub use slices::{CoefficientSlices, Coefficients, SliceCoefficients};
 pub use tables::{build_table, fixed_size};
 pub use transform::coefficients_of;
 pub use writing::{write_chosen, write_part};
-
-#[cfg(test)]
-mod tests;

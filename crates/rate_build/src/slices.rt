@@ -5,21 +5,21 @@ use pr_geom::Layout;
 use pw_planes::AlphaKind;
 use std::marker::Model;
 
-/// The coefficients of the blocks of a slice, each of magnitude at most 16,383, and its alpha values. The number of
-/// blocks of each part, and the number of alpha values, are those that the layout has for the slice.
+/// The coefficients of the blocks of a slice, each of magnitude at most 16,383, and its alpha values. The layout
+/// gives the number of blocks of each part and the number of alpha values.
 #[derive(Drop)]
 pub struct SliceCoefficients {
     /// Luma, 1 to 32 blocks.
     pub y: Blocks,
     /// The first part of chroma, 1 to 32 blocks.
     pub cb: Blocks,
-    /// The second part of chroma, as many blocks.
+    /// The second part of chroma, with as many blocks as the first.
     pub cr: Blocks,
-    /// The alpha values, row by row; none where there is no alpha.
+    /// The alpha values, row by row; none if there is no alpha.
     pub alpha: AlphaValues,
 }
 
-/// The slices of a frame: those of the first coded picture, and then those of the second.
+/// The slices of a frame: those of the first coded picture, then those of the second.
 #[derive(Drop)]
 pub struct CoefficientSlices {
     slices: Vec<SliceCoefficients>,
@@ -66,7 +66,7 @@ pub struct Coefficients {
     pub layout: Layout,
     /// The kind of alpha.
     pub alpha: AlphaKind,
-    /// The slices of all its pictures, 1 to 131,070 of them.
+    /// The slices of all its pictures, from 1 to `rate_table::MAX_TABLE_SLICES`.
     pub slices: CoefficientSlices,
 }
 

@@ -16,7 +16,7 @@ use pw_outside::NoMemory;
 use pw_planes::{AlphaKind, Depth, Interlace, Parity, Picture, Plane};
 use std::alloc::{AllocError, Global};
 
-/// The coefficients of a block in fewer bits.
+/// The coefficients of a block, narrowed.
 fn narrowed(block: &[i32; 64]) -> Block
     requires { AreWithin 16383 block.now }
     ensures { result ≡ block.now }
@@ -28,7 +28,7 @@ fn narrowed(block: &[i32; 64]) -> Block
     narrow
 }
 
-/// The coefficients of the block of a plane with its corner at a place.
+/// The coefficients of the block of a plane with its corner at a position.
 fn block_of(plane: &Plane, depth: Depth, corner: (u32, u32)) -> Block
     requires { HasDepth plane.now depth }
     ensures value { result ≡ coefficients_at plane.now depth corner }
@@ -38,7 +38,7 @@ fn block_of(plane: &Plane, depth: Depth, corner: (u32, u32)) -> Block
     narrowed(&forward(&samples))
 }
 
-/// The coefficients of the blocks that a part of a slice has in its plane.
+/// The coefficients of the blocks of a part of a slice in its plane.
 fn part_of(
     alloc: Global,
     plane: &Plane,
@@ -61,7 +61,7 @@ fn part_of(
     Ok(blocks)
 }
 
-/// The samples of a plane of alpha that a slice has: its 16 rows from the left.
+/// The samples of a slice in an alpha plane: its 16 rows from the left.
 fn values_of(alloc: Global, plane: &Plane, slice: &SlicePlace) -> Result<Vec<u16>, AllocError>
     ensures { IfOk result (λ v. v.items ≡ alpha_values (Some plane.now) slice.now) }
 {
@@ -75,7 +75,7 @@ fn values_of(alloc: Global, plane: &Plane, slice: &SlicePlace) -> Result<Vec<u16
     Ok(values)
 }
 
-/// The alpha values of a slice; none where there is no plane of alpha.
+/// The alpha values of a slice; none if there is no alpha plane.
 fn alpha_of(
     alloc: Global,
     plane: &Option<Plane>,
@@ -113,7 +113,7 @@ fn slice_of(
     })
 }
 
-/// Puts the coefficients of all slices of a coded picture behind those that are there.
+/// Appends the coefficients of all slices of a coded picture.
 fn add_slices(
     alloc: Global,
     picture: &Picture,
@@ -150,7 +150,7 @@ fn add_picture(
     }
 }
 
-/// A field of a plane of alpha, where there is one.
+/// A field of an alpha plane, if there is one.
 fn alpha_field(
     alloc: Global,
     plane: &Option<Plane>,
@@ -183,7 +183,7 @@ fn field_of(alloc: Global, picture: &Picture, parity: Parity) -> Result<Picture,
     })
 }
 
-/// Puts the coefficients of all slices of a field behind those that are there.
+/// Appends the coefficients of all slices of a field.
 fn add_field(
     alloc: Global,
     picture: &Picture,
@@ -260,11 +260,11 @@ fn whole_of(layout: &Layout, alpha: AlphaKind, slices: Vec<SliceCoefficients>) -
     }
 }
 
-/// The coefficients of a picture, which has the layout's size and chroma format and samples of its depth: those of its
-/// coded pictures, the earlier field first where it is interlaced. The picture has a plane of alpha where the kind of alpha
-/// is one of 8 or 16 bits, with values of so many bits, and none where there is no alpha.
+/// The coefficients of a picture, which has the layout's size and chroma format and samples of its depth: those of
+/// its coded pictures, the earlier field first if it is interlaced. The picture has an alpha plane if the kind of
+/// alpha is one of 8 or 16 bits, with values of this many bits, and none if there is no alpha.
 ///
-/// The error says that memory ran out.
+/// The error is that memory ran out.
 pub fn coefficients_of(
     alloc: Global,
     picture: &Picture,

@@ -5,6 +5,8 @@ ghost use Rattle.std.specs.Int.{w16, to_be_bytes};
 ghost use Rattle.std.specs.List.{All, AllZip, flat_map};
 ghost use Rattle.pw_outside.specs.Ports.{CountsFault};
 ghost use Rattle.pw_outside.specs.Writing.{sink_state, Puts, PutsFront};
+ghost use Rattle.rate_table.specs.declared.table.TheConstants.{MAX_TABLE_SLICES};
+ghost use Rattle.pr_geom.specs.declared.places.TheConstants.{MAX_SLICES};
 ghost use Rattle.pr_geom.specs.Layout.{slices_of};
 ghost use Rattle.pr_geom.specs.Slices.{pictures_of};
 ghost use Rattle.pr_quant.specs.Matrices.{IsWeight};
@@ -17,21 +19,22 @@ ghost use Rattle.rate_build.specs.Coding.{coded_slice, coded_slices, coded_pictu
 ghost use Rattle.rate_build.specs.Tables.{HasParts};
 ghost use Rattle.rate_build.specs.Chosen.{AreTablesOf, IsPart, AreChosen, Reaches, size_in, sizes_in};
 
-use crate::costs::{multipliers_of, quantise_blocks};
+use crate::costs::quantise_blocks;
 use crate::slices::{Coefficients, SliceCoefficients};
 use crate::tables::fixed_size;
 use pr_coeff::Block;
 use pr_frame::write_slice;
 use pr_head::{FrameHeader, write_frame_header, write_picture_header};
+use pr_quant::multipliers_of;
 use pw_outside::{ByteSink, Failed, put};
 use rate_table::{FrameTable, SliceTable};
 
-/// The most blocks that a part of a slice has.
+/// The greatest number of blocks of a part of a slice.
 const MOST_BLOCKS: usize = 32;
 
 // ---- sizes
 
-/// The size that a slice has at this index. Its table has all indices from its first one on, this one with them.
+/// The size of a slice at this index. Its table has all indices from its first one on, and this one is among them.
 fn size_at(table: &SliceTable, index: u8) -> u16
     requires { Reaches table.now index }
     ensures value { result ≡ size_in table.now index }
@@ -41,9 +44,9 @@ fn size_at(table: &SliceTable, index: u8) -> u16
     entries[usize::from(index - entries[0].index)].size
 }
 
-/// The sizes that slices have at these indices, together.
+/// The sum of the sizes of slices at these indices.
 fn sizes_together(tables: &[SliceTable], choice: &[u8]) -> u64
-    requires few { length tables.now ≤ 131070 }
+    requires few { length tables.now ≤ MAX_TABLE_SLICES }
     requires each { AllZip Reaches tables.now choice.now }
     ensures value { result ≡ sum (sizes_in tables.now choice.now) }
     ensures short { result ≤ 65535 * length tables.now }
@@ -55,7 +58,7 @@ fn sizes_together(tables: &[SliceTable], choice: &[u8]) -> u64
     size
 }
 
-/// Writes the size that a slice has at this index.
+/// Writes the size of a slice at this index.
 fn write_size<K: ByteSink>(table: &SliceTable, index: u8, sink: &mut K) -> Result<(), Failed>
     requires { Reaches table.now index }
     ensures ok { OnOk result (Puts (sink_state (K.held sink.old) (K.taken sink.old)) (sink_state (K.held sink.new) (K.taken sink.new)) (to_be_bytes w16 (size_in table.now index))) }
@@ -70,7 +73,7 @@ fn write_size<K: ByteSink>(table: &SliceTable, index: u8, sink: &mut K) -> Resul
     }
 }
 
-/// Writes the sizes that slices have at these indices, one behind the other.
+/// Writes the sizes of slices at these indices, in order.
 fn write_sizes<K: ByteSink>(
     tables: &[SliceTable],
     choice: &[u8],
@@ -90,7 +93,7 @@ fn write_sizes<K: ByteSink>(
 
 // ---- slices
 
-/// Quantises the blocks of a part at an index, into the first places.
+/// Quantises the blocks of a part at an index, into the first blocks of the buffer.
 fn quantise_part(
     blocks: &[Block],
     weights: &[u8; 64],
@@ -144,7 +147,7 @@ fn write_one<K: ByteSink>(
     )
 }
 
-/// Writes slices one behind the other, each quantised at its own index.
+/// Writes slices in order, each quantised at its own index.
 fn write_all<K: ByteSink>(
     slices: &[SliceCoefficients],
     header: &FrameHeader,
@@ -178,7 +181,7 @@ fn write_picture<K: ByteSink>(
     log2: u8,
     sink: &mut K,
 ) -> Result<(), Failed>
-    requires few { length slices.now ≤ 65535 }
+    requires few { length slices.now ≤ MAX_SLICES }
     requires log2 { log2 ≤ 3 }
     requires parts { All HasParts slices.now }
     requires alpha { All (λ s. IsReadyAlpha header.now.alpha s.alpha) slices.now }
@@ -197,7 +200,7 @@ fn write_picture<K: ByteSink>(
     write_all(slices, header, choice, sink)
 }
 
-/// Writes the picture of a number, each slice quantised at its own index.
+/// Writes the picture of an index, each slice quantised at its own index.
 fn write_number<K: ByteSink>(
     coefficients: &Coefficients,
     header: &FrameHeader,
@@ -232,7 +235,7 @@ fn write_number<K: ByteSink>(
     )
 }
 
-/// Writes the pictures of a frame one behind the other, each slice quantised at its own index.
+/// Writes the pictures of a frame in order, each slice quantised at its own index.
 fn write_pictures<K: ByteSink>(
     coefficients: &Coefficients,
     header: &FrameHeader,
@@ -257,11 +260,11 @@ fn write_pictures<K: ByteSink>(
 
 /// Writes the frame of these coefficients, each slice quantised at its own index, as [`crate::coded`] and
 /// [`pr_frame::write_frame`] do, straight from the coefficients and without memory. `slices` has the tables of the
-/// frame's slices, as [`crate::build_table`] makes them with the weights of the header, and `choice` an index of each
-/// table, so that the chosen sizes are below 2^31 together. The header has the size and the form of the coefficients; its
-/// other fields are such that the frame can be written.
+/// frame's slices, as [`crate::build_table`] makes them with the weights of the header, and `choice` an index of
+/// each table, so that the sum of the chosen sizes is below 2^31. The header has the size and the form of the
+/// coefficients; its other fields are such that the frame can be written.
 ///
-/// `Failed` where a call of the sink failed; it then has taken a front of the frame's bytes.
+/// `Failed` if a call of the sink failed; the sink then has taken a prefix of the frame's bytes.
 pub fn write_part<K: ByteSink>(
     coefficients: &Coefficients,
     header: &FrameHeader,
@@ -275,10 +278,10 @@ pub fn write_part<K: ByteSink>(
     requires choice { IsPart slices.now choice.now }
     // The sink took the bytes of the frame, and no others.
     ensures ok { OnOk result (Puts (sink_state (K.held sink.old) (K.taken sink.old)) (sink_state (K.held sink.new) (K.taken sink.new)) (coded_bytes (coded_frame coefficients.now header.now choice.now))) }
-    // Where a call failed, it took a front of them.
+    // If a call failed, it took a prefix of them.
     ensures err { OnErr result (PutsFront (sink_state (K.held sink.old) (K.taken sink.old)) (sink_state (K.held sink.new) (K.taken sink.new)) (coded_bytes (coded_frame coefficients.now header.now choice.now))) }
     ensures settled { K.settled sink.old ≤ K.settled sink.new }
-    // The call fails only where a call of the sink failed, and each such call is answered by it.
+    // The call fails only if a call of the sink failed, and each such call is reported.
     ensures cause { CountsFault (K.faults sink.old) (K.faults sink.new) (is_err result) }
 {
     let size = u64::from(fixed_size(&coefficients.layout)) + sizes_together(slices, choice);
@@ -286,10 +289,10 @@ pub fn write_part<K: ByteSink>(
     write_pictures(coefficients, header, slices, choice, sink)
 }
 
-/// Writes the frame of these coefficients, each slice quantised at its own index, straight from the coefficients and
-/// without memory: [`write_part`] with the slices of a table of this frame alone.
+/// Writes the frame of these coefficients, each slice quantised at its own index, straight from the coefficients
+/// and without memory: [`write_part`] with the slices of a table of this frame alone.
 ///
-/// `Failed` where a call of the sink failed; it then has taken a front of the frame's bytes.
+/// `Failed` if a call of the sink failed; the sink then has taken a prefix of the frame's bytes.
 pub fn write_chosen<K: ByteSink>(
     coefficients: &Coefficients,
     header: &FrameHeader,

@@ -1,4 +1,4 @@
--- A proof that was written is read again, in both formats.
+-- A proof that is written is read as that proof, in both formats.
 use Rattle.std.proofs.Common.{◌≡◌, ℕ, zero, suc, ◌+◌, ◌^◌, ◌<◌, ◌≤◌, false, List, [], ◌∷◌, ◌++◌, length, Ok, None, refl, ap, ◌∙◌, arith, append_assoc}
 use Rattle.std.specs.Prelude.{not}
 use Rattle.std.specs.Int.{w32, to_be_bytes}
@@ -10,18 +10,20 @@ use Rattle.rate_cert.specs.Records.{Record}
 use Rattle.rate_cert.specs.Head.{head_bytes}
 use Rattle.rate_cert.specs.Files.{most_records, IsFormat, record_bytes, end_bytes, proof_bytes, Progress, no_records, further, mark_at, end_at, next_at, records_at, proved}
 use Rattle.rate_cert.specs.Laws.{AreWritten, ProofIsReadAgain}
-use Rattle.rate_cert.proofs.Steps.{bind-step, refuse-step, byte-here, four-here, found}
+use Rattle.rate_table.specs.declared.fault.ProofKind.TheVariants.{ProofShort}
+use Rattle.pw_outside.proofs.Steps.{bind-step, refuse-step, found}
+use Rattle.rate_table.proofs.Here.{byte-here, four-here}
 use Rattle.rate_cert.proofs.Recorded.{next-again}
 use Rattle.rate_cert.proofs.Headed.{head-again}
 
 mark-end : (p : Progress) (place : ℕ) (behind : List ℕ) → mark_at p (record { place = place; bytes = 0x45 ∷ behind }) ≡ found false (place + 1) behind
 unfolding mark_at
-mark-end p place behind = bind-step _ _ (byte-here 0x45 place behind) ∙ bind-step _ _ refl ∙ bind-step _ _ refl
+mark-end p place behind = bind-step _ _ (byte-here ProofShort 0x45 place behind) ∙ bind-step _ _ refl ∙ bind-step _ _ refl
 
 end-again : (count place : ℕ) → count < 2 ^ 32 → end_at count (record { place = place; bytes = to_be_bytes w32 count }) ≡ found None (place + 4) []
 unfolding end_at
 end-again count place small =
-    bind-step _ _ (four-here count place [] small)
+    bind-step _ _ (four-here ProofShort count place [] small)
     ∙ refuse-step _ _ _ _ (ap not (eq-eqb count count refl))
     ∙ bind-step _ _ refl
 

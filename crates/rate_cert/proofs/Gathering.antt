@@ -1,6 +1,5 @@
--- Gathering several things one after the other.
-use Rattle.std.proofs.Common.{◌≡◌, refl, ℕ, zero, suc, ◌+◌, ◌-◌, ◌<◌, ◌≤◌, List, [], ◌∷◌, ◌++◌, length, map, get_or, drop, sym, ap, ◌∙◌, subst, arith, append_assoc, Vec, Global, Result, Ok, Err}
-use Rattle.std.specs.Prelude.{OnErr}
+-- Buffering several things one after the other.
+use Rattle.std.proofs.Common.{◌≡◌, refl, ℕ, zero, suc, ◌+◌, ◌-◌, ◌<◌, ◌≤◌, List, [], ◌∷◌, ◌++◌, length, map, get_or, drop, sym, ap, ◌∙◌, subst, arith, append_assoc, Vec, Global}
 use Rattle.std.specs.Int.{w32, to_be_bytes}
 use Rattle.std.specs.List.{All, flat_map, sum_by}
 use Rattle.std.proofs.lemmas.List.Sums.{sum_by-cons}
@@ -20,23 +19,15 @@ use Rattle.rate_cert.specs.inner.Gathered.{Gathers}
 abbrev pub pairs_in : Vec Pair Global → List Pair
 pairs_in v = v.items
 
--- nothing was gathered
+-- nothing was buffered
 pub gathers_none : (a : SinkState) (p : List ℕ) → a.taken ≤ last → Gathers a a p p []
 gathers_none a p h = record { gone = []; puts = puts_none a h; whole = sym (append-nil p) }
 
--- it was gathered, and nothing was taken
-pub gathers_kept : (a : SinkState) (p q x : List ℕ) → a.taken ≤ last → q ≡ p ++ x → Gathers a a p q x
-gathers_kept a p q x h e = record { gone = []; puts = puts_none a h; whole = e }
-
--- what was gathered before was taken, and this was gathered
-pub gathers_given : {a b : SinkState} (p q r x : List ℕ) → Puts a b p → q ≡ [] → r ≡ q ++ x → Gathers a b p r x
-gathers_given p q r x h e f = record { gone = p; puts = h; whole = ap (λ (l : List ℕ). p ++ l) (f ∙ ap (λ (l : List ℕ). l ++ x) e) }
-
--- what was gathered before was taken, and this, too
+-- the buffered bytes and this were taken
 pub gathers_all : {a b c : SinkState} (p q x : List ℕ) → Puts a b p → Puts b c x → q ≡ [] → Gathers a c p q x
 gathers_all p q x g h e = record { gone = p ++ x; puts = puts_then g h; whole = ap (λ (l : List ℕ). (p ++ x) ++ l) e ∙ append-nil (p ++ x) }
 
--- one thing was gathered, and then another
+-- one thing was buffered, and then another
 pub gathers_then : {a b c : SinkState} {p q r x y : List ℕ} → Gathers a b p q x → Gathers b c q r y → Gathers a c p r (x ++ y)
 gathers_then {a} {b} {c} {p} {q} {r} {x} {y} g h = record {
   gone = g.gone ++ h.gone;
@@ -44,23 +35,16 @@ gathers_then {a} {b} {c} {p} {q} {r} {x} {y} g h = record {
   whole = append_assoc g.gone h.gone r ∙ ap (λ (l : List ℕ). g.gone ++ l) h.whole ∙ sym (append_assoc g.gone q y) ∙ ap (λ (l : List ℕ). l ++ y) g.whole ∙ append_assoc p x y;
 }
 
--- one thing was gathered, and of the other a front was taken
+-- one thing was buffered, and a prefix of the other was taken
 pub gathers_front : {a b c : SinkState} {p q x : List ℕ} (y : List ℕ) → Gathers a b p q x → PutsFront b c (q ++ y) → PutsFront a c (p ++ (x ++ y))
 gathers_front {a} {b} {c} {p} {q} {x} y g h =
     subst (PutsFront a c) (sym (append_assoc g.gone q y) ∙ ap (λ (l : List ℕ). l ++ y) g.whole ∙ append_assoc p x y) (then_front g.puts h)
 
--- a front of the first thing is a front of both
+-- a prefix of the first thing is a prefix of both
 pub front_before : {a b : SinkState} (p x y : List ℕ) → PutsFront a b (p ++ x) → PutsFront a b (p ++ (x ++ y))
 front_before {a} {b} p x y h = subst (PutsFront a b) (append_assoc p x y) (front_more y h)
 
--- all was gathered, and taken
-pub gathers_gone : {a b c : SinkState} {q x : List ℕ} → Gathers a b [] q x → Puts b c q → Puts a c x
-gathers_gone {a} {b} {c} {q} {x} g h = subst (Puts a c) g.whole (puts_then g.puts h)
-
-pub gathers_going : {a b c : SinkState} {q x : List ℕ} → Gathers a b [] q x → PutsFront b c q → PutsFront a c x
-gathers_going {a} {b} {c} {q} {x} g h = subst (PutsFront a c) g.whole (then_front g.puts h)
-
--- ---- in the middle: what is left is gathered next
+-- ---- in the middle: the rest is buffered next
 
 pub record Partly (a b : SinkState) (p q left total : List ℕ) : Type 0 where
   pub done : List ℕ
@@ -86,11 +70,7 @@ pub partly_all : {a b : SinkState} {p q left total : List ℕ} → left ≡ [] �
 partly_all {a} {b} {p} {q} {left} {total} e s =
     subst (Gathers a b p q) (sym (append-nil s.done) ∙ ap (λ (l : List ℕ). s.done ++ l) (sym e) ∙ s.whole) s.gathers
 
--- ---- what is left of a list
-
-pub err-any : {X E P : Type 0} (r : Result X E) → P → OnErr r P
-err-any (Ok x) p = tt
-err-any (Err e) p = p
+-- ---- the rest of a list
 
 pub drop_is : {X : Type 0} (xs : List X) (i : ℕ) (x : X) → i < length xs → x ≡ get_or xs i x → drop i xs ≡ x ∷ drop (i + 1) xs
 drop_is xs i x lt is = drop_more xs i x lt ∙ ap (λ y. y ∷ drop (i + 1) xs) (sym is)
@@ -103,9 +83,6 @@ drop_past (x ∷ xs) (suc i) le = drop_past xs i (omega (arith, le))
 
 pub flat_left : {X : Type 0} (f : X → List ℕ) (xs : List X) (i : ℕ) (d : X) (text : List ℕ) → i < length xs → text ≡ f (get_or xs i d) → flat_map f (drop i xs) ≡ text ++ flat_map f (drop (i + 1) xs)
 flat_left f xs i d text lt e = ap (flat_map f) (drop_more xs i d lt) ∙ flat_map-cons f (get_or xs i d) (drop (i + 1) xs) ∙ ap (λ (l : List ℕ). l ++ flat_map f (drop (i + 1) xs)) (sym e)
-
-pub flat_done : {X : Type 0} (f : X → List ℕ) (xs : List X) (i : ℕ) → length xs ≤ i → flat_map f (drop i xs) ≡ []
-flat_done f xs i le = ap (flat_map f) (drop_past xs i le)
 
 abbrev pub nothing : Pair
 nothing = record { size = 0; error = 0 }
@@ -133,10 +110,7 @@ layers_left format xs i x text lt is e =
     let left = flat_map (layer_bytes format) (map pairs_in (drop (i + 1) xs)) in
     ap (λ l. flat_map (layer_bytes format) (map pairs_in l)) (drop_is xs i x lt is) ∙ flat_map-cons (layer_bytes format) x.items (map pairs_in (drop (i + 1) xs)) ∙ ap (λ (l : List Pair). layer_bytes format l ++ left) (sym e)
 
-pub layers_done : (format : ℕ) (xs : List (Vec Pair Global)) (i : ℕ) → length xs ≤ i → flat_map (layer_bytes format) (map pairs_in (drop i xs)) ≡ []
-layers_done format xs i le = ap (λ l. flat_map (layer_bytes format) (map pairs_in l)) (drop_past xs i le)
-
--- ---- in turn, without a loop
+-- ---- one by one, without a loop
 
 pub gathers_two : {a b c : SinkState} {p q r : List ℕ} (x y text : List ℕ) → text ≡ x ++ y → Gathers a b p q x → Gathers b c q r y → Gathers a c p r text
 gathers_two {a} {b} {c} {p} {q} {r} x y text e g h = subst (Gathers a c p r) (sym e) (gathers_then g h)
@@ -166,7 +140,7 @@ pub wide_whole : (layer : List Pair) (text : List ℕ) → text ≡ to_be_bytes 
 unfolding wide_bytes
 wide_whole layer text e = ap (λ (l : List ℕ). l ++ flat_map pair_bytes layer) (sym e)
 
--- nothing is gathered of nothing
+-- nothing is buffered of nothing
 pub gathers_same : (a : SinkState) (p x : List ℕ) → a.taken ≤ last → x ≡ [] → Gathers a a p p x
 gathers_same a p x h e = subst (Gathers a a p p) (sym e) (gathers_none a p h)
 
@@ -180,7 +154,7 @@ one_order [] i x lt is all = absurd (omega (arith, lt))
 one_order (y ∷ ys) zero x lt is all = subst (λ (v : Vec Pair Global). RisesAndFalls v.items) (sym is) (All-head RisesAndFalls y.items (map pairs_in ys) all)
 one_order (y ∷ ys) (suc i) x lt is all = one_order ys i x (omega (arith, lt)) is (All-tail RisesAndFalls y.items (map pairs_in ys) all)
 
--- ---- what is printed of a choice: its indices, its sums, and its layers
+-- ---- the part after the table: indices, sums, and layers
 
 from_nothing : {a b : SinkState} (p x : List ℕ) → p ≡ [] → PutsFront a b (p ++ x) → PutsFront a b x
 from_nothing {a} {b} p x e h = subst (λ (l : List ℕ). PutsFront a b (l ++ x)) e h

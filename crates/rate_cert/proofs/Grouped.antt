@@ -1,4 +1,4 @@
--- The groups of a number behind its first, as a recursion reads them.
+-- The groups of a number after its first, as the recursion reads them.
 use Rattle.std.proofs.Common.{◌≡◌, ℕ, zero, suc, ◌+◌, ◌-◌, ◌*◌, ◌<◌, ◌≤◌, Bool, true, nat_lt, Result, Ok, Err, refl, ap, ◌∙◌, arith}
 use Rattle.std.specs.Prelude.{not, ◌==◌}
 use Rattle.std.proofs.lemmas.Bool.{le-ltb, lt-ltb, ne_eqb, eq-eqb}
@@ -9,7 +9,7 @@ use Rattle.rate_table.specs.declared.fault.ProofKind.TheVariants.{ProofShape}
 use Rattle.rate_table.specs.declared.fault.TableFault.{TableFault}
 use Rattle.rate_table.specs.Reading.{told_fault}
 use Rattle.rate_cert.specs.Numbers.{group_at, groups_at, limit}
-use Rattle.rate_cert.proofs.Steps.{bind-step, refuse-step}
+use Rattle.pw_outside.proofs.Steps.{bind-step, refuse-step}
 use Rattle.rate_cert.proofs.Numbered.{chosen, passed}
 
 bind-err : {A B : Type 0} (r : Result A (Fault ProofKind)) (next : A → Result B (Fault ProofKind)) {f : Fault ProofKind} → r ≡ Err f → bind r next ≡ Err f

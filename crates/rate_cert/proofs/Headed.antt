@@ -1,4 +1,4 @@
--- The head that was written is read again, in both formats.
+-- A head that is written is read as that head, in both formats.
 use Rattle.std.proofs.Common.{◌≡◌, ℕ, zero, suc, ◌+◌, ◌-◌, ◌*◌, ◌/◌, ◌%◌, ◌^◌, ◌<◌, ◌≤◌, Bool, true, false, nat_lt, nat_le, List, [], ◌∷◌, ◌++◌, length, Option, Some, None, refl, sym, ap, ◌∙◌, arith, ⊎_elim, length-append, append_assoc, take_at}
 use Rattle.std.specs.Prelude.{◌==◌, ◌||◌, not, if◌then◌else◌, codes, is_some}
 use Rattle.std.specs.Int.{w16, w32, to_be_bytes}
@@ -6,7 +6,7 @@ use Rattle.std.specs.List.{All, list_any}
 use Rattle.std.proofs.lemmas.List.{drop_at}
 use Rattle.std.proofs.lemmas.List.Elements.{All-head, All-tail}
 use Rattle.std.proofs.lemmas.Nat.{from_be_bytes-to_be_bytes_2}
-use Rattle.std.proofs.lemmas.Bool.{le-ltb, lt-leb, ne_eqb, ltb-false}
+use Rattle.std.proofs.lemmas.Bool.{le-ltb, lt-leb, ne_eqb, ltb-false, or_from, or_parts}
 use Rattle.pw_outside.specs.Reading.{Read, number_at, bytes_at}
 use Rattle.pw_planes.specs.declared.kinds.AlphaKind.{AlphaKind}
 use Rattle.pw_planes.specs.declared.kinds.AlphaKind.TheVariants as alphas
@@ -21,6 +21,7 @@ use Rattle.pr_geom.specs.declared.places.GeomFault.TheVariants.{SizeZero, SizeLi
 use Rattle.pr_geom.specs.Faults.{first_fault, slice_count}
 use Rattle.pr_geom.specs.Slices.{pictures_of}
 use Rattle.pr_quant.specs.Matrices.{IsWeight}
+use Rattle.rate_table.specs.declared.table.TheConstants.{MAX_TABLE_SLICES}
 use Rattle.rate_table.specs.declared.fault.ProofKind.{ProofKind}
 use Rattle.rate_table.specs.declared.fault.ProofKind.TheVariants.{ProofShort}
 use Rattle.rate_cert.specs.declared.settings.Settings.{Settings}
@@ -29,21 +30,15 @@ use Rattle.rate_cert.specs.Settings.{IsSettings}
 use Rattle.rate_cert.specs.Head.{chroma_number, depth_number, alpha_number, interlace_number, form_number, form_of, group_of, is_no_weight, has_no_layout, head_bytes, meant, format_at, size_at, chroma_at, depth_at, alpha_at, interlace_at, kinds_at, slicing_at, rate_at, weights_at, budget_at, settings_at, head_at}
 use Rattle.rate_cert.specs.Files.{IsFormat}
 use Rattle.rate_cert.specs.Laws.{HeadIsReadAgain}
-use Rattle.rate_cert.proofs.Steps.{bind-step, refuse-step, number-here, byte-here, four-here, found, same_rest}
+use Rattle.pw_outside.proofs.Steps.{bind-step, refuse-step, number-here, found, same_rest}
+use Rattle.rate_table.proofs.Here.{byte-here, four-here}
 use Rattle.rate_cert.proofs.Numbered.{passed}
 use Rattle.rate_cert.proofs.Layered.{which}
 
 -- ---- tests that don't refuse
 
-or_false : (a b : Bool) → a ≡ false → b ≡ false → (a || b) ≡ false
-or_false a b e f = rw (e, f) refl
-
-pub or_none : (a b : Bool) → (a || b) ≡ false → (a ≡ false) × (b ≡ false)
-or_none true b e = absurd cc
-or_none false b e = (refl, e)
-
 within : (n most : ℕ) → 1 ≤ n → n ≤ most → (n == 0 || nat_lt most n) ≡ false
-within n most some few = or_false (n == 0) (nat_lt most n) (ne_eqb n 0 (λ z. omega (arith, z, some))) (le-ltb most n few)
+within n most some few = or_from (n == 0) (nat_lt most n) (ne_eqb n 0 (λ z. omega (arith, z, some))) (le-ltb most n few)
 
 fault_none : (a b c d : Bool) → (if a then Some SizeZero else (if b then Some SizeLimit else (if c then Some OddInterlaced else (if d then Some TooManySlices else None)))) ≡ None
     → (a ≡ false) × (b ≡ false) × (c ≡ false) × (d ≡ false)
@@ -56,7 +51,7 @@ fault_none false false false false e = (refl, refl, refl, refl)
 -- ---- fields
 
 two-here : (n place : ℕ) (behind : List ℕ) → n < 2 ^ 16 → number_at ProofShort w16 (record { place = place; bytes = to_be_bytes w16 n ++ behind }) ≡ found n (place + 2) behind
-two-here n place behind small = number-here w16 n place (to_be_bytes w16 n) behind refl (from_be_bytes-to_be_bytes_2 n small)
+two-here n place behind small = number-here ProofShort w16 n place (to_be_bytes w16 n) behind refl (from_be_bytes-to_be_bytes_2 n small)
 
 bytes-here : (n place : ℕ) (bytes behind : List ℕ) → length bytes ≡ n → bytes_at ProofShort n (record { place = place; bytes = bytes ++ behind }) ≡ found bytes (place + n) behind
 bytes-here n place bytes behind len =
@@ -82,32 +77,32 @@ form-back (suc (suc (suc f))) g few some most one = absurd (omega (arith, few))
 
 chroma-again : (c : Chroma) (place : ℕ) (behind : List ℕ) → chroma_at (record { place = place; bytes = chroma_number c ∷ behind }) ≡ found c (place + 1) behind
 unfolding chroma_at meant
-chroma-again C422 place behind = bind-step _ _ (byte-here 2 place behind)
-chroma-again C444 place behind = bind-step _ _ (byte-here 3 place behind)
+chroma-again C422 place behind = bind-step _ _ (byte-here ProofShort 2 place behind)
+chroma-again C444 place behind = bind-step _ _ (byte-here ProofShort 3 place behind)
 
 depth-again : (d : Depth) (place : ℕ) (behind : List ℕ) → depth_at (record { place = place; bytes = depth_number d ∷ behind }) ≡ found d (place + 1) behind
 unfolding depth_at meant
-depth-again D8 place behind = bind-step _ _ (byte-here 8 place behind)
-depth-again D10 place behind = bind-step _ _ (byte-here 10 place behind)
-depth-again D12 place behind = bind-step _ _ (byte-here 12 place behind)
+depth-again D8 place behind = bind-step _ _ (byte-here ProofShort 8 place behind)
+depth-again D10 place behind = bind-step _ _ (byte-here ProofShort 10 place behind)
+depth-again D12 place behind = bind-step _ _ (byte-here ProofShort 12 place behind)
 
 alpha-again : (a : AlphaKind) (place : ℕ) (behind : List ℕ) → alpha_at (record { place = place; bytes = alpha_number a ∷ behind }) ≡ found a (place + 1) behind
 unfolding alpha_at meant
-alpha-again alphas.Absent place behind = bind-step _ _ (byte-here 0 place behind)
-alpha-again alphas.Eight place behind = bind-step _ _ (byte-here 8 place behind)
-alpha-again alphas.Sixteen place behind = bind-step _ _ (byte-here 16 place behind)
+alpha-again alphas.Absent place behind = bind-step _ _ (byte-here ProofShort 0 place behind)
+alpha-again alphas.Eight place behind = bind-step _ _ (byte-here ProofShort 8 place behind)
+alpha-again alphas.Sixteen place behind = bind-step _ _ (byte-here ProofShort 16 place behind)
 
 interlace-again : (i : Interlace) (place : ℕ) (behind : List ℕ) → interlace_at (record { place = place; bytes = interlace_number i ∷ behind }) ≡ found i (place + 1) behind
 unfolding interlace_at meant
-interlace-again Progressive place behind = bind-step _ _ (byte-here 0 place behind)
-interlace-again TopFirst place behind = bind-step _ _ (byte-here 1 place behind)
-interlace-again BottomFirst place behind = bind-step _ _ (byte-here 2 place behind)
+interlace-again Progressive place behind = bind-step _ _ (byte-here ProofShort 0 place behind)
+interlace-again TopFirst place behind = bind-step _ _ (byte-here ProofShort 1 place behind)
+interlace-again BottomFirst place behind = bind-step _ _ (byte-here ProofShort 2 place behind)
 
 weights_in_range : (ws : List ℕ) → All IsWeight ws → list_any is_no_weight ws ≡ false
 weights_in_range [] are = refl
 weights_in_range (w ∷ ws) are =
     let is = All-head IsWeight w ws are in
-    or_false (nat_lt w 2 || nat_lt 63 w) (list_any is_no_weight ws) (or_false (nat_lt w 2) (nat_lt 63 w) (le-ltb w 2 is.0) (le-ltb 63 w is.1)) (weights_in_range ws (All-tail IsWeight w ws are))
+    or_from (nat_lt w 2 || nat_lt 63 w) (list_any is_no_weight ws) (or_from (nat_lt w 2) (nat_lt 63 w) (le-ltb w 2 is.0) (le-ltb 63 w is.1)) (weights_in_range ws (All-tail IsWeight w ws are))
 
 weights-again : (ws : List ℕ) (place : ℕ) (behind : List ℕ) → length ws ≡ 64 → All IsWeight ws → weights_at (record { place = place; bytes = ws ++ behind }) ≡ found ws (place + 64) behind
 unfolding weights_at
@@ -121,9 +116,9 @@ format_ok format is = ⊎_elim (λ e. ap (λ n. not (n == 1 || n == 2)) e) (λ e
 format-again : (format place : ℕ) (behind : List ℕ) → IsFormat format → format_at (record { place = place; bytes = codes "PWPF" ++ (format ∷ behind) }) ≡ found format (place + 5) behind
 unfolding format_at
 format-again format place behind is =
-    bind-step _ _ (number-here w32 0x50575046 place (codes "PWPF") (format ∷ behind) refl refl)
+    bind-step _ _ (number-here ProofShort w32 0x50575046 place (codes "PWPF") (format ∷ behind) refl refl)
     ∙ bind-step _ _ refl
-    ∙ bind-step _ _ (byte-here format (place + 4) behind)
+    ∙ bind-step _ _ (byte-here ProofShort format (place + 4) behind)
     ∙ refuse-step _ _ _ _ (format_ok format is)
     ∙ same_rest format _ _ behind (omega arith)
 
@@ -132,10 +127,10 @@ module _ (s : Settings) (is : IsSettings s) where
   no-fault = fault_none (s.width == 0 || s.height == 0) (nat_lt 8192 s.width || nat_lt 4320 s.height) (nat_lt 0 (s.height % pictures_of s.interlace)) (nat_lt 65535 (slice_count s.width s.height s.log2 s.interlace)) is.layout
 
   zeros : ((s.width == 0) ≡ false) × ((s.height == 0) ≡ false)
-  zeros = or_none (s.width == 0) (s.height == 0) no-fault.0
+  zeros = or_parts (s.width == 0) (s.height == 0) no-fault.0
 
   limits : (nat_lt 8192 s.width ≡ false) × (nat_lt 4320 s.height ≡ false)
-  limits = or_none (nat_lt 8192 s.width) (nat_lt 4320 s.height) no-fault.1
+  limits = or_parts (nat_lt 8192 s.width) (nat_lt 4320 s.height) no-fault.1
 
   narrow : s.width < 2 ^ 16
   narrow = omega (arith, ltb-false 8192 s.width limits.0)
@@ -149,12 +144,12 @@ module _ (s : Settings) (is : IsSettings s) where
   size-again place behind =
       let n = form_number s.form s.group in
       let back = form-back s.form s.group is.form is.group_from is.group_to is.products in
-      bind-step _ _ (byte-here n place (to_be_bytes w16 s.width ++ (to_be_bytes w16 s.height ++ behind)))
+      bind-step _ _ (byte-here ProofShort n place (to_be_bytes w16 s.width ++ (to_be_bytes w16 s.height ++ behind)))
       ∙ refuse-step _ _ _ _ (le-ltb 16 n back.2)
       ∙ bind-step _ _ (two-here s.width (place + 1) (to_be_bytes w16 s.height ++ behind) narrow)
-      ∙ refuse-step _ _ _ _ (or_false (s.width == 0) (nat_lt 8192 s.width) zeros.0 limits.0)
+      ∙ refuse-step _ _ _ _ (or_from (s.width == 0) (nat_lt 8192 s.width) zeros.0 limits.0)
       ∙ bind-step _ _ (two-here s.height (place + 1 + 2) behind low)
-      ∙ refuse-step _ _ _ _ (or_false (s.height == 0) (nat_lt 4320 s.height) zeros.1 limits.1)
+      ∙ refuse-step _ _ _ _ (or_from (s.height == 0) (nat_lt 4320 s.height) zeros.1 limits.1)
       ∙ ap (λ (f : ℕ). let r : Read ProofKind Size = found (record { form = f; group = group_of n; width = s.width; height = s.height }) (place + 1 + 2 + 2) behind in r) back.0
       ∙ ap (λ (g : ℕ). let r : Read ProofKind Size = found (record { form = s.form; group = g; width = s.width; height = s.height }) (place + 1 + 2 + 2) behind in r) back.1
       ∙ same_rest (record { form = s.form; group = s.group; width = s.width; height = s.height }) _ _ behind (omega arith)
@@ -171,28 +166,28 @@ module _ (s : Settings) (is : IsSettings s) where
       ∙ same_rest (record { chroma = s.chroma; depth = s.depth; alpha = s.alpha; interlace = s.interlace }) _ _ behind (omega arith)
 
   no-layout : has_no_layout s.width s.height s.log2 s.interlace s.group ≡ false
-  no-layout = or_false (is_some (first_fault s.width s.height s.log2 s.interlace)) (nat_lt 131070 (s.group * (pictures_of s.interlace * slice_count s.width s.height s.log2 s.interlace)))
-      (ap (λ (f : Option GeomFault). is_some f) is.layout) (le-ltb 131070 (s.group * (pictures_of s.interlace * slice_count s.width s.height s.log2 s.interlace)) is.slices)
+  no-layout = or_from (is_some (first_fault s.width s.height s.log2 s.interlace)) (nat_lt MAX_TABLE_SLICES (s.group * (pictures_of s.interlace * slice_count s.width s.height s.log2 s.interlace)))
+      (ap (λ (f : Option GeomFault). is_some f) is.layout) (le-ltb MAX_TABLE_SLICES (s.group * (pictures_of s.interlace * slice_count s.width s.height s.log2 s.interlace)) is.slices)
 
   slicing-again : (place : ℕ) (behind : List ℕ) → slicing_at (record { form = s.form; group = s.group; width = s.width; height = s.height }) s.interlace (record { place = place; bytes = s.log2 ∷ s.lo ∷ s.hi ∷ behind })
       ≡ found (record { log2 = s.log2; lo = s.lo; hi = s.hi }) (place + 3) behind
   unfolding slicing_at
   slicing-again place behind =
-      bind-step _ _ (byte-here s.log2 place (s.lo ∷ s.hi ∷ behind))
+      bind-step _ _ (byte-here ProofShort s.log2 place (s.lo ∷ s.hi ∷ behind))
       ∙ refuse-step _ _ _ _ (le-ltb 3 s.log2 is.size)
       ∙ refuse-step _ _ _ _ no-layout
-      ∙ bind-step _ _ (byte-here s.lo (place + 1) (s.hi ∷ behind))
+      ∙ bind-step _ _ (byte-here ProofShort s.lo (place + 1) (s.hi ∷ behind))
       ∙ refuse-step _ _ _ _ (within s.lo 224 is.lo (omega (arith, is.order, is.hi)))
-      ∙ bind-step _ _ (byte-here s.hi (place + 1 + 1) behind)
-      ∙ refuse-step _ _ _ _ (or_false (nat_lt s.hi s.lo) (nat_lt 224 s.hi) (le-ltb s.hi s.lo is.order) (le-ltb 224 s.hi is.hi))
+      ∙ bind-step _ _ (byte-here ProofShort s.hi (place + 1 + 1) behind)
+      ∙ refuse-step _ _ _ _ (or_from (nat_lt s.hi s.lo) (nat_lt 224 s.hi) (le-ltb s.hi s.lo is.order) (le-ltb 224 s.hi is.hi))
       ∙ same_rest (record { log2 = s.log2; lo = s.lo; hi = s.hi }) _ _ behind (omega arith)
 
   rate-again : (place : ℕ) (behind : List ℕ) → rate_at (record { place = place; bytes = to_be_bytes w32 s.num ++ (to_be_bytes w32 s.den ++ behind) }) ≡ found (record { num = s.num; den = s.den }) (place + 8) behind
   unfolding rate_at
   rate-again place behind =
-      bind-step _ _ (four-here s.num place (to_be_bytes w32 s.den ++ behind) (omega (arith, is.num_to)))
+      bind-step _ _ (four-here ProofShort s.num place (to_be_bytes w32 s.den ++ behind) (omega (arith, is.num_to)))
       ∙ refuse-step _ _ _ _ (within s.num 1000000 is.num_from is.num_to)
-      ∙ bind-step _ _ (four-here s.den (place + 4) behind (omega (arith, is.den_to)))
+      ∙ bind-step _ _ (four-here ProofShort s.den (place + 4) behind (omega (arith, is.den_to)))
       ∙ refuse-step _ _ _ _ (within s.den 4000 is.den_from is.den_to)
       ∙ same_rest (record { num = s.num; den = s.den }) _ _ behind (omega arith)
 
@@ -206,8 +201,8 @@ module _ (s : Settings) (is : IsSettings s) where
   budget-again : (place : ℕ) (behind : List ℕ) → budget_at s.group (record { place = place; bytes = to_be_bytes w32 s.budget ++ behind }) ≡ found s.budget (place + 4) behind
   unfolding budget_at
   budget-again place behind =
-      bind-step _ _ (four-here s.budget place behind small-budget)
-      ∙ refuse-step _ _ _ _ (or_false (s.budget == 0) (nat_le (2 ^ 31) (s.group * s.budget)) (ne_eqb s.budget 0 (λ z. omega (arith, z, is.some_budget))) (lt-leb (2 ^ 31) (s.group * s.budget) is.budget))
+      bind-step _ _ (four-here ProofShort s.budget place behind small-budget)
+      ∙ refuse-step _ _ _ _ (or_from (s.budget == 0) (nat_le (2 ^ 31) (s.group * s.budget)) (ne_eqb s.budget 0 (λ z. omega (arith, z, is.some_budget))) (lt-leb (2 ^ 31) (s.group * s.budget) is.budget))
 
   settings-again : (place : ℕ) (behind : List ℕ) → settings_at (record {
     place = place;

@@ -1,17 +1,14 @@
--- Reading pairs, layers and indices one after the other, as a loop does.
+-- Reading pairs and layers one by one, as a loop does.
 use Rattle.std.proofs.Common.{◌≡◌, ℕ, suc, ◌-◌, ◌+◌, ◌≤◌, ◌<◌, List, [], ◌∷◌, ◌++◌, length, Ok, refl, sym, ap, ◌∙◌, subst, arith}
 use Rattle.std.proofs.lemmas.List.{append-nil}
-use Rattle.pw_outside.specs.Reading.{Rest, Read, bind, Fails, number_at}
-use Rattle.std.specs.Int.{w8}
+use Rattle.pw_outside.specs.Reading.{Rest, Read, bind, Fails}
 use Rattle.pw_outside.proofs.Chains.{with_front, with_front-more, fails-whole}
 use Rattle.rate_table.specs.declared.entry.Pair.{Pair}
 use Rattle.rate_table.specs.declared.fault.TableFault.{TableFault}
 use Rattle.rate_table.specs.declared.fault.ProofKind.{ProofKind}
-use Rattle.rate_table.specs.declared.fault.ProofKind.TheVariants.{ProofShort}
 use Rattle.rate_table.specs.Pairs.{RisesAndFalls}
 use Rattle.rate_table.specs.Reading.{told_fault}
 use Rattle.rate_cert.specs.Layers.{pair_at, pairs_at, step_at, run_at, layer_at, layers_at}
-use Rattle.rate_cert.specs.Files.{indices_at}
 
 -- ---- format 1
 
@@ -61,7 +58,7 @@ run-all front count i last s total le so_far =
     let one : with_front front (run_at (count - i) last s) ≡ Ok (front ++ last ∷ [], s) = rw k refl in
     sym so_far ∙ one
 
--- sizes go on rising and errors falling behind the last pair
+-- sizes keep rising and errors falling after the last pair
 pub rises-push : (front : List Pair) (last p : Pair) → RisesAndFalls (front ++ last ∷ []) → last.size < p.size → p.error < last.error → RisesAndFalls ((front ++ last ∷ []) ++ p ∷ [])
 rises-push [] last p order rises falls = (rises, falls, tt)
 rises-push (x ∷ []) last p order rises falls = (order.0, order.1, (rises, falls, tt))
@@ -92,28 +89,4 @@ unfolding layers_at bind
 layers-all format front count i held s total le so_far =
     let k : count - i ≡ 0 = omega arith in
     let one : with_front front (layers_at format (count - i) held s) ≡ Ok (front, s) = rw k (ap (λ (ls : List (List Pair)). Ok (ls, s)) (append-nil front)) in
-    sym so_far ∙ one
-
--- ---- the indices of a choice
-
-pub indices-more : (front : List ℕ) (count i : ℕ) (s after : Rest) (n : ℕ) (total : Read ProofKind (List ℕ)) → i < count → number_at ProofShort w8 s ≡ Ok (n, after)
-    → with_front front (indices_at (count - i) s) ≡ total → with_front (front ++ n ∷ []) (indices_at (count - (i + 1)) after) ≡ total
-unfolding indices_at bind
-indices-more front count i s after n total lt h so_far =
-    let k : count - i ≡ suc (count - (i + 1)) = omega arith in
-    let one : with_front front (indices_at (count - i) s) ≡ with_front (front ++ n ∷ []) (indices_at (count - (i + 1)) after) = rw (k, h) (with_front-more front n (indices_at (count - (i + 1)) after)) in
-    sym one ∙ so_far
-
-pub indices-end : (fault : TableFault) (front : List ℕ) (count i : ℕ) (s : Rest) (total : Read ProofKind (List ℕ)) → i < count
-    → Fails told_fault fault (number_at ProofShort w8 s) → with_front front (indices_at (count - i) s) ≡ total → Fails told_fault fault total
-unfolding indices_at bind
-indices-end fault front count i s total lt h so_far =
-    let k : count - i ≡ suc (count - (i + 1)) = omega arith in
-    fails-whole told_fault fault (number_at ProofShort w8 s) total (λ f e. sym so_far ∙ rw (k, e) refl) h
-
-pub indices-all : (front : List ℕ) (count i : ℕ) (s : Rest) (total : Read ProofKind (List ℕ)) → count ≤ i → with_front front (indices_at (count - i) s) ≡ total → total ≡ Ok (front, s)
-unfolding indices_at bind
-indices-all front count i s total le so_far =
-    let k : count - i ≡ 0 = omega arith in
-    let one : with_front front (indices_at (count - i) s) ≡ Ok (front, s) = rw k (ap (λ (ns : List ℕ). Ok (ns, s)) (append-nil front)) in
     sym so_far ∙ one

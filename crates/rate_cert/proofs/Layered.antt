@@ -1,4 +1,4 @@
--- Layers that were written are read again, in both formats.
+-- Layers that are written are read as those layers, in both formats.
 use Rattle.std.proofs.Common.{◌≡◌, ℕ, zero, suc, ◌+◌, ◌-◌, ◌^◌, ◌<◌, ◌≤◌, List, [], ◌∷◌, ◌++◌, length, refl, sym, ap, ◌∙◌, arith, inl, inr, ◌⊎◌, length-append, append_assoc}
 use Rattle.std.specs.Prelude.{◌==◌}
 use Rattle.std.specs.Int.{w64, to_be_bytes}
@@ -12,7 +12,9 @@ use Rattle.rate_table.specs.Pairs.{RisesAndFalls}
 use Rattle.rate_cert.specs.Numbers.{number_bytes}
 use Rattle.rate_cert.specs.Layers.{most_pairs, pair_bytes, wide_bytes, steps_bytes, close_pairs_bytes, close_bytes, layer_bytes, pair_at, pairs_at, wide_at, step_at, run_at, first_at, close_pairs_at, close_at, layer_at, layers_at}
 use Rattle.rate_cert.specs.Files.{IsFormat, IsPair}
-use Rattle.rate_cert.proofs.Steps.{bind-step, refuse-step, four-here, eight-here, found, same_rest}
+use Rattle.rate_table.specs.declared.fault.ProofKind.TheVariants.{ProofShort}
+use Rattle.pw_outside.proofs.Steps.{bind-step, refuse-step, found, same_rest}
+use Rattle.rate_table.proofs.Here.{four-here, eight-here}
 use Rattle.rate_cert.proofs.Numbered.{number-again, chosen, passed}
 
 same_pair : (p q : Pair) → p.size ≡ q.size → p.error ≡ q.error → p ≡ q
@@ -23,8 +25,8 @@ same_pair p q a b = λ i. record { size = a i; error = b i }
 pair-again : (p : Pair) (place : ℕ) (behind : List ℕ) → IsPair p → pair_at (record { place = place; bytes = pair_bytes p ++ behind }) ≡ found p (place + 12) behind
 unfolding pair_at pair_bytes
 pair-again p place behind is =
-    bind-step _ _ (four-here p.size place (to_be_bytes w64 p.error ++ behind) is.0)
-    ∙ bind-step _ _ (eight-here p.error (place + 4) behind is.1)
+    bind-step _ _ (four-here ProofShort p.size place (to_be_bytes w64 p.error ++ behind) is.0)
+    ∙ bind-step _ _ (eight-here ProofShort p.error (place + 4) behind is.1)
     ∙ same_rest p _ _ behind (omega arith)
 
 length-pair : (p : Pair) → length (pair_bytes p) ≡ 12
@@ -49,7 +51,7 @@ wide-again : (held : ℕ) (layer : List Pair) (place : ℕ) (behind : List ℕ) 
     → wide_at held (record { place = place; bytes = wide_bytes layer ++ behind }) ≡ found layer (place + length (wide_bytes layer)) behind
 unfolding wide_at wide_bytes
 wide-again held layer place behind few are =
-    bind-step _ _ (four-here (length layer) place (flat_map pair_bytes layer ++ behind) (omega (arith, few)))
+    bind-step _ _ (four-here ProofShort (length layer) place (flat_map pair_bytes layer ++ behind) (omega (arith, few)))
     ∙ refuse-step _ _ _ _ (le-ltb most_pairs (held + length layer) few)
     ∙ pairs-again layer (place + 4) behind are
     ∙ same_rest layer _ _ behind (omega arith)

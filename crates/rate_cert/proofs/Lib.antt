@@ -1,4 +1,3 @@
-pub mod Steps
 pub mod Numbered
 pub mod Layered
 pub mod Recorded

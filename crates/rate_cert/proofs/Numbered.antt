@@ -1,4 +1,4 @@
--- A number in groups of 7 bits that was written is read again.
+-- A LEB128 number that is written is read as that number.
 use Rattle.std.proofs.Common.{◌≡◌, ℕ, zero, suc, ◌+◌, ◌-◌, ◌*◌, ◌/◌, ◌%◌, ◌<◌, ◌≤◌, Bool, true, false, nat_lt, List, [], ◌∷◌, ◌++◌, length, Ok, refl, sym, ap, ◌∙◌, arith, ⊎_elim}
 use Rattle.std.specs.Prelude.{if◌then◌else◌}
 use Rattle.std.specs.Int.{w8}
@@ -9,9 +9,10 @@ use Rattle.rate_table.specs.declared.fault.ProofKind.{ProofKind}
 use Rattle.rate_table.specs.declared.fault.ProofKind.TheVariants.{ProofShort}
 use Rattle.rate_cert.specs.Numbers.{groups_of, number_bytes, limit, group_at, groups_at, short_at}
 use Rattle.rate_cert.specs.Laws.{NumberIsReadAgain}
-use Rattle.rate_cert.proofs.Steps.{bind-step, refuse-step, byte-here, found, same_rest}
+use Rattle.pw_outside.proofs.Steps.{bind-step, refuse-step, found, same_rest}
+use Rattle.rate_table.proofs.Here.{byte-here}
 
--- what stands behind a test
+-- what follows a test
 pub chosen : {A : Type 0} (b : Bool) (x y : A) → b ≡ true → (if b then x else y) ≡ x
 chosen b x y e = rw e refl
 
@@ -21,7 +22,7 @@ passed b x y e = rw e refl
 group-here : (n first place : ℕ) (behind : List ℕ) → group_at first (record { place = place; bytes = n ∷ behind }) ≡ found n (place + 1) behind
 group-here n first place behind =
     let long : nat_lt (length (n ∷ behind)) 1 ≡ false = le-ltb _ _ (omega arith) in
-    passed (nat_lt (length (n ∷ behind)) 1) (bad ProofShort first) (number_at ProofShort w8 (record { place = place; bytes = n ∷ behind })) long ∙ byte-here n place behind
+    passed (nat_lt (length (n ∷ behind)) 1) (bad ProofShort first) (number_at ProofShort w8 (record { place = place; bytes = n ∷ behind })) long ∙ byte-here ProofShort n place behind
 
 -- the first group and the rest make the number
 whole : (n : ℕ) → 128 + n % 128 - 128 + 128 * (n / 128) ≡ n
@@ -38,7 +39,7 @@ groups-further more n l = passed (nat_lt n 128) (n ∷ []) ((128 + n % 128) ∷ 
 at : ℕ → List ℕ → Rest
 at place bytes = record { place = place; bytes = bytes }
 
--- what the reading behind the first byte makes of the byte
+-- what the reading after the first byte makes of the byte
 abbrev joined : ℕ → ℕ × Rest → Read ProofKind ℕ
 joined byte high = Ok (byte - 128 + 128 * high.0, high.1)
 
@@ -75,13 +76,13 @@ number-again n place behind small =
     ⊎_elim
     (λ l. let e = groups-last 8 n l in
     ap (λ g. short_at (record { place = place; bytes = g ++ behind })) e
-    ∙ bind-step _ _ (byte-here n place behind)
+    ∙ bind-step _ _ (byte-here ProofShort n place behind)
     ∙ chosen (nat_lt n 128) _ _ (lt-ltb n 128 l)
     ∙ sym (ap (λ g. found n (place + length g) behind) e))
     (λ l. let e = groups-further 8 n l in
     let high = groups-again 8 (n / 128) place (place + 1) behind (le-div 1 n 128 (omega arith) (omega (arith, l))) (div_below n 128 (limit 8) (omega arith) (omega (arith, small))) in
     ap (λ g. short_at (record { place = place; bytes = g ++ behind })) e
-    ∙ bind-step _ _ (byte-here (128 + n % 128) place (groups_of 8 (n / 128) ++ behind))
+    ∙ bind-step _ _ (byte-here ProofShort (128 + n % 128) place (groups_of 8 (n / 128) ++ behind))
     ∙ passed (nat_lt (128 + n % 128) 128) _ _ (le-ltb (128 + n % 128) 128 (omega arith))
     ∙ bind-step _ (joined (128 + n % 128)) high
     ∙ ap (λ v. found v (place + 1 + length (groups_of 8 (n / 128))) behind) (whole n)

@@ -1,5 +1,5 @@
--- A record that was written is read again, in both formats.
-use Rattle.std.proofs.Common.{◌≡◌, ℕ, suc, ◌+◌, ◌<◌, Bool, true, false, nat_le, List, [], ◌∷◌, ◌++◌, length, Some, refl, sym, ap, ◌∙◌, arith, rules, length-append, append_assoc}
+-- A record that is written is read as that record, in both formats.
+use Rattle.std.proofs.Common.{◌≡◌, ℕ, suc, ◌+◌, ◌<◌, Bool, true, false, nat_le, List, ◌∷◌, ◌++◌, length, Some, refl, sym, ap, ◌∙◌, arith, rules, length-append, append_assoc}
 use Rattle.std.specs.Prelude.{◌||◌, not, IsTrue}
 use Rattle.std.specs.Int.{w32, w64, to_be_bytes}
 use Rattle.std.specs.List.{flat_map}
@@ -7,21 +7,16 @@ use Rattle.std.proofs.lemmas.Bool.{lt-leb}
 use Rattle.rate_table.specs.Table.{Table, IsTable}
 use Rattle.rate_table.specs.Body.{body_bytes}
 use Rattle.rate_table.specs.Records.{Printed}
-use Rattle.rate_table.proofs.ReadAgain.{body-again}
+use Rattle.rate_table.specs.Nested.{in_proof}
+use Rattle.rate_table.proofs.ReadAgain.{body-again, indices-again}
 use Rattle.rate_cert.specs.Records.{Record, Said, fits, none}
 use Rattle.rate_cert.specs.Layers.{layer_bytes, layers_at}
-use Rattle.rate_cert.specs.Files.{most_records, IsFormat, MayStand, sums_bytes, fit_bytes, said_bytes, record_bytes, IsPrintable, CanBeSaid, HasWidths, AreWide, IsWritten, in_proof, indices_at, fit_at, none_at, said_at, record_at, Progress, mark_at, some_at, next_at}
+use Rattle.rate_cert.specs.Files.{most_records, IsFormat, MayStand, sums_bytes, fit_bytes, said_bytes, record_bytes, IsPrintable, CanBeSaid, HasWidths, AreWide, IsWritten, fit_at, none_at, said_at, record_at, Progress, mark_at, some_at, next_at}
 use Rattle.rate_cert.specs.Laws.{RecordIsReadAgain}
-use Rattle.rate_cert.proofs.Steps.{bind-step, refuse-step, byte-here, four-here, eight-here, found, same_rest}
+use Rattle.rate_table.specs.declared.fault.ProofKind.TheVariants.{ProofShort}
+use Rattle.pw_outside.proofs.Steps.{bind-step, refuse-step, found, same_rest}
+use Rattle.rate_table.proofs.Here.{byte-here, four-here, eight-here}
 use Rattle.rate_cert.proofs.Layered.{which, layers-again}
-
-indices-again : (choice : List ℕ) (place : ℕ) (behind : List ℕ) → indices_at (length choice) (record { place = place; bytes = choice ++ behind }) ≡ found choice (place + length choice) behind
-unfolding indices_at
-indices-again [] place behind = same_rest [] _ _ behind (omega arith)
-indices-again (x ∷ xs) place behind =
-    bind-step _ _ (byte-here x place (xs ++ behind))
-    ∙ bind-step _ _ (indices-again xs (place + 1) behind)
-    ∙ same_rest (x ∷ xs) _ _ behind (omega arith)
 
 fit-again : (format : ℕ) (t : Table) (r : Printed) (place : ℕ) (behind : List ℕ) → IsFormat format → IsPrintable format t r → HasWidths r
     → fit_at format (length t.slices) (record { place = place; bytes = fit_bytes format r ++ behind }) ≡ found (fits r) (place + length (fit_bytes format r)) behind
@@ -35,9 +30,9 @@ fit-again format t r place behind f is wide =
     ap (λ n. fit_at format n (record { place = place; bytes = fit_bytes format r ++ behind })) (sym is.choice)
     ∙ ap (λ l. fit_at format c (record { place = place; bytes = l })) split
     ∙ bind-step _ _ (indices-again r.choice place (to_be_bytes w32 r.size ++ (to_be_bytes w64 r.error ++ (to_be_bytes w64 r.multiplier ++ (layers ++ behind)))))
-    ∙ bind-step _ _ (four-here r.size (place + c) (to_be_bytes w64 r.error ++ (to_be_bytes w64 r.multiplier ++ (layers ++ behind))) wide.size)
-    ∙ bind-step _ _ (eight-here r.error (place + c + 4) (to_be_bytes w64 r.multiplier ++ (layers ++ behind)) wide.error)
-    ∙ bind-step _ _ (eight-here r.multiplier (place + c + 4 + 8) (layers ++ behind) wide.multiplier)
+    ∙ bind-step _ _ (four-here ProofShort r.size (place + c) (to_be_bytes w64 r.error ++ (to_be_bytes w64 r.multiplier ++ (layers ++ behind))) wide.size)
+    ∙ bind-step _ _ (eight-here ProofShort r.error (place + c + 4) (to_be_bytes w64 r.multiplier ++ (layers ++ behind)) wide.error)
+    ∙ bind-step _ _ (eight-here ProofShort r.multiplier (place + c + 4 + 8) (layers ++ behind) wide.multiplier)
     ∙ bind-step _ _ (ap (λ n. layers_at format n 0 (record { place = place + c + 4 + 8 + 8; bytes = layers ++ behind })) (ap suc is.choice ∙ sym is.layers)
     ∙ layers-again format 0 r.layers (place + c + 4 + 8 + 8) behind (which format f) (omega (arith, is.few)) is.order wide.pairs)
     ∙ same_rest (fits r) _ _ behind (omega (arith, length-append r.choice (sums_bytes r.size r.error r.multiplier ++ layers)))
@@ -49,7 +44,7 @@ said-again format t (fits p) place behind f is c wide =
     let body = body_bytes t in
     let split = append_assoc body (fit_bytes format p) behind in
     ap (λ l. record_at format (record { place = place; bytes = 1 ∷ l })) split
-    ∙ bind-step _ _ (byte-here 1 place (body ++ (fit_bytes format p ++ behind)))
+    ∙ bind-step _ _ (byte-here ProofShort 1 place (body ++ (fit_bytes format p ++ behind)))
     ∙ bind-step _ _ refl
     ∙ bind-step _ _ (ap in_proof (body-again t (place + 1) (fit_bytes format p ++ behind) is))
     ∙ bind-step _ _ (fit-again format t p (place + 1 + length body) behind f c wide)
@@ -58,10 +53,10 @@ said-again format t (none n) place behind f is c wide =
     let body = body_bytes t in
     let split = append_assoc body (to_be_bytes w64 n) behind in
     ap (λ l. record_at format (record { place = place; bytes = 0 ∷ l })) split
-    ∙ bind-step _ _ (byte-here 0 place (body ++ (to_be_bytes w64 n ++ behind)))
+    ∙ bind-step _ _ (byte-here ProofShort 0 place (body ++ (to_be_bytes w64 n ++ behind)))
     ∙ bind-step _ _ refl
     ∙ bind-step _ _ (ap in_proof (body-again t (place + 1) (to_be_bytes w64 n ++ behind) is))
-    ∙ bind-step _ _ (bind-step _ _ (eight-here n (place + 1 + length body) behind wide))
+    ∙ bind-step _ _ (bind-step _ _ (eight-here ProofShort n (place + 1 + length body) behind wide))
     ∙ same_rest (record { table = t; said = none n }) _ _ behind (omega (arith, length-append body (to_be_bytes w64 n)))
 
 record-again : (format : ℕ) (r : Record) (place : ℕ) (behind : List ℕ) → IsFormat format → IsWritten format r
@@ -75,7 +70,7 @@ may_stand false count m few = absurd (search rules)
 pub mark-again : (p : Progress) (place : ℕ) (behind : List ℕ) → MayStand p → mark_at p (record { place = place; bytes = 0x52 ∷ behind }) ≡ found true (place + 1) behind
 unfolding mark_at
 mark-again p place behind may =
-    bind-step _ _ (byte-here 0x52 place behind)
+    bind-step _ _ (byte-here ProofShort 0x52 place behind)
     ∙ bind-step _ _ refl
     ∙ refuse-step _ _ _ _ (may_stand p.more p.count may.0 may.1)
 

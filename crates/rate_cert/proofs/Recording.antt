@@ -1,4 +1,4 @@
--- A record, as it is written.
+-- Writing a record.
 use Rattle.std.proofs.Common.{◌≡◌, ℕ, List, ◌∷◌, ◌++◌, map, sym, ap, ◌∙◌, subst, Vec, Global}
 use Rattle.std.specs.Int.{w64, to_be_bytes}
 use Rattle.std.specs.List.{flat_map}
@@ -32,7 +32,7 @@ pub record_text : (format format' : ℕ) (t : Table) (s : Said) (r : Record) →
 unfolding record_bytes
 record_text format format' t s r e f = ap (λ (x : Record). 0x52 ∷ said_bytes format x.table x.said) e ∙ ap (λ (n : ℕ). 0x52 ∷ said_bytes n r.table r.said) f
 
--- ---- a front, and what stands behind it
+-- ---- a prefix, and what follows it
 
 pub first_part : {a b : SinkState} {front whole : List ℕ} (rest : List ℕ) → front ++ rest ≡ whole → PutsFront a b front → PutsFront a b whole
 first_part {a} {b} {front} {whole} rest e h = subst (PutsFront a b) e (front_more rest h)

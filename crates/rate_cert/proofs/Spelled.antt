@@ -1,9 +1,9 @@
--- A record that was read in format 2 is spelled so.
+-- The bytes of a record that was read in format 2 are those that are written.
 use Rattle.std.proofs.Common.{◌≡◌, ℕ, zero, suc, ◌+◌, ◌-◌, ◌*◌, ◌/◌, ◌%◌, ◌^◌, ◌<◌, ◌≤◌, Bool, true, false, nat_lt, List, [], ◌∷◌, ◌++◌, length, Ok, Err, Option, Some, None, refl, sym, ap, ◌∙◌, subst, arith, rules, inl, inr, ◌⊎◌, append_assoc}
-use Rattle.std.specs.Prelude.{◌==◌, not, if◌then◌else◌, IsTrue}
+use Rattle.std.specs.Prelude.{◌==◌, if◌then◌else◌, IsTrue}
 use Rattle.std.specs.Int.{w8, w32, w64, to_be_bytes}
 use Rattle.std.specs.List.{flat_map, All, sum_by}
-use Rattle.std.proofs.lemmas.Bool.{ltb-false, leb-false, eqb-false, eqb-true, ltb-true}
+use Rattle.std.proofs.lemmas.Bool.{ltb-false, leb-false, eqb-false, eqb-true, ltb-true, not-false}
 use Rattle.std.proofs.lemmas.List.Concat.{flat_map-cons}
 use Rattle.std.proofs.lemmas.List.Sums.{sum_by-cons}
 use Rattle.std.proofs.lemmas.List.Elements.{All-nil, All-cons}
@@ -22,16 +22,17 @@ use Rattle.rate_table.proofs.Taken.{ok_is, wide32, wide64, number_took, byte_too
 use Rattle.rate_cert.specs.Numbers.{groups_of, number_bytes, limit, group_at, groups_at, short_at}
 use Rattle.rate_cert.specs.Layers.{most_pairs, steps_bytes, close_pairs_bytes, close_bytes, layer_bytes, step_at, run_at, first_at, close_pairs_at, close_at, layer_at, layers_at}
 use Rattle.rate_cert.specs.Records.{Record, Said, fits, none}
-use Rattle.rate_cert.specs.Files.{sums_bytes, fit_bytes, said_bytes, record_bytes, IsPair, IsPrintable, HasWidths, CanBeSaid, AreWide, IsWritten, in_proof, table_at, indices_at, fit_at, none_at, said_at, record_at, Progress, mark_at, end_at, some_at, next_at}
+use Rattle.rate_table.specs.Nested.{in_proof, table_at, indices_at}
+use Rattle.rate_cert.specs.Files.{sums_bytes, fit_bytes, said_bytes, record_bytes, IsPair, IsPrintable, HasWidths, CanBeSaid, AreWide, IsWritten, fit_at, none_at, said_at, record_at, Progress, mark_at, end_at, some_at, next_at}
 use Rattle.rate_cert.specs.Laws.{RecordIsSpelled}
 use Rattle.rate_cert.proofs.Numbered.{groups-last, groups-further}
 use Rattle.rate_cert.proofs.Grouped.{limit_some, limit_most}
 
--- one thing was read, and then another, where the places and the spellings are said
+-- one thing was read, and then another, with their offsets and bytes
 pub took_both : (a b c : Rest) (x y : List ℕ) → Took a x b → Took b y c → Took a (x ++ y) c
 took_both a b c x y p q = then_took p q
 
--- ---- numbers in groups of 7 bits
+-- ---- LEB128 numbers
 
 else_ok : {A : Type 0} (b : Bool) (place : ℕ) (r : Read ProofKind A) (x : A × Rest) → (if b then bad ProofShort place else r) ≡ Ok x → r ≡ Ok x
 else_ok true place r x e = absurd cc
@@ -40,16 +41,12 @@ else_ok false place r x e = e
 group_took : (first : ℕ) (s : Rest) (x : ℕ × Rest) → AreBytes s.bytes → group_at first s ≡ Ok x → Took s (x.0 ∷ []) x.1 × (x.0 < 256)
 group_took first s x fit e = byte_took ProofShort s x fit (else_ok (nat_lt (length s.bytes) 1) first (number_at ProofShort w8 s) x e)
 
-pub not_is : (b : Bool) → not b ≡ false → b ≡ true
-not_is true e = refl
-not_is false e = absurd cc
-
 -- one of two
 pub branch : {A : Type 0} (b : Bool) (x y : Read ProofKind A) (z : A × Rest) → (if b then x else y) ≡ Ok z → ((b ≡ true) × (x ≡ Ok z)) ⊎ ((b ≡ false) × (y ≡ Ok z))
 branch true x y z e = inl (refl, e)
 branch false x y z e = inr (refl, e)
 
--- a byte of 128 and more, and the groups behind it
+-- a byte of 128 or more, and the groups after it
 joined-bytes : (more byte high : ℕ) → 128 ≤ byte → byte < 256 → 1 ≤ high → groups_of (suc more) (byte - 128 + 128 * high) ≡ byte ∷ groups_of more high
 joined-bytes more byte high low few some =
     let n = byte - 128 + 128 * high in
@@ -64,7 +61,7 @@ groups_spelled zero first s x fit e =
     let byte = b1.0 in
     let t1 = group_took first s byte fit b1.1 in
     let r1 = refuse-passed _ _ _ _ b1.2 in
-    let one : byte.0 ≡ 1 = eqb-true byte.0 1 (not_is (byte.0 == 1) r1.0) in
+    let one : byte.0 ≡ 1 = eqb-true byte.0 1 (not-false (byte.0 == 1) r1.0) in
     subst (λ (y : ℕ × Rest). Took s (y.0 ∷ []) y.1 × (1 ≤ y.0) × (y.0 < 2)) (ok_is byte x r1.1) (t1.0, omega (arith, one), omega (arith, one))
 groups_spelled (suc more) first s x fit e =
     let b1 = bind-ok (group_at first s) _ e in
@@ -129,7 +126,7 @@ first_spelled s x fit e =
     subst (λ (y : Pair × Rest). Took s (number_bytes y.0.size ++ number_bytes y.0.error) y.1 × IsPair y.0) (ok_is (p, v.1) x b2.2)
     (took_both s z.1 v.1 (number_bytes z.0) (number_bytes v.0) t1.0 t2.0, (leb-false (2 ^ 32) z.0 r1.0, t2.1))
 
--- what a pair behind another is
+-- the bytes of a pair after another
 record IsStep (before : Pair) (s : Rest) (p : Pair) (rest : Rest) : Type 0 where
   rises : before.size < p.size
   falls : p.error < before.error
@@ -160,7 +157,7 @@ step_spelled before s x is fit e =
           (subst (λ (m : ℕ). Took s (number_bytes z.0 ++ number_bytes m) v.1) less-is (took_both s z.1 v.1 (number_bytes z.0) (number_bytes v.0) t1.0 t2.0));
     })
 
--- what a pair and those behind it are
+-- the bytes of a pair and those after it
 record IsRun (n : ℕ) (before : Pair) (s : Rest) (layer : List Pair) (rest : Rest) : Type 0 where
   others : List Pair
   parts : layer ≡ before ∷ others
@@ -195,7 +192,7 @@ run_spelled (suc n) before s x is fit e =
 
 -- ---- layers
 
--- what a layer of this text is, behind so many pairs
+-- a layer after `held` pairs, and its bytes
 record IsLayer (held : ℕ) (s : Rest) (layer : List Pair) (rest : Rest) : Type 0 where
   few : held + length layer ≤ most_pairs
   order : RisesAndFalls layer
@@ -291,7 +288,7 @@ indices_spelled (suc n) s x fit e =
     subst (λ (y : List ℕ × Rest). (length y.0 ≡ suc n) × All (λ index. index < 256) y.0 × Took s y.0 y.1) (ok_is (i.0 ∷ o.0, o.1) x b2.2)
     (omega (arith, t2.0), All-cons (λ index. index < 256) i.0 o.0 t1.1 t2.1, took_both s i.1 o.1 (i.0 ∷ []) o.0 t1.0 t2.2)
 
--- what is said behind a table of so many slices
+-- the verdict on a table, and its bytes
 record IsSaid (t : Table) (verdict : ℕ) (s : Rest) (said : Said) (rest : Rest) : Type 0 where
   can : CanBeSaid 2 t said
   wide : AreWide said

@@ -1,9 +1,9 @@
--- A proof of format 2 that was read is spelled so.
+-- The bytes of a proof of format 2 that was read are those that are written.
 use Rattle.std.proofs.Common.{◌≡◌, ℕ, zero, suc, ◌+◌, ◌^◌, ◌<◌, ◌≤◌, Bool, true, false, nat_le, List, [], ◌∷◌, ◌++◌, length, Option, Some, None, Ok, refl, sym, ap, ◌∙◌, subst, arith, inl, inr, append_assoc, append-nil}
 use Rattle.std.specs.Prelude.{◌==◌, ◌||◌, ◌&&◌, not}
 use Rattle.std.specs.Int.{w8, w32, to_be_bytes}
 use Rattle.std.specs.List.{flat_map}
-use Rattle.std.proofs.lemmas.Bool.{leb-false, eqb-true}
+use Rattle.std.proofs.lemmas.Bool.{leb-false, eqb-true, or_parts, not-false}
 use Rattle.std.proofs.lemmas.List.Concat.{flat_map-cons}
 use Rattle.pw_outside.specs.Reading.{Rest, number_at, AreBytes, Took}
 use Rattle.pw_outside.proofs.Steps.{bind-ok, refuse-passed}
@@ -14,8 +14,7 @@ use Rattle.rate_cert.specs.Records.{Record}
 use Rattle.rate_cert.specs.Head.{head_bytes, head_at}
 use Rattle.rate_cert.specs.Files.{most_records, record_bytes, end_bytes, proof_bytes, Progress, no_records, further, after, mark_at, end_at, some_at, record_at, next_at, with_others, records_at, Proved, proved}
 use Rattle.rate_cert.specs.Laws.{ProofIsSpelled}
-use Rattle.rate_cert.proofs.Headed.{or_none}
-use Rattle.rate_cert.proofs.Spelled.{took_both, branch, not_is, no_end, record-spelled}
+use Rattle.rate_cert.proofs.Spelled.{took_both, branch, no_end, record-spelled}
 use Rattle.rate_cert.proofs.SpelledHead.{head-spelled}
 
 -- ---- marks
@@ -28,7 +27,7 @@ and_not : (a b : Bool) → (a && b) ≡ false → a ≡ true → b ≡ false
 and_not true b e f = e
 and_not false b e f = absurd cc
 
--- what a mark that was read tells
+-- the bytes of a mark that was read
 record IsMark (p : Progress) (s : Rest) (stands : Bool) (rest : Rest) : Type 0 where
   few : stands ≡ true → p.count < most_records
   end : stands ≡ false → Took s (0x45 ∷ []) rest
@@ -42,9 +41,9 @@ mark_is p s x fit e =
     let t1 = byte_took ProofShort s m fit b1.1 in
     let r1 = refuse-passed _ _ _ _ b1.2 in
     let r2 = refuse-passed _ _ _ _ r1.1 in
-    let known : (m.0 == 0x52 || m.0 == 0x45) ≡ true = not_is (m.0 == 0x52 || m.0 == 0x45) r1.0 in
+    let known : (m.0 == 0x52 || m.0 == 0x45) ≡ true = not-false (m.0 == 0x52 || m.0 == 0x45) r1.0 in
     let less : (m.0 == 0x52) ≡ true → p.count < most_records = λ is.
-    leb-false most_records p.count (or_none (not p.more) (nat_le most_records p.count) (and_not (m.0 == 0x52) (not p.more || nat_le most_records p.count) r2.0 is)).1 in
+    leb-false most_records p.count (or_parts (not p.more) (nat_le most_records p.count) (and_not (m.0 == 0x52) (not p.more || nat_le most_records p.count) r2.0 is)).1 in
     subst (λ (y : Bool × Rest). IsMark p s y.0 y.1) (ok_is (m.0 == 0x52, m.1) x r2.1) (record {
       few = less;
       end = λ no. subst (λ (n : ℕ). Took s (n ∷ []) m.1) (eqb-true m.0 0x45 (or_is (m.0 == 0x52) (m.0 == 0x45) known no)) t1.0;
@@ -65,9 +64,9 @@ end_spelled count s rest o fit e =
     let t1 = number_took ProofShort w32 (2 ^ 32) wide32 s n fit b1.1 in
     let r1 = refuse-passed _ _ _ _ b1.2 in
     let r2 = refuse-passed _ _ _ _ r1.1 in
-    let is : n.0 ≡ count = eqb-true n.0 count (not_is (n.0 == count) r1.0) in
+    let is : n.0 ≡ count = eqb-true n.0 count (not-false (n.0 == count) r1.0) in
     subst (λ (y : Option Record × Rest). Took s (to_be_bytes w32 count) y.1 × (y.1.bytes ≡ [])) (ok_is (None, n.1) (o, rest) r2.1)
-    (subst (λ (k : ℕ). Took s (to_be_bytes w32 k) n.1) is t1.0, none_left n.1.bytes (not_is (length n.1.bytes == 0) r2.0))
+    (subst (λ (k : ℕ). Took s (to_be_bytes w32 k) n.1) is t1.0, none_left n.1.bytes (not-false (length n.1.bytes == 0) r2.0))
 
 -- ---- the next record, or the end
 
@@ -108,7 +107,7 @@ next_none p s rest fit e =
 
 -- ---- all records
 
--- what so many marks more stand for, in the text of the records and the end
+-- the bytes of n marks more, of the records and the end
 abbrev AreSpelled : ℕ → Settings → Type 0
 AreSpelled n s = (p : Progress) (rest : Rest) (rs : List Record) → p.count + n ≡ suc most_records → p.count ≤ most_records → AreBytes rest.bytes → records_at n 2 s p rest ≡ Ok rs
     → rest.bytes ≡ flat_map (record_bytes 2) rs ++ end_bytes (p.count + length rs)

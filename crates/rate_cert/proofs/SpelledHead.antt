@@ -1,8 +1,8 @@
--- A head that was read is spelled so.
+-- The bytes of a head that was read are those that are written.
 use Rattle.std.proofs.Common.{◌≡◌, ℕ, ◌+◌, ◌-◌, ◌*◌, ◌/◌, ◌%◌, ◌^◌, ◌≤◌, Bool, true, false, nat_lt, List, [], ◌∷◌, ◌++◌, length, take, drop, Option, Some, None, Ok, refl, sym, ap, ◌∙◌, subst, arith, inl, inr, append-nil}
 use Rattle.std.specs.Prelude.{◌==◌, if◌then◌else◌, codes}
 use Rattle.std.specs.Int.{w8, w16, w32, to_be_bytes}
-use Rattle.std.proofs.lemmas.Bool.{ltb-false, eqb-true, ne_eqb}
+use Rattle.std.proofs.lemmas.Bool.{ltb-false, eqb-true, ne_eqb, not-false}
 use Rattle.std.proofs.lemmas.List.{take-append-drop, length-take}
 use Rattle.pw_outside.specs.Reading.{Rest, Read, bad, number_at, bytes_at, AreBytes, Took}
 use Rattle.pw_outside.proofs.Steps.{bind-ok, refuse-passed, took_none, bytes-drop}
@@ -25,15 +25,15 @@ use Rattle.rate_cert.specs.declared.head.Rate.{Rate}
 use Rattle.rate_cert.specs.Head.{chroma_number, depth_number, alpha_number, interlace_number, form_number, chroma_of, depth_of, alpha_of, interlace_of, form_of, group_of, head_bytes, meant, format_at, size_at, chroma_at, depth_at, alpha_at, interlace_at, kinds_at, slicing_at, rate_at, weights_at, budget_at, settings_of, settings_at, head_at}
 use Rattle.rate_cert.specs.Laws.{HeadIsSpelled}
 use Rattle.rate_cert.proofs.Numbered.{passed}
-use Rattle.rate_cert.proofs.Spelled.{took_both, branch, not_is}
+use Rattle.rate_cert.proofs.Spelled.{took_both, branch}
 use Rattle.rate_cert.proofs.Headed.{head-parts}
 
--- ---- numbers that stand for something
+-- ---- numbers with a meaning
 
 some_is : {A : Type 0} (x y : A) → Some x ≡ Some y → x ≡ y
 some_is x y e = cc
 
--- a number that stands for this, or for something of the others
+-- a number means this, or one of the others
 stands_for : {A : Type 0} (number : A → ℕ) (n k : ℕ) (x : A) (others : Option A) (found : A) → number x ≡ k → (others ≡ Some found → number found ≡ n)
     → (if n == k then Some x else others) ≡ Some found → number found ≡ n
 stands_for number n k x others found is more e = by_test (n == k) refl e
@@ -73,7 +73,7 @@ form-is n = by_test (n == 16) refl
 
 -- ---- fields
 
--- a byte that stands for something
+-- a byte with a meaning
 meant_took : {A : Type 0} (number : A → ℕ) (n : ℕ) (o : Option A) (place : ℕ) (s rest : Rest) (x : A × Rest) → ((found : A) → o ≡ Some found → number found ≡ n) → Took s (n ∷ []) rest
     → meant o place rest ≡ Ok x → Took s (number x.0 ∷ []) x.1
 unfolding meant
@@ -132,7 +132,7 @@ format-spelled s x fit e =
     let magic = b1.0 in
     let t1 = number_took ProofShort w32 (2 ^ 32) wide32 s magic fit b1.1 in
     let r1 = refuse-passed _ _ _ _ b1.2 in
-    let is : magic.0 ≡ 0x50575046 = eqb-true magic.0 0x50575046 (not_is (magic.0 == 0x50575046) r1.0) in
+    let is : magic.0 ≡ 0x50575046 = eqb-true magic.0 0x50575046 (not-false (magic.0 == 0x50575046) r1.0) in
     let letters : Took s (codes "PWPF") magic.1 = subst (λ (n : ℕ). Took s (to_be_bytes w32 n) magic.1) is t1.0 in
     let b2 = bind-ok (number_at ProofShort w8 magic.1) _ r1.1 in
     let format = b2.0 in
@@ -245,7 +245,7 @@ budget-spelled group s x fit e =
     let r1 = refuse-passed _ _ _ _ b1.2 in
     subst (λ (y : ℕ × Rest). Took s (to_be_bytes w32 y.0) y.1) (ok_is b1.0 x r1.1) (number_took ProofShort w32 (2 ^ 32) wide32 s b1.0 fit b1.1).0
 
--- the fields one behind the other, and nothing behind them
+-- the fields one after the other, and nothing after them
 abbrev settings_bytes : Settings → List ℕ
 settings_bytes s =
     form_number s.form s.group ∷ (to_be_bytes w16 s.width ++ (to_be_bytes w16 s.height ++ (chroma_number s.chroma ∷ depth_number s.depth ∷ alpha_number s.alpha ∷ interlace_number s.interlace

@@ -1,4 +1,4 @@
--- A number in groups of 7 bits as a loop writes it.
+-- A LEB128 number as a loop writes it.
 use Rattle.std.proofs.Common.{◌≡◌, ℕ, zero, suc, ◌+◌, ◌-◌, ◌/◌, ◌%◌, ◌^◌, ◌<◌, ◌≤◌, List, [], ◌∷◌, ◌++◌, refl, sym, ap, ◌∙◌, arith, append_assoc}
 use Rattle.std.proofs.lemmas.Nat.{div_below}
 use Rattle.rate_cert.specs.Numbers.{groups_of, number_bytes, limit}
@@ -9,7 +9,7 @@ unfolding groups_of
 last-group zero n lt = refl
 last-group (suc k) n lt = groups-last k n lt
 
--- the last group of what is left makes it whole
+-- the last group of the rest completes it
 pub spelled-last : (k n : ℕ) (front total : List ℕ) → n < 128 → front ++ groups_of k n ≡ total → front ++ n ∷ [] ≡ total
 spelled-last k n front total lt so_far = sym (ap (λ (l : List ℕ). front ++ l) (last-group k n lt)) ∙ so_far
 
@@ -19,7 +19,7 @@ spelled-end i n front total le so_far =
     let k : 9 - i ≡ 0 = omega (arith, le) in
     sym (ap (λ (m : ℕ). front ++ groups_of m n) k) ∙ so_far
 
--- a group more
+-- one group more
 pub spelled-more : (i n byte : ℕ) (front total : List ℕ) → i < 9 → 128 ≤ n → byte ≡ 128 + n % 128 → front ++ groups_of (9 - i) n ≡ total → (front ++ byte ∷ []) ++ groups_of (9 - (i + 1)) (n / 128) ≡ total
 spelled-more i n byte front total lt le e so_far =
     let k : 9 - i ≡ suc (9 - (i + 1)) = omega (arith, lt) in

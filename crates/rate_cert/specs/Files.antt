@@ -1,35 +1,35 @@
--- The records of a proof file and its end, in both formats: what is written, and what bytes stand for, or their first fault and its
--- place. Our own formats.
+-- The records of a proof file and its end, in both formats, for the writer and for the reader: the bytes that are
+-- written, and what bytes stand for, or their first error and its offset. Our own formats.
 use Rattle.std.specs.Prelude.{◌≡◌, ℕ, zero, suc, ◌+◌, ◌*◌, ◌^◌, ◌<◌, ◌≤◌, Bool, true, false, not, ◌==◌, ◌&&◌, ◌||◌, nat_le, nat_lt, if◌then◌else◌, List, [], ◌∷◌, ◌++◌, length, Option, None, Some, Result, Ok, Err, IsTrue}
 use Rattle.std.specs.Int.{w8, w32, w64, to_be_bytes}
 use Rattle.std.specs.List.{flat_map, All, sum_by}
 use Rattle.pw_outside.specs.Reading.{Fault, Rest, Read, ◌>>=◌, refuse, number_at}
 use Rattle.rate_table.specs.declared.entry.Pair.{Pair}
 use Rattle.rate_table.specs.declared.fault.ProofKind.{ProofKind}
-use Rattle.rate_table.specs.declared.fault.ProofKind.TheVariants.{TableShort, ProofShape, ProofShort, ProofTrailing}
+use Rattle.rate_table.specs.declared.fault.ProofKind.TheVariants.{ProofShape, ProofShort, ProofTrailing}
 use Rattle.rate_table.specs.declared.fault.TableFault.{TableFault}
-use Rattle.rate_table.specs.declared.fault.TableFault.TheVariants as faults
 use Rattle.rate_table.specs.Table.{Table, IsTable}
 use Rattle.rate_table.specs.Pairs.{RisesAndFalls}
 use Rattle.rate_table.specs.Body.{body_bytes}
-use Rattle.rate_table.specs.Reading.{body_at}
+use Rattle.rate_table.specs.Nested.{table_at, indices_at}
 use Rattle.rate_table.specs.Records.{Printed}
+use Rattle.rate_cert.specs.declared.progress.TheConstants.{MAX_RECORDS}
 use Rattle.rate_cert.specs.declared.settings.Settings.{Settings}
 use Rattle.rate_cert.specs.Settings.{frame_slices}
 use Rattle.rate_cert.specs.Records.{Record, Said, fits, none}
 use Rattle.rate_cert.specs.Layers.{most_pairs, layer_bytes, layers_at}
 use Rattle.rate_cert.specs.Head.{head_bytes, head_at}
 
--- a proof has so many records at most
+-- the largest number of records of a proof
 abbrev pub most_records : ℕ
-most_records = 1000000
+most_records = MAX_RECORDS
 
 abbrev pub IsFormat : ℕ → Type 0
 IsFormat format = (1 ≤ format) × (format ≤ 2)
 
--- ---- what is written
+-- ---- writing
 
--- the sums and the multiplier of a choice
+-- size, error and multiplier of a choice
 abbrev pub sums_bytes : ℕ → ℕ → ℕ → List ℕ
 sums_bytes size error multiplier = to_be_bytes w32 size ++ (to_be_bytes w64 error ++ to_be_bytes w64 multiplier)
 
@@ -40,20 +40,21 @@ unfoldable pub said_bytes : ℕ → Table → Said → List ℕ
 said_bytes format t (fits r) = 1 ∷ (body_bytes t ++ fit_bytes format r)
 said_bytes format t (none least) = 0 ∷ (body_bytes t ++ to_be_bytes w64 least)
 
--- a record behind its mark
+-- a record after its mark
 unfoldable pub record_bytes : ℕ → Record → List ℕ
 record_bytes format r = 0x52 ∷ said_bytes format r.table r.said
 
--- the end behind its mark: the number of records
+-- the end after its mark: the number of records
 abbrev pub end_bytes : ℕ → List ℕ
 end_bytes records = 0x45 ∷ to_be_bytes w32 records
 
 unfoldable pub proof_bytes : ℕ → Settings → List Record → List ℕ
 proof_bytes format s records = head_bytes format s ++ (flat_map (record_bytes format) records ++ end_bytes (length records))
 
--- ---- what can be said of a table
+-- ---- valid verdicts
 
--- what is printed has its counts, not too many pairs, and in format 2 layers whose sizes rise and whose errors fall
+-- a verdict that can be written: it has the right counts, at most `most_pairs` pairs, and in format 2 layers whose
+-- sizes rise and whose errors fall
 pub record IsPrintable (format : ℕ) (t : Table) (r : Printed) : Type 0 where
   pub choice : length r.choice ≡ length t.slices
   pub layers : length r.layers ≡ suc (length t.slices)
@@ -64,11 +65,11 @@ abbrev pub CanBeSaid : ℕ → Table → Said → Type 0
 CanBeSaid format t (fits r) = IsPrintable format t r
 CanBeSaid format t (none least) = Unit {0}
 
--- a pair of these widths: four and eight bytes
+-- a pair that fits its fields of four and eight bytes
 abbrev pub IsPair : Pair → Type 0
 IsPair p = (p.size < 2 ^ 32) × (p.error < 2 ^ 64)
 
--- the numbers that are printed have their widths
+-- the numbers of a verdict fit their fields
 pub record HasWidths (r : Printed) : Type 0 where
   pub indices : All (λ index. index < 256) r.choice
   pub size : r.size < 2 ^ 32
@@ -80,39 +81,13 @@ abbrev pub AreWide : Said → Type 0
 AreWide (fits r) = HasWidths r
 AreWide (none least) = least < 2 ^ 64
 
--- a record that is written in a format
+-- a record that can be written in a format
 pub record IsWritten (format : ℕ) (r : Record) : Type 0 where
   pub table : IsTable r.table
   pub said : CanBeSaid format r.table r.said
   pub widths : AreWide r.said
 
 -- ---- reading
-
--- a table that is cut is a proof that is cut
-abbrev pub as_proof : ProofKind → ProofKind
-as_proof TableShort = ProofShort
-as_proof kind = kind
-
-abbrev pub in_proof : {A : Type 0} → Result A (Fault ProofKind) → Result A (Fault ProofKind)
-in_proof (Ok x) = Ok x
-in_proof (Err f) = Err (record { kind = as_proof f.kind; place = f.place })
-
--- the same of an error
-abbrev pub renamed : TableFault → TableFault
-renamed (faults.Bad kind place) = faults.Bad (as_proof kind) place
-renamed faults.Failed = faults.Failed
-renamed faults.NoMemory = faults.NoMemory
-
-abbrev pub table_at : Rest → Read ProofKind Table
-table_at s = in_proof (body_at s)
-
--- that many indices, each a byte of its own
-unfoldable pub indices_at : ℕ → Rest → Read ProofKind (List ℕ)
-indices_at zero s = Ok ([], s)
-indices_at (suc n) s = do
-  first ← number_at ProofShort w8 s
-  others ← indices_at n first.1
-  Ok (first.0 ∷ others.0, others.1)
 
 unfoldable pub fit_at : ℕ → ℕ → Rest → Read ProofKind Said
 fit_at format slices s = do
@@ -126,11 +101,11 @@ fit_at format slices s = do
 unfoldable pub none_at : Rest → Read ProofKind Said
 none_at s = number_at ProofShort w64 s >>= λ n. Ok (none n.0, n.1)
 
--- what is said of a table of so many slices
+-- the verdict on a table of `slices` slices
 unfoldable pub said_at : ℕ → ℕ → ℕ → Rest → Read ProofKind Said
 said_at format verdict slices s = if verdict == 1 then fit_at format slices s else none_at s
 
--- a record behind its mark
+-- a record after its mark
 unfoldable pub record_at : ℕ → Rest → Read ProofKind Record
 record_at format s = do
   verdict ← number_at ProofShort w8 s
@@ -139,7 +114,7 @@ record_at format s = do
   said ← said_at format verdict.0 (length table.0.slices) table.1
   Ok (record { table = table.0; said = said.0 }, said.1)
 
--- how far a proof was written or read: its records, and whether a further one may stand there
+-- the progress of writing or reading a proof: the number of records, and whether a further one may follow
 pub record Progress : Type 0 where
   pub count : ℕ
   pub more : Bool
@@ -147,7 +122,7 @@ pub record Progress : Type 0 where
 abbrev pub no_records : Progress
 no_records = record { count = 0; more = true }
 
--- A further record may stand there.
+-- A further record may follow.
 abbrev pub MayStand : Progress → Type 0
 MayStand p = IsTrue p.more × (p.count < most_records)
 
@@ -155,14 +130,14 @@ abbrev pub is_fit : Said → Bool
 is_fit (fits p) = true
 is_fit (none n) = false
 
--- Behind a record of verdict none, and behind one with fewer slices than a whole group, none may stand.
+-- No record may follow one whose verdict is none, nor one with fewer slices than a whole group.
 abbrev pub goes_on : Settings → Record → Bool
 goes_on s r = is_fit r.said && nat_le (s.group * frame_slices s) (length r.table.slices)
 
 abbrev pub further : Settings → Progress → Record → Progress
 further s p r = record { count = p.count + 1; more = goes_on s r }
 
--- the mark of a record, or that of the end: whether it is a record's
+-- the mark of a record or of the end; whether it is a record's
 unfoldable pub mark_at : Progress → Rest → Read ProofKind Bool
 mark_at p s = do
   mark ← number_at ProofShort w8 s
@@ -170,7 +145,7 @@ mark_at p s = do
   _ ← refuse (mark.0 == 0x52 && (not p.more || nat_le most_records p.count)) ProofShape s.place
   Ok (mark.0 == 0x52, mark.1)
 
--- the end behind its mark, behind so many records
+-- the end after its mark, after `count` records
 unfoldable pub end_at : ℕ → Rest → Read ProofKind (Option Record)
 end_at count s = do
   number ← number_at ProofShort w32 s
@@ -181,26 +156,26 @@ end_at count s = do
 unfoldable pub some_at : ℕ → Rest → Read ProofKind (Option Record)
 some_at format s = record_at format s >>= λ r. Ok (Some r.0, r.1)
 
--- the next record; none behind the end of the proof, which is the end of the file
+-- the next record; none at the end of the proof, which is the end of the file
 unfoldable pub next_at : ℕ → Progress → Rest → Read ProofKind (Option Record)
 next_at format p s = mark_at p s >>= λ mark. if mark.0 then some_at format mark.1 else end_at p.count mark.1
 
--- a record and those behind it; none at the end
+-- a record and those after it; none at the end
 abbrev pub with_others : Option Record → Result (List Record) (Fault ProofKind) → Result (List Record) (Fault ProofKind)
 with_others None others = Ok []
 with_others (Some r) others = others >>= λ rs. Ok (r ∷ rs)
 
--- how far it is behind what was read
+-- the progress after what was read
 abbrev pub after : Settings → Progress → Option Record → Progress
 after s p None = p
 after s p (Some r) = further s p r
 
--- the records from here to the end of the file, at most so many
+-- the records from here to the end of the file, at most n
 unfoldable pub records_at : ℕ → ℕ → Settings → Progress → Rest → Result (List Record) (Fault ProofKind)
 records_at zero format s p rest = Ok []
 records_at (suc n) format s p rest = next_at format p rest >>= λ next. with_others next.0 (records_at n format s (after s p next.0) next.1)
 
--- what a proof is in the making, and in the reading
+-- the state of a writer, and that of a reader
 pub record Writing : Type 0 where
   pub settings : Settings
   pub format : ℕ
@@ -213,7 +188,7 @@ pub record Reading : Type 0 where
   pub ended : Bool
   pub place : ℕ
 
--- where a proof was read to
+-- the offset up to which a proof was read
 abbrev pub place_of : Result Reading TableFault → ℕ
 place_of (Ok r) = r.place
 place_of (Err _) = 0
@@ -225,8 +200,8 @@ pub record Proved : Type 0 where
   pub settings : Settings
   pub records : List Record
 
--- The format, the settings and the records of a proof, or its first fault. A mark behind 1,000,000 records is a fault or the end, so
--- that the number given to `records_at` doesn't run out.
+-- The format, the settings and the records of a proof, or its first error. After `most_records` records the next
+-- mark is an error or the end, so the number given to `records_at` suffices.
 unfoldable pub proved : List ℕ → Result Proved (Fault ProofKind)
 proved bytes = do
   head ← head_at (record { place = 0; bytes = bytes })

@@ -1,5 +1,5 @@
--- The head of a proof file, in both formats: what is written of settings, and the settings that bytes stand for, or their first
--- fault and its place. Our own formats.
+-- The head of a proof file, in both formats, for the writer and for the reader: the bytes that are written, and the
+-- settings that bytes stand for, or their first error and its offset. Our own formats.
 use Rattle.std.specs.Prelude.{ℕ, ◌+◌, ◌-◌, ◌*◌, ◌/◌, ◌%◌, ◌^◌, Bool, not, ◌==◌, ◌||◌, nat_le, nat_lt, if◌then◌else◌, List, [], ◌∷◌, ◌++◌, Option, None, Some, Ok, codes, is_some}
 use Rattle.std.specs.Int.{w8, w16, w32, to_be_bytes}
 use Rattle.std.specs.List.{list_any}
@@ -14,6 +14,7 @@ use Rattle.pw_planes.specs.declared.kinds.Interlace.{Interlace}
 use Rattle.pw_planes.specs.declared.kinds.Interlace.TheVariants.{Progressive, TopFirst, BottomFirst}
 use Rattle.pr_geom.specs.Faults.{first_fault, slice_count}
 use Rattle.pr_geom.specs.Slices.{pictures_of}
+use Rattle.rate_table.specs.declared.table.TheConstants.{MAX_TABLE_SLICES}
 use Rattle.rate_table.specs.declared.fault.ProofKind.{ProofKind}
 use Rattle.rate_table.specs.declared.fault.ProofKind.TheVariants.{ProofMagic, ProofShape, ProofShort}
 use Rattle.rate_cert.specs.declared.settings.Settings.{Settings}
@@ -43,11 +44,11 @@ interlace_number Progressive = 0
 interlace_number TopFirst = 1
 interlace_number BottomFirst = 2
 
--- form and group together: groups of 1 to 8 frames of Y4M or raw pictures, or 16 for products
+-- the byte of form and group: groups of 1 to 8 frames of Y4M or raw pictures, or 16 for products
 abbrev pub form_number : ℕ → ℕ → ℕ
 form_number form group = if form == 2 then 16 else form + 2 * (group - 1)
 
--- ---- what is written
+-- ---- writing
 
 unfoldable pub head_bytes : ℕ → Settings → List ℕ
 head_bytes format s =
@@ -55,7 +56,7 @@ head_bytes format s =
     ++ (chroma_number s.chroma ∷ depth_number s.depth ∷ alpha_number s.alpha ∷ interlace_number s.interlace ∷ s.log2 ∷ s.lo ∷ s.hi ∷ [])
     ++ to_be_bytes w32 s.num ++ to_be_bytes w32 s.den ++ s.luma ++ s.chroma_weights ++ to_be_bytes w32 s.budget
 
--- ---- what the numbers stand for
+-- ---- the meaning of the numbers
 
 abbrev pub chroma_of : ℕ → Option Chroma
 chroma_of n = if n == 2 then Some C422 else (if n == 3 then Some C444 else None)
@@ -78,19 +79,20 @@ group_of n = if n == 16 then 1 else n / 2 + 1
 abbrev pub is_no_weight : ℕ → Bool
 is_no_weight w = nat_lt w 2 || nat_lt 63 w
 
--- Such pictures can't be cut into slices, or a group of their frames has too many.
+-- Such pictures can't be cut into slices, or a group of their frames has too many slices.
 abbrev pub has_no_layout : ℕ → ℕ → ℕ → Interlace → ℕ → Bool
 has_no_layout width height log2 interlace group =
-    is_some (first_fault width height log2 interlace) || nat_lt 131070 (group * (pictures_of interlace * slice_count width height log2 interlace))
+    is_some (first_fault width height log2 interlace)
+    || nat_lt MAX_TABLE_SLICES (group * (pictures_of interlace * slice_count width height log2 interlace))
 
 -- ---- reading
 
--- what the number at a place stands for; a fault there, where it stands for nothing
+-- the meaning of the number at an offset, or an error there
 unfoldable pub meant : {A : Type 0} → Option A → ℕ → Rest → Read ProofKind A
 meant None place s = bad ProofShape place
 meant (Some x) place s = Ok (x, s)
 
--- the letters and the format
+-- the magic number and the format
 unfoldable pub format_at : Rest → Read ProofKind ℕ
 format_at s = do
   magic ← number_at ProofShort w32 s
@@ -122,7 +124,7 @@ alpha_at s = number_at ProofShort w8 s >>= λ n. meant (alpha_of n.0) s.place n.
 unfoldable pub interlace_at : Rest → Read ProofKind Interlace
 interlace_at s = number_at ProofShort w8 s >>= λ n. meant (interlace_of n.0) s.place n.1
 
--- how the pictures of this height are made
+-- the format of pictures of this height
 unfoldable pub kinds_at : ℕ → Rest → Read ProofKind Kinds
 kinds_at height s = do
   chroma ← chroma_at s
@@ -132,7 +134,7 @@ kinds_at height s = do
   _ ← refuse (nat_lt 0 (height % pictures_of interlace.0)) ProofShape alpha.1.place
   Ok (record { chroma = chroma.0; depth = depth.0; alpha = alpha.0; interlace = interlace.0 }, interlace.1)
 
--- the slices of such pictures, and the indices that they may have
+-- the slicing of such pictures, and the range of quantisation indices
 unfoldable pub slicing_at : Size → Interlace → Rest → Read ProofKind Slicing
 slicing_at size interlace s = do
   log2 ← number_at ProofShort w8 s
@@ -144,7 +146,7 @@ slicing_at size interlace s = do
   _ ← refuse (nat_lt hi.0 lo.0 || nat_lt 224 hi.0) ProofShape lo.1.place
   Ok (record { log2 = log2.0; lo = lo.0; hi = hi.0 }, hi.1)
 
--- the rate of frames
+-- the frame rate
 unfoldable pub rate_at : Rest → Read ProofKind Rate
 rate_at s = do
   num ← number_at ProofShort w32 s
@@ -153,14 +155,14 @@ rate_at s = do
   _ ← refuse (den.0 == 0 || nat_lt 4000 den.0) ProofShape num.1.place
   Ok (record { num = num.0; den = den.0 }, den.1)
 
--- the weights of a matrix; a fault at the first of them, where one isn't from 2 to 63
+-- the weights of a matrix, each from 2 to 63; an error is at the first of them
 unfoldable pub weights_at : Rest → Read ProofKind (List ℕ)
 weights_at s = do
   weights ← bytes_at ProofShort 64 s
   _ ← refuse (list_any is_no_weight weights.0) ProofShape s.place
   Ok weights
 
--- the budget of a frame, of which a group has so many
+-- the budget of one of the `group` frames of a group
 unfoldable pub budget_at : ℕ → Rest → Read ProofKind ℕ
 budget_at group s = do
   budget ← number_at ProofShort w32 s
@@ -187,7 +189,7 @@ settings_of size kinds slicing rate luma weights budget = record {
   budget = budget;
 }
 
--- the settings behind the format
+-- the settings, which follow the format
 unfoldable pub settings_at : Rest → Read ProofKind Settings
 settings_at s = do
   size ← size_at s

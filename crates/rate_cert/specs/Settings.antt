@@ -1,16 +1,17 @@
--- What the settings of a proof may be (limits of our own).
+-- Valid settings of a proof (limits of our own).
 use Rattle.std.specs.Prelude.{◌≡◌, ℕ, ◌*◌, ◌<◌, ◌≤◌, ◌^◌, length, None}
 use Rattle.std.specs.List.{All}
 use Rattle.pr_geom.specs.Faults.{first_fault, slice_count}
 use Rattle.pr_geom.specs.Slices.{pictures_of}
 use Rattle.pr_quant.specs.Matrices.{IsWeight}
+use Rattle.rate_table.specs.declared.table.TheConstants.{MAX_TABLE_SLICES}
 use Rattle.rate_cert.specs.declared.settings.Settings.{Settings}
 
--- how many slices a frame has, in all its pictures
+-- the number of slices of a frame, in all its pictures
 abbrev pub frame_slices : Settings → ℕ
 frame_slices s = pictures_of s.interlace * slice_count s.width s.height s.log2 s.interlace
 
--- Settings that a proof can have.
+-- Valid settings of a proof.
 pub record IsSettings (s : Settings) : Type 0 where
   pub form : s.form ≤ 2
   pub group_from : 1 ≤ s.group
@@ -18,7 +19,7 @@ pub record IsSettings (s : Settings) : Type 0 where
   pub products : s.form ≡ 2 → s.group ≡ 1
   pub size : s.log2 ≤ 3
   pub layout : first_fault s.width s.height s.log2 s.interlace ≡ None
-  pub slices : s.group * frame_slices s ≤ 131070
+  pub slices : s.group * frame_slices s ≤ MAX_TABLE_SLICES
   pub lo : 1 ≤ s.lo
   pub order : s.lo ≤ s.hi
   pub hi : s.hi ≤ 224

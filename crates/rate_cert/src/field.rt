@@ -1,4 +1,4 @@
-//! Fields of a proof that are no numbers of one, two, four or eight bytes: several bytes, and a number in groups of 7 bits.
+//! Fields of a proof other than big-endian numbers: byte arrays and LEB128 numbers.
 
 ghost use Rattle.std.specs.Prelude.{◌≡◌, ◌+◌, ◌*◌, ◌<◌, ◌≤◌, ◌^◌, IfOk, false};
 ghost use Rattle.pw_outside.specs.Ports.{CountsFault, GoesOn};
@@ -10,7 +10,7 @@ ghost use Rattle.rate_cert.specs.Numbers.{group_at, groups_at, limit, short_at};
 use pw_outside::{ByteSource, fill};
 use rate_table::{ProofKind, TableFault, bad, read_u8};
 
-/// What a field is that is wanting bytes.
+/// The error if the input ends within a field.
 pub(crate) const SHORT: ProofKind = ProofKind::ProofShort;
 
 /// The next `N` bytes.
@@ -19,7 +19,8 @@ pub(crate) fn bytes_of<S: ByteSource, const N: usize>(
     place: &mut u64,
 ) -> Result<[u8; N], TableFault>
     requires { place.old + N < 2 ^ 64 }
-    ensures bytes { Gives told_fault (λ x. x) (S.left source.old) (S.left source.new) place.old place.new result (bytes_at ProofShort N) }
+    ensures bytes { Gives told_fault (λ x. x) (S.left source.old) (S.left source.new) place.old place.new result
+        (bytes_at ProofShort N) }
     ensures place { place.new ≤ place.old + N }
     ensures becomes { GoesOn S.becomes source.old source.new }
     ensures cause { CountsFault (S.faults source.old) (S.faults source.new) (is_failed result) }
@@ -34,11 +35,12 @@ pub(crate) fn bytes_of<S: ByteSource, const N: usize>(
     Ok(piece)
 }
 
-/// The next byte of the number that begins at `first`.
+/// Reads the next byte of the number at offset `first`.
 #[tactic(auto, unfolding(crate::specs::Numbers::group_at))]
 fn group_of<S: ByteSource>(source: &mut S, place: &mut u64, first: u64) -> Result<u8, TableFault>
     requires { place.old + 1 < 2 ^ 64 }
-    ensures bytes { Gives told_fault (λ x. x) (S.left source.old) (S.left source.new) place.old place.new result (group_at first) }
+    ensures bytes { Gives told_fault (λ x. x) (S.left source.old) (S.left source.new) place.old place.new result
+        (group_at first) }
     ensures place { place.new ≤ place.old + 1 }
     ensures becomes { GoesOn S.becomes source.old source.new }
     ensures cause { CountsFault (S.faults source.old) (S.faults source.new) (is_failed result) }
@@ -53,7 +55,7 @@ fn group_of<S: ByteSource>(source: &mut S, place: &mut u64, first: u64) -> Resul
     Ok(piece[0])
 }
 
-/// The groups of the number that begins at `first`, behind its first one: at most so many more behind the next.
+/// Reads the rest of the LEB128 number at offset `first`, after its first byte: one byte and at most `more` more.
 fn groups_of<S: ByteSource>(
     source: &mut S,
     place: &mut u64,
@@ -62,7 +64,8 @@ fn groups_of<S: ByteSource>(
 ) -> Result<u64, TableFault>
     requires room { place.old + more + 1 < 2 ^ 64 }
     requires few { more ≤ 8 }
-    ensures bytes { Gives told_fault (λ x. x) (S.left source.old) (S.left source.new) place.old place.new result (groups_at more first) }
+    ensures bytes { Gives told_fault (λ x. x) (S.left source.old) (S.left source.new) place.old place.new result
+        (groups_at more first) }
     ensures small { IfOk result (λ n. n < limit more) }
     ensures place { place.new ≤ place.old + more + 1 }
     ensures becomes { GoesOn S.becomes source.old source.new }
@@ -86,11 +89,12 @@ fn groups_of<S: ByteSource>(
     Ok(u64::from(byte - 128) + 128 * high)
 }
 
-/// The next number in groups of 7 bits.
+/// Reads a LEB128 number.
 #[tactic(auto, unfolding(crate::specs::Numbers::short_at, pw_outside::specs::Reading::bind))]
 pub(crate) fn short_of<S: ByteSource>(source: &mut S, place: &mut u64) -> Result<u64, TableFault>
     requires { place.old + 10 < 2 ^ 64 }
-    ensures bytes { Gives told_fault (λ x. x) (S.left source.old) (S.left source.new) place.old place.new result short_at }
+    ensures bytes { Gives told_fault (λ x. x) (S.left source.old) (S.left source.new) place.old place.new result
+        short_at }
     ensures place { place.new ≤ place.old + 10 }
     ensures becomes { GoesOn S.becomes source.old source.new }
     ensures cause { CountsFault (S.faults source.old) (S.faults source.new) (is_failed result) }

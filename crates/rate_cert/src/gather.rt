@@ -1,4 +1,4 @@
-//! Bytes on their way to a sink, gathered into large pieces. No memory is taken.
+//! Buffers bytes for a sink. Takes no memory.
 
 ghost use Rattle.std.specs.Prelude.{◌≡◌, ◌+◌, ◌≤◌, ◌++◌, [], OnOk, OnErr, is_err, length};
 ghost use Rattle.pw_outside.specs.Ports.{CountsFault};
@@ -8,13 +8,15 @@ ghost use Rattle.rate_cert.specs.inner.Gathered.{Gathers};
 use arrayvec::ArrayVec;
 use pw_outside::{ByteSink, Failed, put};
 
-/// How many bytes are gathered at most.
+/// The size of the buffer in bytes.
 pub(crate) const ROOM: usize = 4096;
 
 /// Writes the whole piece.
 pub(crate) fn write<K: ByteSink>(sink: &mut K, piece: &[u8]) -> Result<(), Failed>
-    ensures ok { OnOk result (Puts (sink_state (K.held sink.old) (K.taken sink.old)) (sink_state (K.held sink.new) (K.taken sink.new)) piece.now) }
-    ensures err { OnErr result (PutsFront (sink_state (K.held sink.old) (K.taken sink.old)) (sink_state (K.held sink.new) (K.taken sink.new)) piece.now) }
+    ensures ok { OnOk result (Puts (sink_state (K.held sink.old) (K.taken sink.old))
+        (sink_state (K.held sink.new) (K.taken sink.new)) piece.now) }
+    ensures err { OnErr result (PutsFront (sink_state (K.held sink.old) (K.taken sink.old))
+        (sink_state (K.held sink.new) (K.taken sink.new)) piece.now) }
     ensures settled { K.settled sink.old ≤ K.settled sink.new }
     ensures cause { CountsFault (K.faults sink.old) (K.faults sink.new) (is_err result) }
 {
@@ -24,7 +26,7 @@ pub(crate) fn write<K: ByteSink>(sink: &mut K, piece: &[u8]) -> Result<(), Faile
     }
 }
 
-/// Puts the piece behind what was gathered.
+/// Appends the piece to the buffer.
 fn append(gathered: &mut ArrayVec<u8, ROOM>, piece: &[u8])
     requires { length gathered.old.items + length piece.now ≤ ROOM }
     ensures { gathered.new.items ≡ gathered.old.items ++ piece.now }
@@ -32,14 +34,16 @@ fn append(gathered: &mut ArrayVec<u8, ROOM>, piece: &[u8])
     gathered.try_extend_from_slice(piece).unwrap();
 }
 
-/// Writes what was gathered.
+/// Writes the buffered bytes.
 pub(crate) fn give<K: ByteSink>(
     sink: &mut K,
     gathered: &mut ArrayVec<u8, ROOM>,
 ) -> Result<(), Failed>
-    ensures ok { OnOk result (Puts (sink_state (K.held sink.old) (K.taken sink.old)) (sink_state (K.held sink.new) (K.taken sink.new)) gathered.old.items) }
+    ensures ok { OnOk result (Puts (sink_state (K.held sink.old) (K.taken sink.old))
+        (sink_state (K.held sink.new) (K.taken sink.new)) gathered.old.items) }
     ensures empty { OnOk result (gathered.new.items ≡ []) }
-    ensures err { OnErr result (PutsFront (sink_state (K.held sink.old) (K.taken sink.old)) (sink_state (K.held sink.new) (K.taken sink.new)) gathered.old.items) }
+    ensures err { OnErr result (PutsFront (sink_state (K.held sink.old) (K.taken sink.old))
+        (sink_state (K.held sink.new) (K.taken sink.new)) gathered.old.items) }
     ensures settled { K.settled sink.old ≤ K.settled sink.new }
     ensures cause { CountsFault (K.faults sink.old) (K.faults sink.new) (is_err result) }
 {
@@ -48,14 +52,16 @@ pub(crate) fn give<K: ByteSink>(
     Ok(())
 }
 
-/// Gathers the piece; where there is no room for it, what was gathered is written first.
+/// Buffers the piece; if it doesn't fit, the buffered bytes are written first.
 pub(crate) fn add<K: ByteSink>(
     sink: &mut K,
     gathered: &mut ArrayVec<u8, ROOM>,
     piece: &[u8],
 ) -> Result<(), Failed>
-    ensures ok { OnOk result (Gathers (sink_state (K.held sink.old) (K.taken sink.old)) (sink_state (K.held sink.new) (K.taken sink.new)) gathered.old.items gathered.new.items piece.now) }
-    ensures err { OnErr result (PutsFront (sink_state (K.held sink.old) (K.taken sink.old)) (sink_state (K.held sink.new) (K.taken sink.new)) (gathered.old.items ++ piece.now)) }
+    ensures ok { OnOk result (Gathers (sink_state (K.held sink.old) (K.taken sink.old))
+        (sink_state (K.held sink.new) (K.taken sink.new)) gathered.old.items gathered.new.items piece.now) }
+    ensures err { OnErr result (PutsFront (sink_state (K.held sink.old) (K.taken sink.old))
+        (sink_state (K.held sink.new) (K.taken sink.new)) (gathered.old.items ++ piece.now)) }
     ensures settled { K.settled sink.old ≤ K.settled sink.new }
     ensures cause { CountsFault (K.faults sink.old) (K.faults sink.new) (is_err result) }
 {

@@ -1,10 +1,10 @@
-//! The head of a proof from the bytes of a source.
+//! Reads the head of a proof.
 
 ghost use Rattle.std.specs.Prelude.{◌≡◌, ◌+◌, ◌*◌, ◌<◌, ◌≤◌, ◌^◌, false, IfOk};
 ghost use Rattle.std.specs.List.{All, list_any};
 ghost use Rattle.pw_outside.specs.Ports.{CountsFault, GoesOn};
 ghost use Rattle.pw_outside.specs.Reading.{Gives};
-ghost use Rattle.pr_geom.specs.Faults.{first_fault, slice_count};
+ghost use Rattle.pr_geom.specs.Faults.{slice_count};
 ghost use Rattle.pr_geom.specs.Slices.{pictures_of};
 ghost use Rattle.pr_quant.specs.Matrices.{IsWeight};
 ghost use Rattle.rate_table.specs.Reading.{told_fault, is_failed, is_out_of_memory};
@@ -17,12 +17,12 @@ use crate::settings::Settings;
 use pr_geom::{Layout, pictures_of};
 use pw_outside::ByteSource;
 use pw_planes::{AlphaKind, Chroma, Depth, Interlace};
-use rate_table::{ProofKind, TableFault, bad, read_u8, read_u16, read_u32};
+use rate_table::{MAX_TABLE_SLICES, ProofKind, TableFault, bad, read_u8, read_u16, read_u32};
 
 // `PWPF`
 const MAGIC: u32 = 0x5057_5046;
 
-/// What was coded, how many frames share a budget, and the size of the pictures.
+/// The source of the pictures, the number of frames that share a budget, and the size of the pictures.
 #[derive(Clone, Copy)]
 pub(crate) struct Size {
     form: u8,
@@ -31,7 +31,7 @@ pub(crate) struct Size {
     height: u16,
 }
 
-/// How the pictures are made.
+/// The format of the pictures.
 #[derive(Clone, Copy)]
 pub(crate) struct Kinds {
     chroma: Chroma,
@@ -40,7 +40,7 @@ pub(crate) struct Kinds {
     interlace: Interlace,
 }
 
-/// How frames are cut into slices, and which indices these may have.
+/// The slicing of frames, and the range of quantisation indices.
 #[derive(Clone, Copy)]
 pub(crate) struct Slicing {
     log2: u8,
@@ -48,7 +48,7 @@ pub(crate) struct Slicing {
     hi: u8,
 }
 
-/// The rate of frames.
+/// The frame rate.
 #[derive(Clone, Copy)]
 pub(crate) struct Rate {
     num: u32,
@@ -98,21 +98,21 @@ fn interlace_in(number: u8) -> Option<Interlace>
     }
 }
 
-/// What was coded: 16 is the form of products.
+/// The form in the byte of form and group; 16 is the form of products.
 fn form_in(number: u8) -> u8
     ensures { result ≡ form_of number }
 {
     if number == 16 { 2 } else { number % 2 }
 }
 
-/// How many frames share a budget.
+/// The number of frames that share a budget.
 fn group_in(number: u8) -> u8
     ensures { result ≡ group_of number }
 {
     if number == 16 { 1 } else { number / 2 + 1 }
 }
 
-/// Whether such pictures can't be cut into slices, or a group of their frames has too many.
+/// Whether such pictures can't be cut into slices, or a group of their frames has too many slices.
 #[tactic(auto, unfolding(pr_geom::specs::Faults::slice_count))]
 fn has_no_layout(width: u16, height: u16, log2: u8, interlace: Interlace, group: u8) -> bool
     requires size { log2 ≤ 3 }
@@ -120,17 +120,18 @@ fn has_no_layout(width: u16, height: u16, log2: u8, interlace: Interlace, group:
 {
     match Layout::new(width, height, log2, interlace, Chroma::C422) {
         Ok(layout) => {
-            131_070 < u32::from(group) * (u32::from(layout.pictures()) * layout.slices())
+            MAX_TABLE_SLICES < u32::from(group) * (u32::from(layout.pictures()) * layout.slices())
         }
         Err(_) => true,
     }
 }
 
-/// The letters and the format.
+/// Reads the magic number and the format.
 #[tactic(auto, unfolding(crate::specs::Head::format_at, pw_outside::specs::Reading::bind))]
 pub(crate) fn format_of<S: ByteSource>(source: &mut S, place: &mut u64) -> Result<u8, TableFault>
     requires { place.old + 5 < 2 ^ 64 }
-    ensures bytes { Gives told_fault (λ x. x) (S.left source.old) (S.left source.new) place.old place.new result format_at }
+    ensures bytes { Gives told_fault (λ x. x) (S.left source.old) (S.left source.new) place.old place.new result
+        format_at }
     ensures format { IfOk result IsFormat }
     ensures place { place.new ≤ place.old + 5 }
     ensures becomes { GoesOn S.becomes source.old source.new }
@@ -150,11 +151,12 @@ pub(crate) fn format_of<S: ByteSource>(source: &mut S, place: &mut u64) -> Resul
     Ok(format)
 }
 
-/// Form and group, and the size of the pictures.
+/// Reads form and group, and the size of the pictures.
 #[tactic(auto, unfolding(crate::specs::Head::size_at, pw_outside::specs::Reading::bind))]
 fn size_of<S: ByteSource>(source: &mut S, place: &mut u64) -> Result<Size, TableFault>
     requires { place.old + 5 < 2 ^ 64 }
-    ensures bytes { Gives told_fault (λ x. x) (S.left source.old) (S.left source.new) place.old place.new result size_at }
+    ensures bytes { Gives told_fault (λ x. x) (S.left source.old) (S.left source.new) place.old place.new result
+        size_at }
     ensures form { IfOk result (λ s. (s.form ≤ 2) × (1 ≤ s.group) × (s.group ≤ 8) × (s.form ≡ 2 → s.group ≡ 1)) }
     ensures place { place.new ≤ place.old + 5 }
     ensures becomes { GoesOn S.becomes source.old source.new }
@@ -184,11 +186,12 @@ fn size_of<S: ByteSource>(source: &mut S, place: &mut u64) -> Result<Size, Table
     })
 }
 
-/// The chroma sampling.
+/// Reads the chroma sampling.
 #[tactic(auto, unfolding(crate::specs::Head::chroma_at, crate::specs::Head::meant, pw_outside::specs::Reading::bind))]
 fn chroma_of<S: ByteSource>(source: &mut S, place: &mut u64) -> Result<Chroma, TableFault>
     requires { place.old + 1 < 2 ^ 64 }
-    ensures bytes { Gives told_fault (λ x. x) (S.left source.old) (S.left source.new) place.old place.new result chroma_at }
+    ensures bytes { Gives told_fault (λ x. x) (S.left source.old) (S.left source.new) place.old place.new result
+        chroma_at }
     ensures place { place.new ≤ place.old + 1 }
     ensures becomes { GoesOn S.becomes source.old source.new }
     ensures cause { CountsFault (S.faults source.old) (S.faults source.new) (is_failed result) }
@@ -202,11 +205,12 @@ fn chroma_of<S: ByteSource>(source: &mut S, place: &mut u64) -> Result<Chroma, T
     }
 }
 
-/// The depth of the samples.
+/// Reads the bit depth.
 #[tactic(auto, unfolding(crate::specs::Head::depth_at, crate::specs::Head::meant, pw_outside::specs::Reading::bind))]
 fn depth_of<S: ByteSource>(source: &mut S, place: &mut u64) -> Result<Depth, TableFault>
     requires { place.old + 1 < 2 ^ 64 }
-    ensures bytes { Gives told_fault (λ x. x) (S.left source.old) (S.left source.new) place.old place.new result depth_at }
+    ensures bytes { Gives told_fault (λ x. x) (S.left source.old) (S.left source.new) place.old place.new result
+        depth_at }
     ensures place { place.new ≤ place.old + 1 }
     ensures becomes { GoesOn S.becomes source.old source.new }
     ensures cause { CountsFault (S.faults source.old) (S.faults source.new) (is_failed result) }
@@ -220,11 +224,12 @@ fn depth_of<S: ByteSource>(source: &mut S, place: &mut u64) -> Result<Depth, Tab
     }
 }
 
-/// The kind of alpha.
+/// Reads the kind of alpha.
 #[tactic(auto, unfolding(crate::specs::Head::alpha_at, crate::specs::Head::meant, pw_outside::specs::Reading::bind))]
 fn alpha_of<S: ByteSource>(source: &mut S, place: &mut u64) -> Result<AlphaKind, TableFault>
     requires { place.old + 1 < 2 ^ 64 }
-    ensures bytes { Gives told_fault (λ x. x) (S.left source.old) (S.left source.new) place.old place.new result alpha_at }
+    ensures bytes { Gives told_fault (λ x. x) (S.left source.old) (S.left source.new) place.old place.new result
+        alpha_at }
     ensures place { place.new ≤ place.old + 1 }
     ensures becomes { GoesOn S.becomes source.old source.new }
     ensures cause { CountsFault (S.faults source.old) (S.faults source.new) (is_failed result) }
@@ -238,11 +243,12 @@ fn alpha_of<S: ByteSource>(source: &mut S, place: &mut u64) -> Result<AlphaKind,
     }
 }
 
-/// The interlace mode.
+/// Reads the interlace mode.
 #[tactic(auto, unfolding(crate::specs::Head::interlace_at, crate::specs::Head::meant, pw_outside::specs::Reading::bind))]
 fn interlace_of<S: ByteSource>(source: &mut S, place: &mut u64) -> Result<Interlace, TableFault>
     requires { place.old + 1 < 2 ^ 64 }
-    ensures bytes { Gives told_fault (λ x. x) (S.left source.old) (S.left source.new) place.old place.new result interlace_at }
+    ensures bytes { Gives told_fault (λ x. x) (S.left source.old) (S.left source.new) place.old place.new result
+        interlace_at }
     ensures place { place.new ≤ place.old + 1 }
     ensures becomes { GoesOn S.becomes source.old source.new }
     ensures cause { CountsFault (S.faults source.old) (S.faults source.new) (is_failed result) }
@@ -256,7 +262,7 @@ fn interlace_of<S: ByteSource>(source: &mut S, place: &mut u64) -> Result<Interl
     }
 }
 
-/// How the pictures of this height are made.
+/// Reads the format of pictures of this height.
 #[tactic(auto, unfolding(crate::specs::Head::kinds_at, pw_outside::specs::Reading::bind))]
 fn kinds_of<S: ByteSource>(
     source: &mut S,
@@ -264,7 +270,8 @@ fn kinds_of<S: ByteSource>(
     height: u16,
 ) -> Result<Kinds, TableFault>
     requires { place.old + 4 < 2 ^ 64 }
-    ensures bytes { Gives told_fault (λ x. x) (S.left source.old) (S.left source.new) place.old place.new result (kinds_at height) }
+    ensures bytes { Gives told_fault (λ x. x) (S.left source.old) (S.left source.new) place.old place.new result
+        (kinds_at height) }
     ensures place { place.new ≤ place.old + 4 }
     ensures becomes { GoesOn S.becomes source.old source.new }
     ensures cause { CountsFault (S.faults source.old) (S.faults source.new) (is_failed result) }
@@ -286,7 +293,7 @@ fn kinds_of<S: ByteSource>(
     })
 }
 
-/// The slices of such pictures, and the indices that they may have.
+/// Reads the slicing of such pictures, and the range of quantisation indices.
 #[tactic(auto, unfolding(crate::specs::Head::slicing_at, pw_outside::specs::Reading::bind))]
 fn slicing_of<S: ByteSource>(
     source: &mut S,
@@ -295,8 +302,10 @@ fn slicing_of<S: ByteSource>(
     interlace: Interlace,
 ) -> Result<Slicing, TableFault>
     requires { place.old + 3 < 2 ^ 64 }
-    ensures bytes { Gives told_fault (λ x. x) (S.left source.old) (S.left source.new) place.old place.new result (slicing_at size interlace) }
-    ensures layout { IfOk result (λ s. (s.log2 ≤ 3) × (has_no_layout size.width size.height s.log2 interlace size.group ≡ false)) }
+    ensures bytes { Gives told_fault (λ x. x) (S.left source.old) (S.left source.new) place.old place.new result
+        (slicing_at size interlace) }
+    ensures layout { IfOk result (λ s. (s.log2 ≤ 3) × (has_no_layout size.width size.height s.log2 interlace size.group
+        ≡ false)) }
     ensures indices { IfOk result (λ s. (1 ≤ s.lo) × (s.lo ≤ s.hi) × (s.hi ≤ 224)) }
     ensures place { place.new ≤ place.old + 3 }
     ensures becomes { GoesOn S.becomes source.old source.new }
@@ -324,11 +333,12 @@ fn slicing_of<S: ByteSource>(
     Ok(Slicing { log2, lo, hi })
 }
 
-/// The rate of frames.
+/// Reads the frame rate.
 #[tactic(auto, unfolding(crate::specs::Head::rate_at, pw_outside::specs::Reading::bind))]
 fn rate_of<S: ByteSource>(source: &mut S, place: &mut u64) -> Result<Rate, TableFault>
     requires { place.old + 8 < 2 ^ 64 }
-    ensures bytes { Gives told_fault (λ x. x) (S.left source.old) (S.left source.new) place.old place.new result rate_at }
+    ensures bytes { Gives told_fault (λ x. x) (S.left source.old) (S.left source.new) place.old place.new result
+        rate_at }
     ensures rate { IfOk result (λ r. (1 ≤ r.num) × (r.num ≤ 1000000) × (1 ≤ r.den) × (r.den ≤ 4000)) }
     ensures place { place.new ≤ place.old + 8 }
     ensures becomes { GoesOn S.becomes source.old source.new }
@@ -355,11 +365,12 @@ fn has_no_weight(weights: &[u8; 64]) -> bool
     weights.iter().any(|weight| *weight < 2 || 63 < *weight)
 }
 
-/// The weights of a matrix.
+/// Reads the weights of a matrix.
 #[tactic(auto, unfolding(crate::specs::Head::weights_at, pw_outside::specs::Reading::bind))]
 fn weights_of<S: ByteSource>(source: &mut S, place: &mut u64) -> Result<[u8; 64], TableFault>
     requires { place.old + 64 < 2 ^ 64 }
-    ensures bytes { Gives told_fault (λ x. x) (S.left source.old) (S.left source.new) place.old place.new result weights_at }
+    ensures bytes { Gives told_fault (λ x. x) (S.left source.old) (S.left source.new) place.old place.new result
+        weights_at }
     ensures weights { IfOk result (All IsWeight) }
     ensures place { place.new ≤ place.old + 64 }
     ensures becomes { GoesOn S.becomes source.old source.new }
@@ -374,11 +385,12 @@ fn weights_of<S: ByteSource>(source: &mut S, place: &mut u64) -> Result<[u8; 64]
     Ok(weights)
 }
 
-/// The budget of a frame, of which a group has so many.
+/// Reads the budget of one of the `group` frames of a group.
 #[tactic(auto, unfolding(crate::specs::Head::budget_at, pw_outside::specs::Reading::bind))]
 fn budget_of<S: ByteSource>(source: &mut S, place: &mut u64, group: u8) -> Result<u32, TableFault>
     requires { place.old + 4 < 2 ^ 64 }
-    ensures bytes { Gives told_fault (λ x. x) (S.left source.old) (S.left source.new) place.old place.new result (budget_at group) }
+    ensures bytes { Gives told_fault (λ x. x) (S.left source.old) (S.left source.new) place.old place.new result
+        (budget_at group) }
     ensures budget { IfOk result (λ b. (1 ≤ b) × (group * b < 2 ^ 31)) }
     ensures place { place.new ≤ place.old + 4 }
     ensures becomes { GoesOn S.becomes source.old source.new }
@@ -393,14 +405,15 @@ fn budget_of<S: ByteSource>(source: &mut S, place: &mut u64, group: u8) -> Resul
     Ok(budget)
 }
 
-/// The settings behind the format.
+/// Reads the settings, which follow the format.
 #[tactic(auto, unfolding(crate::specs::Head::settings_at, pw_outside::specs::Reading::bind))]
 pub(crate) fn settings_of<S: ByteSource>(
     source: &mut S,
     place: &mut u64,
 ) -> Result<Settings, TableFault>
     requires { place.old + 152 < 2 ^ 64 }
-    ensures bytes { Gives told_fault (λ x. x) (S.left source.old) (S.left source.new) place.old place.new result settings_at }
+    ensures bytes { Gives told_fault (λ x. x) (S.left source.old) (S.left source.new) place.old place.new result
+        settings_at }
     ensures settings { IfOk result IsSettings }
     ensures place { place.new ≤ place.old + 152 }
     ensures becomes { GoesOn S.becomes source.old source.new }

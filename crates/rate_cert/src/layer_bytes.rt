@@ -1,4 +1,4 @@
-//! The layers of a record, as they are written. No memory is taken.
+//! Writes the layers of a record. Takes no memory.
 
 ghost use Rattle.std.specs.Prelude.{◌≡◌, ◌+◌, ◌-◌, ◌<◌, ◌≤◌, ◌++◌, ◌∷◌, OnOk, OnErr, is_err, length, map};
 ghost use Rattle.std.specs.List.{All, flat_map, sum_by};
@@ -15,7 +15,7 @@ use arrayvec::ArrayVec;
 use pw_outside::{ByteSink, Failed};
 use rate_table::Pair;
 
-/// Puts a number in groups of 7 bits behind the bytes.
+/// Appends a LEB128 number.
 fn push_number(bytes: &mut ArrayVec<u8, 20>, number: u64)
     requires { length bytes.old.items ≤ 10 }
     ensures bytes { bytes.new.items ≡ bytes.old.items ++ number_bytes number }
@@ -33,7 +33,7 @@ fn push_number(bytes: &mut ArrayVec<u8, 20>, number: u64)
     bytes.push(left as u8);
 }
 
-/// The bytes of a number in groups of 7 bits.
+/// The bytes of a LEB128 number.
 fn bytes_of_number(number: u64) -> ArrayVec<u8, 20>
     ensures { result.items ≡ number_bytes number }
 {
@@ -52,11 +52,12 @@ fn bytes_of_first(pair: Pair) -> ArrayVec<u8, 20>
     bytes
 }
 
-/// The bytes of the pair behind another in format 2.
+/// The bytes of the pair after another in format 2.
 fn bytes_of_step(before: Pair, pair: Pair) -> ArrayVec<u8, 20>
     requires rises { before.size < pair.size }
     requires falls { pair.error < before.error }
-    ensures { result.items ≡ number_bytes (pair.size - (before.size + 1)) ++ number_bytes (before.error - (pair.error + 1)) }
+    ensures { result.items ≡ number_bytes (pair.size - (before.size + 1)) ++ number_bytes
+        (before.error - (pair.error + 1)) }
 {
     let mut bytes = ArrayVec::new();
     push_number(&mut bytes, u64::from(pair.size - (before.size + 1)));
@@ -77,14 +78,17 @@ fn bytes_of_pair(pair: Pair) -> [u8; 12]
     ]
 }
 
-/// Adds pairs in format 1.
+/// Writes pairs in format 1.
 fn add_pairs<K: ByteSink>(
     sink: &mut K,
     gathered: &mut ArrayVec<u8, ROOM>,
     pairs: &[Pair],
 ) -> Result<(), Failed>
-    ensures ok { OnOk result (Gathers (sink_state (K.held sink.old) (K.taken sink.old)) (sink_state (K.held sink.new) (K.taken sink.new)) gathered.old.items gathered.new.items (flat_map pair_bytes pairs.now)) }
-    ensures err { OnErr result (PutsFront (sink_state (K.held sink.old) (K.taken sink.old)) (sink_state (K.held sink.new) (K.taken sink.new)) (gathered.old.items ++ flat_map pair_bytes pairs.now)) }
+    ensures ok { OnOk result (Gathers (sink_state (K.held sink.old) (K.taken sink.old))
+        (sink_state (K.held sink.new) (K.taken sink.new)) gathered.old.items gathered.new.items
+        (flat_map pair_bytes pairs.now)) }
+    ensures err { OnErr result (PutsFront (sink_state (K.held sink.old) (K.taken sink.old))
+        (sink_state (K.held sink.new) (K.taken sink.new)) (gathered.old.items ++ flat_map pair_bytes pairs.now)) }
     ensures settled { K.settled sink.old ≤ K.settled sink.new }
     ensures cause { CountsFault (K.faults sink.old) (K.faults sink.new) (is_err result) }
 {
@@ -94,7 +98,7 @@ fn add_pairs<K: ByteSink>(
     Ok(())
 }
 
-/// Adds the pairs behind one in format 2.
+/// Writes the pairs after one in format 2.
 fn add_steps<K: ByteSink>(
     sink: &mut K,
     gathered: &mut ArrayVec<u8, ROOM>,
@@ -102,8 +106,11 @@ fn add_steps<K: ByteSink>(
     pairs: &[Pair],
 ) -> Result<(), Failed>
     requires { RisesAndFalls (first ∷ pairs.now) }
-    ensures ok { OnOk result (Gathers (sink_state (K.held sink.old) (K.taken sink.old)) (sink_state (K.held sink.new) (K.taken sink.new)) gathered.old.items gathered.new.items (steps_bytes first pairs.now)) }
-    ensures err { OnErr result (PutsFront (sink_state (K.held sink.old) (K.taken sink.old)) (sink_state (K.held sink.new) (K.taken sink.new)) (gathered.old.items ++ steps_bytes first pairs.now)) }
+    ensures ok { OnOk result (Gathers (sink_state (K.held sink.old) (K.taken sink.old))
+        (sink_state (K.held sink.new) (K.taken sink.new)) gathered.old.items gathered.new.items
+        (steps_bytes first pairs.now)) }
+    ensures err { OnErr result (PutsFront (sink_state (K.held sink.old) (K.taken sink.old))
+        (sink_state (K.held sink.new) (K.taken sink.new)) (gathered.old.items ++ steps_bytes first pairs.now)) }
     ensures settled { K.settled sink.old ≤ K.settled sink.new }
     ensures cause { CountsFault (K.faults sink.old) (K.faults sink.new) (is_err result) }
 {
@@ -115,15 +122,18 @@ fn add_steps<K: ByteSink>(
     Ok(())
 }
 
-/// Adds the pairs of a layer in format 2.
+/// Writes the pairs of a layer in format 2.
 fn add_close_pairs<K: ByteSink>(
     sink: &mut K,
     gathered: &mut ArrayVec<u8, ROOM>,
     layer: &[Pair],
 ) -> Result<(), Failed>
     requires { RisesAndFalls layer.now }
-    ensures ok { OnOk result (Gathers (sink_state (K.held sink.old) (K.taken sink.old)) (sink_state (K.held sink.new) (K.taken sink.new)) gathered.old.items gathered.new.items (close_pairs_bytes layer.now)) }
-    ensures err { OnErr result (PutsFront (sink_state (K.held sink.old) (K.taken sink.old)) (sink_state (K.held sink.new) (K.taken sink.new)) (gathered.old.items ++ close_pairs_bytes layer.now)) }
+    ensures ok { OnOk result (Gathers (sink_state (K.held sink.old) (K.taken sink.old))
+        (sink_state (K.held sink.new) (K.taken sink.new)) gathered.old.items gathered.new.items
+        (close_pairs_bytes layer.now)) }
+    ensures err { OnErr result (PutsFront (sink_state (K.held sink.old) (K.taken sink.old))
+        (sink_state (K.held sink.new) (K.taken sink.new)) (gathered.old.items ++ close_pairs_bytes layer.now)) }
     ensures settled { K.settled sink.old ≤ K.settled sink.new }
     ensures cause { CountsFault (K.faults sink.old) (K.faults sink.new) (is_err result) }
 {
@@ -137,15 +147,18 @@ fn add_close_pairs<K: ByteSink>(
     }
 }
 
-/// Adds a layer in format 1.
+/// Writes a layer in format 1.
 fn add_wide<K: ByteSink>(
     sink: &mut K,
     gathered: &mut ArrayVec<u8, ROOM>,
     layer: &[Pair],
 ) -> Result<(), Failed>
     requires { length layer.now ≤ most_pairs }
-    ensures ok { OnOk result (Gathers (sink_state (K.held sink.old) (K.taken sink.old)) (sink_state (K.held sink.new) (K.taken sink.new)) gathered.old.items gathered.new.items (wide_bytes layer.now)) }
-    ensures err { OnErr result (PutsFront (sink_state (K.held sink.old) (K.taken sink.old)) (sink_state (K.held sink.new) (K.taken sink.new)) (gathered.old.items ++ wide_bytes layer.now)) }
+    ensures ok { OnOk result (Gathers (sink_state (K.held sink.old) (K.taken sink.old))
+        (sink_state (K.held sink.new) (K.taken sink.new)) gathered.old.items gathered.new.items
+        (wide_bytes layer.now)) }
+    ensures err { OnErr result (PutsFront (sink_state (K.held sink.old) (K.taken sink.old))
+        (sink_state (K.held sink.new) (K.taken sink.new)) (gathered.old.items ++ wide_bytes layer.now)) }
     ensures settled { K.settled sink.old ≤ K.settled sink.new }
     ensures cause { CountsFault (K.faults sink.old) (K.faults sink.new) (is_err result) }
 {
@@ -155,15 +168,18 @@ fn add_wide<K: ByteSink>(
     Ok(())
 }
 
-/// Adds a layer in format 2.
+/// Writes a layer in format 2.
 fn add_close<K: ByteSink>(
     sink: &mut K,
     gathered: &mut ArrayVec<u8, ROOM>,
     layer: &[Pair],
 ) -> Result<(), Failed>
     requires { RisesAndFalls layer.now }
-    ensures ok { OnOk result (Gathers (sink_state (K.held sink.old) (K.taken sink.old)) (sink_state (K.held sink.new) (K.taken sink.new)) gathered.old.items gathered.new.items (close_bytes layer.now)) }
-    ensures err { OnErr result (PutsFront (sink_state (K.held sink.old) (K.taken sink.old)) (sink_state (K.held sink.new) (K.taken sink.new)) (gathered.old.items ++ close_bytes layer.now)) }
+    ensures ok { OnOk result (Gathers (sink_state (K.held sink.old) (K.taken sink.old))
+        (sink_state (K.held sink.new) (K.taken sink.new)) gathered.old.items gathered.new.items
+        (close_bytes layer.now)) }
+    ensures err { OnErr result (PutsFront (sink_state (K.held sink.old) (K.taken sink.old))
+        (sink_state (K.held sink.new) (K.taken sink.new)) (gathered.old.items ++ close_bytes layer.now)) }
     ensures settled { K.settled sink.old ≤ K.settled sink.new }
     ensures cause { CountsFault (K.faults sink.old) (K.faults sink.new) (is_err result) }
 {
@@ -173,7 +189,7 @@ fn add_close<K: ByteSink>(
     Ok(())
 }
 
-/// Adds a layer in either format.
+/// Writes a layer in either format.
 #[tactic(auto, unfolding(crate::specs::Layers::layer_bytes))]
 fn add_layer<K: ByteSink>(
     sink: &mut K,
@@ -184,8 +200,11 @@ fn add_layer<K: ByteSink>(
     requires few { length layer.now ≤ most_pairs }
     requires format { IsFormat format }
     requires order { format ≡ 2 → RisesAndFalls layer.now }
-    ensures ok { OnOk result (Gathers (sink_state (K.held sink.old) (K.taken sink.old)) (sink_state (K.held sink.new) (K.taken sink.new)) gathered.old.items gathered.new.items (layer_bytes format layer.now)) }
-    ensures err { OnErr result (PutsFront (sink_state (K.held sink.old) (K.taken sink.old)) (sink_state (K.held sink.new) (K.taken sink.new)) (gathered.old.items ++ layer_bytes format layer.now)) }
+    ensures ok { OnOk result (Gathers (sink_state (K.held sink.old) (K.taken sink.old))
+        (sink_state (K.held sink.new) (K.taken sink.new)) gathered.old.items gathered.new.items
+        (layer_bytes format layer.now)) }
+    ensures err { OnErr result (PutsFront (sink_state (K.held sink.old) (K.taken sink.old))
+        (sink_state (K.held sink.new) (K.taken sink.new)) (gathered.old.items ++ layer_bytes format layer.now)) }
     ensures settled { K.settled sink.old ≤ K.settled sink.new }
     ensures cause { CountsFault (K.faults sink.old) (K.faults sink.new) (is_err result) }
 {
@@ -196,7 +215,7 @@ fn add_layer<K: ByteSink>(
     }
 }
 
-/// Adds layers in either format.
+/// Writes layers in either format.
 pub(crate) fn add_layers<K: ByteSink>(
     sink: &mut K,
     gathered: &mut ArrayVec<u8, ROOM>,
@@ -206,8 +225,12 @@ pub(crate) fn add_layers<K: ByteSink>(
     requires format { IsFormat format }
     requires few { sum_by length (map (λ l. l.items) layers.now) ≤ most_pairs }
     requires order { format ≡ 2 → All RisesAndFalls (map (λ l. l.items) layers.now) }
-    ensures ok { OnOk result (Gathers (sink_state (K.held sink.old) (K.taken sink.old)) (sink_state (K.held sink.new) (K.taken sink.new)) gathered.old.items gathered.new.items (flat_map (layer_bytes format) (map (λ l. l.items) layers.now))) }
-    ensures err { OnErr result (PutsFront (sink_state (K.held sink.old) (K.taken sink.old)) (sink_state (K.held sink.new) (K.taken sink.new)) (gathered.old.items ++ flat_map (layer_bytes format) (map (λ l. l.items) layers.now))) }
+    ensures ok { OnOk result (Gathers (sink_state (K.held sink.old) (K.taken sink.old))
+        (sink_state (K.held sink.new) (K.taken sink.new)) gathered.old.items gathered.new.items
+        (flat_map (layer_bytes format) (map (λ l. l.items) layers.now))) }
+    ensures err { OnErr result (PutsFront (sink_state (K.held sink.old) (K.taken sink.old))
+        (sink_state (K.held sink.new) (K.taken sink.new)) (gathered.old.items ++ flat_map (layer_bytes format)
+        (map (λ l. l.items) layers.now))) }
     ensures settled { K.settled sink.old ≤ K.settled sink.new }
     ensures cause { CountsFault (K.faults sink.old) (K.faults sink.new) (is_err result) }
 {

@@ -1,9 +1,10 @@
-//! The layers of a record from the bytes of a source.
+//! Reads the layers of a record.
 
 ghost use Rattle.std.specs.Prelude.{◌≡◌, ◌+◌, ◌*◌, ◌<◌, ◌≤◌, ◌^◌, IfOk, length, map};
 ghost use Rattle.std.specs.List.{All, sum_by};
 ghost use Rattle.pw_outside.specs.Ports.{CountsFault, GoesOn};
 ghost use Rattle.pw_outside.specs.Reading.{Gives};
+ghost use Rattle.rate_table.specs.declared.table.TheConstants.{MAX_TABLE_SLICES};
 ghost use Rattle.rate_table.specs.Reading.{told_fault, is_failed};
 ghost use Rattle.rate_table.specs.Pairs.{RisesAndFalls};
 ghost use Rattle.rate_cert.specs.Layers.{most_pairs, pair_at, pairs_at, step_at, run_at, first_at, close_pairs_at, wide_at, close_at, layer_at, layers_at};
@@ -14,14 +15,15 @@ use pw_outside::ByteSource;
 use rate_table::{Pair, ProofKind, TableFault, bad, read_u32, read_u64};
 use std::alloc::Global;
 
-/// A record has so many pairs at most.
+/// The largest number of pairs of a record.
 const MOST_PAIRS: u32 = 33_554_432;
 
-/// A pair of format 1.
+/// Reads a pair of format 1.
 #[tactic(auto, unfolding(crate::specs::Layers::pair_at, pw_outside::specs::Reading::bind))]
 fn pair_of<S: ByteSource>(source: &mut S, place: &mut u64) -> Result<Pair, TableFault>
     requires { place.old + 12 < 2 ^ 64 }
-    ensures bytes { Gives told_fault (λ x. x) (S.left source.old) (S.left source.new) place.old place.new result pair_at }
+    ensures bytes { Gives told_fault (λ x. x) (S.left source.old) (S.left source.new) place.old place.new result
+        pair_at }
     ensures pair { IfOk result IsPair }
     ensures place { place.new ≤ place.old + 12 }
     ensures becomes { GoesOn S.becomes source.old source.new }
@@ -32,11 +34,12 @@ fn pair_of<S: ByteSource>(source: &mut S, place: &mut u64) -> Result<Pair, Table
     Ok(Pair { size, error })
 }
 
-/// The first pair of a layer of format 2.
+/// Reads the first pair of a layer of format 2.
 #[tactic(auto, unfolding(crate::specs::Layers::first_at, pw_outside::specs::Reading::bind))]
 fn first_of<S: ByteSource>(source: &mut S, place: &mut u64) -> Result<Pair, TableFault>
     requires { place.old + 20 < 2 ^ 64 }
-    ensures bytes { Gives told_fault (λ x. x) (S.left source.old) (S.left source.new) place.old place.new result first_at }
+    ensures bytes { Gives told_fault (λ x. x) (S.left source.old) (S.left source.new) place.old place.new result
+        first_at }
     ensures pair { IfOk result IsPair }
     ensures place { place.new ≤ place.old + 20 }
     ensures becomes { GoesOn S.becomes source.old source.new }
@@ -54,11 +57,12 @@ fn first_of<S: ByteSource>(source: &mut S, place: &mut u64) -> Result<Pair, Tabl
     })
 }
 
-/// The pair behind one, in format 2.
+/// Reads the pair after `before`, in format 2.
 #[tactic(auto, unfolding(crate::specs::Layers::step_at, pw_outside::specs::Reading::bind))]
 fn step_of<S: ByteSource>(source: &mut S, place: &mut u64, before: Pair) -> Result<Pair, TableFault>
     requires { place.old + 20 < 2 ^ 64 }
-    ensures bytes { Gives told_fault (λ x. x) (S.left source.old) (S.left source.new) place.old place.new result (step_at before) }
+    ensures bytes { Gives told_fault (λ x. x) (S.left source.old) (S.left source.new) place.old place.new result
+        (step_at before) }
     ensures pair { IfOk result IsPair }
     ensures behind { IfOk result (λ p. (before.size < p.size) × (p.error < before.error)) }
     ensures place { place.new ≤ place.old + 20 }
@@ -82,7 +86,7 @@ fn step_of<S: ByteSource>(source: &mut S, place: &mut u64, before: Pair) -> Resu
     })
 }
 
-/// So many pairs of format 1.
+/// Reads `count` pairs of format 1.
 #[tactic(auto, using(pw_outside::proofs::Chains::with_front_nil))]
 fn pairs_of<S: ByteSource>(
     alloc: Global,
@@ -92,7 +96,8 @@ fn pairs_of<S: ByteSource>(
 ) -> Result<Vec<Pair>, TableFault>
     requires few { count ≤ most_pairs }
     requires room { place.old < 2 ^ 63 }
-    ensures bytes { Gives told_fault (λ v. v.items) (S.left source.old) (S.left source.new) place.old place.new result (pairs_at count) }
+    ensures bytes { Gives told_fault (λ v. v.items) (S.left source.old) (S.left source.new) place.old place.new result
+        (pairs_at count) }
     ensures count { IfOk result (λ v. length v.items ≡ count) }
     ensures pairs { IfOk result (λ v. All IsPair v.items) }
     ensures place { place.new ≤ place.old + 12 * count }
@@ -107,7 +112,7 @@ fn pairs_of<S: ByteSource>(
     Ok(pairs)
 }
 
-/// A pair, and so many behind it, in format 2.
+/// Reads the `count` pairs after `first`, in format 2; the result begins with `first`.
 #[tactic(auto, using(pw_outside::proofs::Chains::with_front_nil))]
 fn run_of<S: ByteSource>(
     alloc: Global,
@@ -119,7 +124,8 @@ fn run_of<S: ByteSource>(
     requires few { count ≤ most_pairs }
     requires room { place.old < 2 ^ 63 + 20 }
     requires first { IsPair first }
-    ensures bytes { Gives told_fault (λ v. v.items) (S.left source.old) (S.left source.new) place.old place.new result (run_at count first) }
+    ensures bytes { Gives told_fault (λ v. v.items) (S.left source.old) (S.left source.new) place.old place.new result
+        (run_at count first) }
     ensures count { IfOk result (λ v. length v.items ≡ count + 1) }
     ensures pairs { IfOk result (λ v. All IsPair v.items) }
     ensures order { IfOk result (λ v. RisesAndFalls v.items) }
@@ -137,7 +143,7 @@ fn run_of<S: ByteSource>(
     Ok(pairs)
 }
 
-/// So many pairs of format 2.
+/// Reads `count` pairs of format 2.
 #[tactic(auto, unfolding(crate::specs::Layers::close_pairs_at, pw_outside::specs::Reading::bind))]
 fn close_pairs_of<S: ByteSource>(
     alloc: Global,
@@ -147,7 +153,8 @@ fn close_pairs_of<S: ByteSource>(
 ) -> Result<Vec<Pair>, TableFault>
     requires few { count ≤ most_pairs }
     requires room { place.old < 2 ^ 63 }
-    ensures bytes { Gives told_fault (λ v. v.items) (S.left source.old) (S.left source.new) place.old place.new result (close_pairs_at count) }
+    ensures bytes { Gives told_fault (λ v. v.items) (S.left source.old) (S.left source.new) place.old place.new result
+        (close_pairs_at count) }
     ensures count { IfOk result (λ v. length v.items ≡ count) }
     ensures pairs { IfOk result (λ v. All IsPair v.items) }
     ensures order { IfOk result (λ v. RisesAndFalls v.items) }
@@ -162,7 +169,7 @@ fn close_pairs_of<S: ByteSource>(
     run_of(alloc, source, place, first, count - 1)
 }
 
-/// A layer of format 1, behind so many pairs of its record.
+/// Reads a layer of format 1, after `held` pairs of its record.
 #[tactic(auto, unfolding(crate::specs::Layers::wide_at, pw_outside::specs::Reading::bind))]
 fn wide_of<S: ByteSource>(
     alloc: Global,
@@ -172,7 +179,8 @@ fn wide_of<S: ByteSource>(
 ) -> Result<Vec<Pair>, TableFault>
     requires few { held ≤ most_pairs }
     requires room { place.old + 4 < 2 ^ 63 }
-    ensures bytes { Gives told_fault (λ v. v.items) (S.left source.old) (S.left source.new) place.old place.new result (wide_at held) }
+    ensures bytes { Gives told_fault (λ v. v.items) (S.left source.old) (S.left source.new) place.old place.new result
+        (wide_at held) }
     ensures few { IfOk result (λ v. held + length v.items ≤ most_pairs) }
     ensures pairs { IfOk result (λ v. All IsPair v.items) }
     ensures place { IfOk result (λ v. place.new ≤ place.old + 10 + 20 * length v.items) }
@@ -187,7 +195,7 @@ fn wide_of<S: ByteSource>(
     pairs_of(alloc, source, place, count)
 }
 
-/// A layer of format 2, behind so many pairs of its record.
+/// Reads a layer of format 2, after `held` pairs of its record.
 #[tactic(auto, unfolding(crate::specs::Layers::close_at, pw_outside::specs::Reading::bind))]
 fn close_of<S: ByteSource>(
     alloc: Global,
@@ -197,7 +205,8 @@ fn close_of<S: ByteSource>(
 ) -> Result<Vec<Pair>, TableFault>
     requires few { held ≤ most_pairs }
     requires room { place.old + 10 < 2 ^ 63 }
-    ensures bytes { Gives told_fault (λ v. v.items) (S.left source.old) (S.left source.new) place.old place.new result (close_at held) }
+    ensures bytes { Gives told_fault (λ v. v.items) (S.left source.old) (S.left source.new) place.old place.new result
+        (close_at held) }
     ensures few { IfOk result (λ v. held + length v.items ≤ most_pairs) }
     ensures pairs { IfOk result (λ v. All IsPair v.items) }
     ensures order { IfOk result (λ v. RisesAndFalls v.items) }
@@ -213,7 +222,7 @@ fn close_of<S: ByteSource>(
     close_pairs_of(alloc, source, place, count as u32)
 }
 
-/// A layer in either format, behind so many pairs of its record.
+/// Reads a layer in either format, after `held` pairs of its record.
 #[tactic(auto, unfolding(crate::specs::Layers::layer_at))]
 fn layer_of<S: ByteSource>(
     alloc: Global,
@@ -224,7 +233,8 @@ fn layer_of<S: ByteSource>(
 ) -> Result<Vec<Pair>, TableFault>
     requires few { held ≤ most_pairs }
     requires room { place.old + 10 < 2 ^ 63 }
-    ensures bytes { Gives told_fault (λ v. v.items) (S.left source.old) (S.left source.new) place.old place.new result (layer_at format held) }
+    ensures bytes { Gives told_fault (λ v. v.items) (S.left source.old) (S.left source.new) place.old place.new result
+        (layer_at format held) }
     ensures few { IfOk result (λ v. held + length v.items ≤ most_pairs) }
     ensures pairs { IfOk result (λ v. All IsPair v.items) }
     ensures order { IfOk result (λ v. format ≡ 2 → RisesAndFalls v.items) }
@@ -239,7 +249,7 @@ fn layer_of<S: ByteSource>(
     }
 }
 
-/// So many layers in either format.
+/// Reads `count` layers in either format.
 #[tactic(auto, using(pw_outside::proofs::Chains::with_front_nil))]
 pub(crate) fn layers_of<S: ByteSource>(
     alloc: Global,
@@ -248,9 +258,10 @@ pub(crate) fn layers_of<S: ByteSource>(
     format: u8,
     count: u32,
 ) -> Result<Vec<Vec<Pair>>, TableFault>
-    requires few { count ≤ 131071 }
+    requires few { count ≤ MAX_TABLE_SLICES + 1 }
     requires room { place.old < 2 ^ 62 }
-    ensures bytes { Gives told_fault (λ v. map (λ l. l.items) v.items) (S.left source.old) (S.left source.new) place.old place.new result (layers_at format count 0) }
+    ensures bytes { Gives told_fault (λ v. map (λ l. l.items) v.items) (S.left source.old) (S.left source.new) place.old
+        place.new result (layers_at format count 0) }
     ensures count { IfOk result (λ v. length v.items ≡ count) }
     ensures few { IfOk result (λ v. sum_by length (map (λ l. l.items) v.items) ≤ most_pairs) }
     ensures pairs { IfOk result (λ v. All (λ layer. All IsPair layer) (map (λ l. l.items) v.items)) }

@@ -1,4 +1,4 @@
-//! Proofs of choices: their settings, their records and their files.
+//! Optimality proofs of choices: their settings, their records and their files.
 #![tactic(auto)]
 
 mod field;
@@ -12,14 +12,13 @@ mod proof;
 mod reader;
 mod record;
 mod settings;
-#[cfg(test)]
-mod tests;
 mod writer;
 
 pub use laws::{
     head_is_read_again, head_is_spelled, number_is_read_again, proof_is_read_again,
     proof_is_spelled, record_is_read_again, record_is_spelled,
 };
+pub use progress::MAX_RECORDS;
 pub use proof::{FrameProof, Verdict};
 pub use reader::ProofReader;
 pub use settings::Settings;

@@ -3,10 +3,10 @@
 use rate_table::{FrameTable, Pair};
 use std::marker::Model;
 
-/// What is said of a table.
+/// The verdict on a table.
 #[derive(Debug, Drop)]
 pub enum Verdict {
-    /// A choice fits, and of all that fit none has less error.
+    /// A choice fits, and no fitting choice has less error.
     Fits {
         /// The indices of the choice, one for each slice.
         choice: Vec<u8>,
@@ -14,24 +14,24 @@ pub enum Verdict {
         size: u32,
         /// Its error.
         error: u64,
-        /// What each byte counts for in the bound of a pair.
+        /// The Lagrangian multiplier of the bound.
         multiplier: u64,
-        /// The pairs that are kept after each number of slices, from none to all.
+        /// The Pareto frontier (layer) that is kept after each number of slices, from none to all.
         layers: Vec<Vec<Pair>>,
     },
     /// No choice fits.
     None {
-        /// The fixed bytes and each slice's least size together.
+        /// The fixed bytes plus each slice's least size.
         least: u64,
     },
 }
 
-/// A record: the table of a group of frames, and what is said of it.
+/// A record: the table of a group of frames, and the verdict on it.
 #[derive(Drop)]
 pub struct FrameProof {
-    /// What each slice of the group costs at each index that it may take, and the group's budget.
+    /// The rate-distortion table of the group, with its budget.
     pub table: FrameTable,
-    /// The choice that is best, or that there is none.
+    /// The best choice, or that none fits.
     pub verdict: Verdict,
 }
 

@@ -1,4 +1,4 @@
-//! Proof files, read.
+//! Reads proof files.
 
 ghost use Rattle.std.specs.Prelude.{◌≡◌, ◌+◌, ◌<◌, ◌≤◌, ◌^◌, None, IfOk, IfSome, IfNone, OnOk, OnErr, true, false};
 ghost use Rattle.std.specs.Io.KnownBytes.{IsAtEnd};
@@ -7,11 +7,11 @@ ghost use Rattle.pw_outside.specs.Reading.{Gives};
 ghost use Rattle.rate_table.specs.Reading.{told_fault, is_failed, is_out_of_memory};
 ghost use Rattle.rate_cert.specs.Settings.{IsSettings};
 ghost use Rattle.rate_cert.specs.Head.{head_at};
-ghost use Rattle.rate_cert.specs.Files.{IsFormat, IsWritten, MayStand, Progress, no_records, after, most_records, mark_at, end_at, next_at, place_of};
+ghost use Rattle.rate_cert.specs.Files.{IsFormat, IsWritten, MayStand, no_records, after, most_records, mark_at, end_at, next_at, place_of};
 
 use crate::field::SHORT;
 use crate::head::{format_of, settings_of};
-use crate::progress::{END, RECORD, goes_on};
+use crate::progress::{END, MAX_RECORDS, RECORD, goes_on};
 use crate::proof::FrameProof;
 use crate::record::record_of;
 use crate::settings::Settings;
@@ -20,10 +20,8 @@ use rate_table::{ProofKind, TableFault, bad, read_u8, read_u32};
 use std::alloc::Global;
 use std::marker::Model;
 
-/// A proof has so many records at most.
-const MOST_RECORDS: u32 = 1_000_000;
-
-/// The next mark, behind so many records: whether it is a record's. `more` says whether one may stand there.
+/// Reads the next mark, after `count` records; the result is whether it is a record's. `more` says whether a record
+/// may follow.
 #[tactic(auto, unfolding(crate::specs::Files::mark_at, pw_outside::specs::Reading::bind))]
 fn mark_of<S: ByteSource>(
     source: &mut S,
@@ -32,7 +30,8 @@ fn mark_of<S: ByteSource>(
     more: bool,
 ) -> Result<bool, TableFault>
     requires { place.old + 1 < 2 ^ 64 }
-    ensures bytes { Gives told_fault (λ x. x) (S.left source.old) (S.left source.new) place.old place.new result (mark_at (record { count = count; more = more })) }
+    ensures bytes { Gives told_fault (λ x. x) (S.left source.old) (S.left source.new) place.old place.new result
+        (mark_at (record { count = count; more = more })) }
     ensures stands { IfOk result (λ b. b ≡ true → MayStand (record { count = count; more = more })) }
     ensures place { place.new ≤ place.old + 1 }
     ensures becomes { GoesOn S.becomes source.old source.new }
@@ -44,17 +43,18 @@ fn mark_of<S: ByteSource>(
     if mark != RECORD && mark != END {
         return Err(bad(ProofKind::ProofShape, at));
     }
-    if mark == RECORD && (!more || MOST_RECORDS <= count) {
+    if mark == RECORD && (!more || MAX_RECORDS <= count) {
         return Err(bad(ProofKind::ProofShape, at));
     }
     Ok(mark == RECORD)
 }
 
-/// The end behind its mark, behind so many records.
+/// Reads the end after its mark, after `count` records.
 #[tactic(auto, unfolding(crate::specs::Files::end_at, pw_outside::specs::Reading::bind))]
 fn end_of<S: ByteSource>(source: &mut S, place: &mut u64, count: u32) -> Result<(), TableFault>
     requires { place.old + 4 < 2 ^ 64 }
-    ensures bytes { Gives told_fault (λ _. None) (S.left source.old) (S.left source.new) place.old place.new result (end_at count) }
+    ensures bytes { Gives told_fault (λ _. None) (S.left source.old) (S.left source.new) place.old place.new result
+        (end_at count) }
     ensures end { OnOk result (IsAtEnd (S.left source.new)) }
     ensures place { place.new ≤ place.old + 4 }
     ensures becomes { GoesOn S.becomes source.old source.new }
@@ -74,7 +74,7 @@ fn end_of<S: ByteSource>(source: &mut S, place: &mut u64, count: u32) -> Result<
     Ok(())
 }
 
-/// A proof file that is being read. It holds its place in the file, and no record.
+/// A proof file that is being read. It holds its offset in the file, but no record.
 #[derive(Drop)]
 pub struct ProofReader {
     settings: Settings,
@@ -100,18 +100,20 @@ impl Model for ProofReader {
 impl ProofReader {
     /// Reads the head of a proof, in format 1 or 2.
     ///
-    /// The errors are `Bad` with the first fault of the bytes, and `Failed` where a call of the source failed.
+    /// The errors are `Bad` with the first error of the bytes, and `Failed` if a call of the source failed.
     #[tactic(auto, unfolding(crate::specs::Head::head_at, pw_outside::specs::Reading::bind))]
     pub fn start<S: ByteSource>(source: &mut S) -> Result<ProofReader, TableFault>
-        // Where the source tells its bytes, the answer is the format and the settings that they begin with, or their first fault.
-        ensures bytes { Gives told_fault (λ r. (r.format, r.settings)) (S.left source.old) (S.left source.new) 0 (place_of result) result head_at }
+        // If the source's bytes are visible, the result is the format and the settings that they begin with, or
+        // their first error.
+        ensures bytes { Gives told_fault (λ r. (r.format, r.settings)) (S.left source.old) (S.left source.new) 0
+            (place_of result) result head_at }
         ensures settings { IfOk result (λ r. IsSettings r.settings) }
         ensures format { IfOk result (λ r. IsFormat r.format) }
         ensures fresh { IfOk result (λ r. (r.progress ≡ no_records) × (r.ended ≡ false)) }
         ensures becomes { GoesOn S.becomes source.old source.new }
-        // The error is `Failed` only where a call of the source failed, and each such call is answered by it.
+        // The error is `Failed` exactly if a call of the source failed.
         ensures cause { CountsFault (S.faults source.old) (S.faults source.new) (is_failed result) }
-        // No memory is taken.
+        // Takes no memory.
         ensures memory { is_out_of_memory result ≡ false }
     {
         let mut place = 0;
@@ -143,10 +145,11 @@ impl ProofReader {
         self.format
     }
 
-    /// Reads the next record; `None` behind the end of the proof, which is the end of the file. It isn't called behind the end.
+    /// Reads the next record; `None` at the end of the proof, which is the end of the file. It isn't called after
+    /// that.
     ///
-    /// The errors are `Bad` with the first fault of the bytes, `Failed` where a call of the source failed, and `NoMemory`. The
-    /// reader is then as it was.
+    /// The errors are `Bad` with the first error of the bytes, `Failed` if a call of the source failed, and
+    /// `NoMemory`. They leave the reader unchanged.
     #[tactic(auto, unfolding(crate::specs::Files::next_at, crate::specs::Files::some_at, pw_outside::specs::Reading::bind))]
     pub fn next<S: ByteSource>(
         &mut self,
@@ -154,17 +157,19 @@ impl ProofReader {
         source: &mut S,
     ) -> Result<Option<FrameProof>, TableFault>
         requires { self.old.ended ≡ false }
-        // Where the source tells its bytes, the answer is the record that stands there, or the end, or the first fault.
-        ensures bytes { Gives told_fault (λ p. p) (S.left source.old) (S.left source.new) self.old.place self.new.place result (next_at self.old.format self.old.progress) }
-        // A record that was read can be written where it stood.
+        // If the source's bytes are visible, the result is the next record, or the end, or the first error.
+        ensures bytes { Gives told_fault (λ p. p) (S.left source.old) (S.left source.new) self.old.place self.new.place
+            result (next_at self.old.format self.old.progress) }
+        // A record that was read can be written at the same position.
         ensures written { IfOk result (λ p. IfSome p (λ p. MayStand self.old.progress × IsWritten self.old.format p)) }
         // The end is the end of the input.
         ensures end { IfOk result (λ p. IfNone p (IsAtEnd (S.left source.new))) }
-        ensures after { IfOk result (λ p. (self.new.settings ≡ self.old.settings) × (self.new.format ≡ self.old.format) × (self.new.progress ≡ after self.old.settings self.old.progress p)) }
+        ensures after { IfOk result (λ p. (self.new.settings ≡ self.old.settings) × (self.new.format ≡ self.old.format)
+            × (self.new.progress ≡ after self.old.settings self.old.progress p)) }
         ensures ended { IfOk result (λ p. IfSome p (λ _. self.new.ended ≡ false)) }
         ensures kept { OnErr result (self.new ≡ self.old) }
         ensures becomes { GoesOn S.becomes source.old source.new }
-        // The error is `Failed` only where a call of the source failed, and each such call is answered by it.
+        // The error is `Failed` exactly if a call of the source failed.
         ensures cause { CountsFault (S.faults source.old) (S.faults source.new) (is_failed result) }
     {
         let mut place = self.place;

@@ -1,29 +1,30 @@
 //! The settings of a proof.
 
 ghost use Rattle.std.specs.Prelude.{◌≡◌, ◌<◌, ◌≤◌};
+ghost use Rattle.rate_table.specs.declared.table.TheConstants.{MAX_TABLE_SLICES};
 ghost use Rattle.rate_cert.specs.Settings.{IsSettings, frame_slices};
 
 use pr_geom::Layout;
 use pw_planes::{AlphaKind, Chroma, Depth, Interlace};
 
-/// What a proof says of all its records: the pictures' form, how they are coded, and the budget.
+/// The settings that all records of a proof share: the format of the pictures, their coding, and the budget.
 #[derive(Clone, Copy, Debug, PartialEq, Eq)]
 pub struct Settings {
-    /// What was coded: 0 for Y4M, 1 for raw pictures, 2 for the products of a movie.
+    /// The source of the pictures: 0 for Y4M, 1 for raw pictures, 2 for the products of a movie.
     pub form: u8,
-    /// How many frames share a budget, 1 to 8; 1 for products.
+    /// The number of frames that share a budget, 1 to 8; 1 for products.
     pub group: u8,
     /// The width of the pictures in samples, 1 to 8,192.
     pub width: u16,
-    /// The height of the pictures in samples, 1 to 4,320; even where they are interlaced.
+    /// The height of the pictures in samples, 1 to 4,320; even if they are interlaced.
     pub height: u16,
     /// The chroma sampling.
     pub chroma: Chroma,
-    /// The bits of a sample.
+    /// The bit depth.
     pub depth: Depth,
-    /// Whether there is alpha, and of how many bits.
+    /// The kind of alpha: absent, or its bit depth.
     pub alpha: AlphaKind,
-    /// Whether the frames are progressive, or which of their fields is first.
+    /// The interlace mode: progressive, or which field is first.
     pub interlace: Interlace,
     /// The binary logarithm of the desired width of a slice in macroblocks, 0 to 3.
     pub log2: u8,
@@ -31,7 +32,7 @@ pub struct Settings {
     pub lo: u8,
     /// The greatest quantisation index that a slice may have, from `lo` to 224.
     pub hi: u8,
-    /// The numerator of the rate of frames, 1 to 1,000,000.
+    /// The numerator of the frame rate, 1 to 1,000,000.
     pub num: u32,
     /// Its denominator, 1 to 4,000.
     pub den: u32,
@@ -39,18 +40,18 @@ pub struct Settings {
     pub luma: [u8; 64],
     /// The weights of chroma, each from 2 to 63.
     pub chroma_weights: [u8; 64],
-    /// The bytes that each frame of a group adds to the group's budget, from 1; those of a whole group are below 2^31.
+    /// The budget in bytes of each frame of a group, from 1; that of a whole group is below 2^31.
     pub budget: u32,
 }
 
 impl Settings {
-    /// How many slices a frame has, in all its pictures.
+    /// The number of slices of a frame, in all its pictures.
     #[tactic(auto, unfolding(pr_geom::specs::Faults::slice_count))]
     pub fn frame_slices(&self) -> u32
         requires { IsSettings self.now }
         ensures value { result ≡ frame_slices self.now }
         ensures some { 0 < result }
-        ensures few { result ≤ 131070 }
+        ensures few { result ≤ MAX_TABLE_SLICES }
     {
         match Layout::new(
             self.width,

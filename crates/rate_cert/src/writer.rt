@@ -1,6 +1,6 @@
-//! Proof files, written. No memory is taken.
+//! Writes proof files. Takes no memory.
 
-ghost use Rattle.std.specs.Prelude.{◌≡◌, ◌+◌, ◌≤◌, ◌++◌, ◌∷◌, [], OnOk, OnErr, IfOk, is_err, length, map};
+ghost use Rattle.std.specs.Prelude.{◌≡◌, ◌+◌, ◌≤◌, ◌++◌, ◌∷◌, OnOk, OnErr, IfOk, is_err, length, map};
 ghost use Rattle.std.specs.List.{All, flat_map, sum_by};
 ghost use Rattle.pw_outside.specs.Ports.{CountsFault};
 ghost use Rattle.pw_outside.specs.Writing.{sink_state, Puts, PutsFront};
@@ -23,7 +23,7 @@ use pw_planes::{AlphaKind, Chroma, Depth, Interlace};
 use rate_table::{FrameTable, Pair, write_body};
 use std::marker::Model;
 
-/// The length of the head.
+/// The length of the head in bytes.
 const HEAD: usize = 157;
 
 fn chroma_byte(chroma: Chroma) -> u8
@@ -65,7 +65,7 @@ fn interlace_byte(interlace: Interlace) -> u8
     }
 }
 
-/// Form and group together.
+/// The byte of form and group.
 fn form_byte(form: u8, group: u8) -> u8
     requires form { form ≤ 2 }
     requires group { (1 ≤ group) × (group ≤ 8) }
@@ -78,7 +78,7 @@ fn form_byte(form: u8, group: u8) -> u8
     }
 }
 
-/// Puts the piece behind the bytes.
+/// Appends the piece.
 fn append(bytes: &mut ArrayVec<u8, HEAD>, piece: &[u8])
     requires { length bytes.old.items + length piece.now ≤ HEAD }
     ensures { bytes.new.items ≡ bytes.old.items ++ piece.now }
@@ -118,7 +118,7 @@ fn bytes_of_head(format: u8, settings: &Settings) -> ArrayVec<u8, HEAD>
     bytes
 }
 
-/// The bytes of the sums of a choice, and of its multiplier.
+/// The bytes of a choice's size, error and multiplier.
 fn bytes_of_sums(size: u32, error: u64, multiplier: u64) -> [u8; 20]
     ensures { result ≡ sums_bytes size error multiplier }
 {
@@ -149,7 +149,7 @@ fn bytes_of_sums(size: u32, error: u64, multiplier: u64) -> [u8; 20]
     ]
 }
 
-/// Writes what is printed behind the table where a choice fits, in large pieces.
+/// Writes the part after the table of a record whose choice fits, through a buffer.
 fn write_fit<K: ByteSink>(
     sink: &mut K,
     format: u8,
@@ -160,8 +160,12 @@ fn write_fit<K: ByteSink>(
     requires format { IsFormat format }
     requires few { sum_by length (map (λ l. l.items) layers.now) ≤ most_pairs }
     requires order { format ≡ 2 → All RisesAndFalls (map (λ l. l.items) layers.now) }
-    ensures ok { OnOk result (Puts (sink_state (K.held sink.old) (K.taken sink.old)) (sink_state (K.held sink.new) (K.taken sink.new)) (choice.now ++ (sums.now ++ flat_map (layer_bytes format) (map (λ l. l.items) layers.now)))) }
-    ensures err { OnErr result (PutsFront (sink_state (K.held sink.old) (K.taken sink.old)) (sink_state (K.held sink.new) (K.taken sink.new)) (choice.now ++ (sums.now ++ flat_map (layer_bytes format) (map (λ l. l.items) layers.now)))) }
+    ensures ok { OnOk result (Puts (sink_state (K.held sink.old) (K.taken sink.old))
+        (sink_state (K.held sink.new) (K.taken sink.new)) (choice.now ++ (sums.now ++ flat_map (layer_bytes format)
+        (map (λ l. l.items) layers.now)))) }
+    ensures err { OnErr result (PutsFront (sink_state (K.held sink.old) (K.taken sink.old))
+        (sink_state (K.held sink.new) (K.taken sink.new)) (choice.now ++ (sums.now ++ flat_map (layer_bytes format)
+        (map (λ l. l.items) layers.now)))) }
     ensures settled { K.settled sink.old ≤ K.settled sink.new }
     ensures cause { CountsFault (K.faults sink.old) (K.faults sink.new) (is_err result) }
 {
@@ -175,8 +179,10 @@ fn write_fit<K: ByteSink>(
 
 /// Writes the mark of a record, its verdict, and its table.
 fn write_table<K: ByteSink>(sink: &mut K, verdict: u8, table: &FrameTable) -> Result<(), Failed>
-    ensures ok { OnOk result (Puts (sink_state (K.held sink.old) (K.taken sink.old)) (sink_state (K.held sink.new) (K.taken sink.new)) (0x52 ∷ verdict ∷ body_bytes table.now)) }
-    ensures err { OnErr result (PutsFront (sink_state (K.held sink.old) (K.taken sink.old)) (sink_state (K.held sink.new) (K.taken sink.new)) (0x52 ∷ verdict ∷ body_bytes table.now)) }
+    ensures ok { OnOk result (Puts (sink_state (K.held sink.old) (K.taken sink.old))
+        (sink_state (K.held sink.new) (K.taken sink.new)) (0x52 ∷ verdict ∷ body_bytes table.now)) }
+    ensures err { OnErr result (PutsFront (sink_state (K.held sink.old) (K.taken sink.old))
+        (sink_state (K.held sink.new) (K.taken sink.new)) (0x52 ∷ verdict ∷ body_bytes table.now)) }
     ensures settled { K.settled sink.old ≤ K.settled sink.new }
     ensures cause { CountsFault (K.faults sink.old) (K.faults sink.new) (is_err result) }
 {
@@ -195,8 +201,10 @@ fn write_said<K: ByteSink>(
 ) -> Result<(), Failed>
     requires format { IsFormat format }
     requires said { CanBeSaid format table.now (said_by verdict.now) }
-    ensures ok { OnOk result (Puts (sink_state (K.held sink.old) (K.taken sink.old)) (sink_state (K.held sink.new) (K.taken sink.new)) (0x52 ∷ said_bytes format table.now (said_by verdict.now))) }
-    ensures err { OnErr result (PutsFront (sink_state (K.held sink.old) (K.taken sink.old)) (sink_state (K.held sink.new) (K.taken sink.new)) (0x52 ∷ said_bytes format table.now (said_by verdict.now))) }
+    ensures ok { OnOk result (Puts (sink_state (K.held sink.old) (K.taken sink.old))
+        (sink_state (K.held sink.new) (K.taken sink.new)) (0x52 ∷ said_bytes format table.now (said_by verdict.now))) }
+    ensures err { OnErr result (PutsFront (sink_state (K.held sink.old) (K.taken sink.old))
+        (sink_state (K.held sink.new) (K.taken sink.new)) (0x52 ∷ said_bytes format table.now (said_by verdict.now))) }
     ensures settled { K.settled sink.old ≤ K.settled sink.new }
     ensures cause { CountsFault (K.faults sink.old) (K.faults sink.new) (is_err result) }
 {
@@ -245,7 +253,7 @@ impl Model for ProofWriter {
 impl ProofWriter {
     /// Writes the head of a proof with these settings, in format 1 or 2.
     ///
-    /// `Failed` where a call of the sink failed; it then has taken a front of the head.
+    /// The error is `Failed` if a call of the sink failed; the sink then has a prefix of the head.
     pub fn begin<K: ByteSink>(
         sink: &mut K,
         settings: &Settings,
@@ -253,10 +261,17 @@ impl ProofWriter {
     ) -> Result<ProofWriter, Failed>
         requires settings { IsSettings settings.now }
         requires format { IsFormat format }
-        // The sink took the head; where a call of it failed, a front of the head.
-        ensures ok { OnOk result (Puts (sink_state (K.held sink.old) (K.taken sink.old)) (sink_state (K.held sink.new) (K.taken sink.new)) (head_bytes format settings.now)) }
-        ensures err { OnErr result (PutsFront (sink_state (K.held sink.old) (K.taken sink.old)) (sink_state (K.held sink.new) (K.taken sink.new)) (head_bytes format settings.now)) }
-        ensures fresh { IfOk result (λ w. w ≡ record { settings = settings.now; format = format; progress = no_records }) }
+        // The sink takes the head, or a prefix of it if a call of the sink failed.
+        ensures ok { OnOk result (Puts (sink_state (K.held sink.old) (K.taken sink.old))
+            (sink_state (K.held sink.new) (K.taken sink.new)) (head_bytes format settings.now)) }
+        ensures err { OnErr result (PutsFront (sink_state (K.held sink.old) (K.taken sink.old))
+            (sink_state (K.held sink.new) (K.taken sink.new)) (head_bytes format settings.now)) }
+        ensures fresh { IfOk result (λ w. w ≡ record {
+          settings = settings.now;
+          format = format;
+          progress
+              = no_records;
+        }) }
         ensures settled { K.settled sink.old ≤ K.settled sink.new }
         ensures cause { CountsFault (K.faults sink.old) (K.faults sink.new) (is_err result) }
     {
@@ -269,18 +284,24 @@ impl ProofWriter {
         })
     }
 
-    /// Writes a record. Fewer than 1,000,000 were written before, each of a whole group and none of verdict none. A fitting
-    /// verdict has one index for each slice, one layer more than slices, and at most 2^25 pairs; in format 2 the sizes of each
-    /// layer rise and its errors fall.
+    /// Writes a record. Fewer than [`MAX_RECORDS`](crate::MAX_RECORDS) were written before, each of a whole group
+    /// and with a fitting choice. A fitting verdict has one index for each slice, one layer more than slices, and
+    /// at most 2^25 pairs; in format 2 the sizes of each layer rise and its errors fall.
     ///
-    /// `Failed` where a call of the sink failed; it then has taken a front of the record.
+    /// The error is `Failed` if a call of the sink failed; the sink then has a prefix of the record.
     pub fn put<K: ByteSink>(&mut self, sink: &mut K, proof: &FrameProof) -> Result<(), Failed>
         requires room { MayStand self.old.progress }
         requires said { CanBeSaid self.old.format proof.now.table proof.now.said }
-        // The sink took the one spelling of the record; where a call of it failed, a front of it.
-        ensures ok { OnOk result (Puts (sink_state (K.held sink.old) (K.taken sink.old)) (sink_state (K.held sink.new) (K.taken sink.new)) (record_bytes self.old.format proof.now)) }
-        ensures err { OnErr result (PutsFront (sink_state (K.held sink.old) (K.taken sink.old)) (sink_state (K.held sink.new) (K.taken sink.new)) (record_bytes self.old.format proof.now)) }
-        ensures after { OnOk result (self.new ≡ record { settings = self.old.settings; format = self.old.format; progress = further self.old.settings self.old.progress proof.now }) }
+        // The sink takes the encoding of the record, or a prefix of it if a call of the sink failed.
+        ensures ok { OnOk result (Puts (sink_state (K.held sink.old) (K.taken sink.old))
+            (sink_state (K.held sink.new) (K.taken sink.new)) (record_bytes self.old.format proof.now)) }
+        ensures err { OnErr result (PutsFront (sink_state (K.held sink.old) (K.taken sink.old))
+            (sink_state (K.held sink.new) (K.taken sink.new)) (record_bytes self.old.format proof.now)) }
+        ensures after { OnOk result (self.new ≡ record {
+          settings = self.old.settings;
+          format = self.old.format;
+          progress = further self.old.settings self.old.progress proof.now;
+        }) }
         ensures kept { OnErr result (self.new ≡ self.old) }
         ensures settled { K.settled sink.old ≤ K.settled sink.new }
         ensures cause { CountsFault (K.faults sink.old) (K.faults sink.new) (is_err result) }
@@ -293,11 +314,13 @@ impl ProofWriter {
 
     /// Writes the end.
     ///
-    /// `Failed` where a call of the sink failed; it then has taken a front of the end.
+    /// The error is `Failed` if a call of the sink failed; the sink then has a prefix of the end.
     pub fn end<K: ByteSink>(self, sink: &mut K) -> Result<(), Failed>
-        // The sink took the end; where a call of it failed, a front of it.
-        ensures ok { OnOk result (Puts (sink_state (K.held sink.old) (K.taken sink.old)) (sink_state (K.held sink.new) (K.taken sink.new)) (end_bytes self.progress.count)) }
-        ensures err { OnErr result (PutsFront (sink_state (K.held sink.old) (K.taken sink.old)) (sink_state (K.held sink.new) (K.taken sink.new)) (end_bytes self.progress.count)) }
+        // The sink takes the end, or a prefix of it if a call of the sink failed.
+        ensures ok { OnOk result (Puts (sink_state (K.held sink.old) (K.taken sink.old))
+            (sink_state (K.held sink.new) (K.taken sink.new)) (end_bytes self.progress.count)) }
+        ensures err { OnErr result (PutsFront (sink_state (K.held sink.old) (K.taken sink.old))
+            (sink_state (K.held sink.new) (K.taken sink.new)) (end_bytes self.progress.count)) }
         ensures settled { K.settled sink.old ≤ K.settled sink.new }
         ensures cause { CountsFault (K.faults sink.old) (K.faults sink.new) (is_err result) }
     {

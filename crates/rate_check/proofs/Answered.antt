@@ -1,4 +1,4 @@
--- What a test answers.
+-- Results of tests.
 use Rattle.std.proofs.Common.{rules, ◌≡◌, Bool, true, false, subst}
 use Rattle.std.specs.Prelude.{IsTrue, ◌↔◌}
 
@@ -8,7 +8,7 @@ yes p = ((λ h. p), (λ h. search rules))
 pub no : {P : Type 0} → (P → ⊥) → IsTrue false ↔ P
 no f = ((λ h. absurd (search rules)), (λ p. absurd (f p)))
 
--- what a test that was asked and answered tells
+-- what a test's result says
 pub granted : {P : Type 0} (b : Bool) → IsTrue b ↔ P → b ≡ true → P
 granted {P} b e t = (subst (λ x. IsTrue x ↔ P) t e).0 (search rules)
 

@@ -1,4 +1,4 @@
--- A record, put together from what was asked of its parts.
+-- A record's verdict from the checks of its parts.
 use Rattle.std.proofs.Common.{◌≡◌, ℕ, refl, subst, inl, inr, ⊎_elim, Result, Ok, Err}
 use Rattle.std.specs.Prelude.{◌⊎◌, ◌↔◌, OnOk, IfErr}
 use Rattle.std.proofs.lemmas.Result.{on_ok_weaker, IfErr-weaker}
@@ -15,7 +15,7 @@ good_fit t r counts entries sums l = record { counts = counts; entries = entries
 asks_more : {P Q : Type 0} (behind : ℕ → Type 0) (k n : ℕ) → Q → Asks k P behind n → Asks k (Q × P) behind n
 asks_more behind k n q h = ⊎_elim (λ f. inl (f.0, λ b. f.1 b.1)) (λ f. inr ((q, f.0), f.1)) h
 
--- the clauses on sums, and those on layers behind them
+-- the clauses on sums, and those on layers after them
 pub sums_fail : (t : Table) (r : Printed) (n : ℕ) → HasCounts t r → Asks 3 (HasEntries t r) (Asks 4 (SumsAreRight t r) AsksNothing) n → Asks 1 (HasCounts t r) (FailsFit t r) n
 sums_fail t r n c h = inr (c, ⊎_elim (λ f. inl f) (λ f. inr (f.0, ⊎_elim (λ g. inl g) (λ g. absurd g.1) f.1)) h)
 
@@ -39,11 +39,11 @@ module _ (s : Settings) (t : Table) (p : Record) (res : Result (Unit {0}) Clause
 
 -- ---- good, or a clause that fails
 
--- a clause that holds leaves it to those behind it
-past : {N P B : Type 0} → P → (N × (P → ⊥)) ⊎ (P × B) → B
+-- if a clause holds, those after it decide
+pub past : {N P B : Type 0} → P → (N × (P → ⊥)) ⊎ (P × B) → B
 past p h = ⊎_elim (λ f. absurd (f.1 p)) (λ f. f.1) h
 
--- of a good record no clause fails
+-- no clause of a good record fails
 none_fails_good : (s : Settings) (t : Table) (said : Said) (n : ℕ) → IsGood s (record { table = t; said = said }) → Fails s (record { table = t; said = said }) n → ⊥
 none_fails_good s t (fits r) n g h =
     let v = g.verdict in

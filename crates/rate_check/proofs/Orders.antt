@@ -1,4 +1,4 @@
--- Pairs whose sizes rise and whose errors fall, by their places.
+-- Pairs of rising sizes and falling errors, by their positions.
 use Rattle.std.proofs.Common.{ℕ, zero, suc, ◌<◌, List, [], ◌∷◌, length, get_or, arith}
 use Rattle.rate_table.specs.declared.entry.Pair.{Pair}
 use Rattle.rate_table.specs.Pairs.{RisesAndFalls}
@@ -15,7 +15,7 @@ from_first p [] d j h n = omega arith
 from_first p (q ∷ ps) d zero h n = (h.0, h.1)
 from_first p (q ∷ ps) d (suc j) h n = let r = from_first q ps d j h.2 (omega arith) in (omega arith, omega arith)
 
--- of two pairs the later one is larger, and has less error
+-- of two pairs the later one is larger and has less error
 pub apart : (ps : List Pair) (d : Pair) (i j : ℕ) → RisesAndFalls ps → i < j → j < length ps → ((get_or ps i d).size < (get_or ps j d).size) × ((get_or ps j d).error < (get_or ps i d).error)
 apart [] d i j h n m = absurd (omega arith)
 apart (p ∷ ps) d zero zero h n m = absurd (omega arith)
@@ -23,7 +23,7 @@ apart (p ∷ ps) d zero (suc j) h n m = from_first p ps d j h (omega arith)
 apart (p ∷ ps) d (suc i) zero h n m = absurd (omega arith)
 apart (p ∷ ps) d (suc i) (suc j) h n m = apart ps d i j (falls_tail p ps h) (omega arith) (omega arith)
 
--- where each pair is so beside the next, they are in order
+-- if each pair and the next are in order, all are
 pub in_order : (ps : List Pair) (d : Pair) → ((i : ℕ) → suc i < length ps → ((get_or ps i d).size < (get_or ps (suc i) d).size) × ((get_or ps (suc i) d).error < (get_or ps i d).error)) → RisesAndFalls ps
 in_order [] d h = tt
 in_order (p ∷ []) d h = tt

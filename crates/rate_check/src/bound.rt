@@ -1,12 +1,12 @@
-//! What the pairs of a layer are compared with.
+//! The bound that prunes the pairs of a layer.
 
 ghost use Rattle.std.specs.Prelude.{◌≡◌, ◌<◌, ◌^◌};
 ghost use Rattle.rate_check.specs.inner.Covering.{weight};
 
 use rate_table::Pair;
 
-/// With some slices to come: a pair can still fit where its size and what is taken are within the budget, and it
-/// stays within the bound where its weight and the floor are at most the most.
+/// The bound with some slices still to come: a pair can fit if its size plus `taken` is at most `budget`, and is
+/// not pruned if its Lagrangian cost plus `floor` is at most `most`.
 #[derive(Clone, Copy)]
 pub struct Bound {
     pub taken: u64,
@@ -16,7 +16,7 @@ pub struct Bound {
     pub multiplier: u64,
 }
 
-/// The error of a pair, and the multiplier for each of its bytes.
+/// The Lagrangian cost of a pair: its error plus `multiplier` times its size.
 pub fn weight_of(pair: &Pair, multiplier: u64) -> u128
     ensures value { result ≡ weight multiplier pair.now }
     ensures small { result < 2 ^ 97 }

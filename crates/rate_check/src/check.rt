@@ -1,4 +1,4 @@
-//! Checking a record: which of its clauses fails first.
+//! Checks a record: which of its clauses fails first.
 
 ghost use Rattle.std.specs.Prelude.{◌≡◌, ◌↔◌, ℕ, suc, List, IsTrue, Ok, OnOk, IfErr, length, map};
 ghost use Rattle.rate_table.specs.Records.{SaysNone, HasCounts, HasEntries, SumsAreRight, IsGoodFit};
@@ -17,12 +17,12 @@ use rate_table::{
 /// A clause that a record fails.
 #[derive(Clone, Copy, Debug, PartialEq, Eq)]
 pub struct Clause {
-    /// 1 for the shape, 2 for the least bytes where none fits, 3 for the choice's entries, 4 for its sums, 5 for the
-    /// first layer, 6 for the order in each layer, 7 for the steps from layer to layer, 8 for the last layer.
+    /// 1: the shape; 2: the least number of bytes if none fits; 3: the choice's entries; 4: its sums; 5: the first
+    /// layer; 6: the order in each layer; 7: the steps from layer to layer; 8: the last layer.
     pub number: u8,
 }
 
-/// Where no choice fits: the least bytes are the printed ones, and above the budget.
+/// If no choice fits: the least number of bytes is as printed and exceeds the budget.
 fn check_none(table: &FrameTable, printed: u64) -> Result<(), Clause>
     ensures good { OnOk result (SaysNone table.now printed) }
     ensures fails { IfErr result (λ c. Asks 2 (SaysNone table.now printed) AsksNothing c.number) }
@@ -35,9 +35,10 @@ fn check_none(table: &FrameTable, printed: u64) -> Result<(), Clause>
     }
 }
 
-/// The choice has entries, and its sums are the printed ones and fit.
+/// The choice has entries, and its sums are as printed and fit.
 fn check_sums(table: &FrameTable, choice: &[u8], size: u32, error: u64) -> Result<(), Clause>
-    ensures good { OnOk result (HasEntries table.now (of_sums choice.now size error) × SumsAreRight table.now (of_sums choice.now size error)) }
+    ensures good { OnOk result (HasEntries table.now (of_sums choice.now size error) × SumsAreRight table.now
+        (of_sums choice.now size error)) }
     ensures fails { IfErr result (λ c. Asks 3 (HasEntries table.now (of_sums choice.now size error))
         (Asks 4 (SumsAreRight table.now (of_sums choice.now size error)) AsksNothing) c.number) }
 {
@@ -53,7 +54,8 @@ fn check_sums(table: &FrameTable, choice: &[u8], size: u32, error: u64) -> Resul
     }
 }
 
-/// The layers begin with the pair of nothing, are in order, cover each step, and end with no less error than is printed.
+/// The first layer is the empty pair, the layers are in order and cover each step, and the last has no less error
+/// than the printed one.
 fn check_layers(
     table: &FrameTable,
     layers: &[Vec<Pair>],
@@ -61,8 +63,10 @@ fn check_layers(
     error: u64,
 ) -> Result<(), Clause>
     requires { length layers.now ≡ suc (length table.now.slices) }
-    ensures good { (choice : List ℕ) (size : ℕ) → OnOk result (AreGood table.now (of_layers choice size error multiplier (map (λ l. l.items) layers.now))) }
-    ensures fails { (choice : List ℕ) (size : ℕ) → IfErr result (λ c. FailsLayers table.now (of_layers choice size error multiplier (map (λ l. l.items) layers.now)) c.number) }
+    ensures good { (choice : List ℕ) (size : ℕ) → OnOk result
+        (AreGood table.now (of_layers choice size error multiplier (map (λ l. l.items) layers.now))) }
+    ensures fails { (choice : List ℕ) (size : ℕ) → IfErr result
+        (λ c. FailsLayers table.now (of_layers choice size error multiplier (map (λ l. l.items) layers.now)) c.number) }
 {
     if !is_empty_pair(&layers[0]) {
         return Err(Clause { number: 5 });
@@ -79,15 +83,16 @@ fn check_layers(
     Ok(())
 }
 
-/// Whether there is an index for each slice, and a layer more.
+/// Whether there is one index for each slice, and one layer more than slices.
 fn has_counts(table: &FrameTable, choice: &[u8], layers: &[Vec<Pair>]) -> bool
-    ensures { IsTrue result ↔ ((length choice.now ≡ length table.now.slices) × (length layers.now ≡ suc (length table.now.slices))) }
+    ensures { IsTrue result ↔ ((length choice.now ≡ length table.now.slices)
+        × (length layers.now ≡ suc (length table.now.slices))) }
 {
     let slices = table.slices.as_slice().len();
     choice.len() == slices && layers.len() == slices + 1
 }
 
-/// Where a choice fits: all that is asked of what is printed of it.
+/// All clauses on a fitting verdict.
 fn check_fit(
     table: &FrameTable,
     choice: &[u8],
@@ -96,7 +101,8 @@ fn check_fit(
     multiplier: u64,
     layers: &[Vec<Pair>],
 ) -> Result<(), Clause>
-    ensures good { OnOk result (IsGoodFit table.now (of_layers choice.now size error multiplier (map (λ l. l.items) layers.now))) }
+    ensures good { OnOk result (IsGoodFit table.now (of_layers choice.now size error multiplier
+        (map (λ l. l.items) layers.now))) }
     ensures fails { IfErr result (λ c. Asks 1 (HasCounts table.now (of_layers choice.now size error multiplier (map (λ l. l.items) layers.now)))
         (FailsFit table.now (of_layers choice.now size error multiplier (map (λ l. l.items) layers.now))) c.number) }
 {
@@ -107,7 +113,7 @@ fn check_fit(
     check_layers(table, layers, multiplier, error)
 }
 
-/// The first clause that fails, by the settings of the record's proof.
+/// The first clause that fails, for the settings of the record's proof.
 fn judge(settings: &Settings, proof: &FrameProof) -> Result<(), Clause>
     requires { IsSettings settings.now }
     ensures good { OnOk result (IsGood settings.now proof.now) }
@@ -128,15 +134,16 @@ fn judge(settings: &Settings, proof: &FrameProof) -> Result<(), Clause>
     }
 }
 
-/// Checks a record by the settings of its proof. No memory is taken.
+/// Checks a record against the settings of its proof. Takes no memory.
 ///
 /// The error is the first clause that fails.
 pub fn check_record(settings: &Settings, proof: &FrameProof) -> Result<(), Clause>
     requires { IsSettings settings.now }
-    // The answer is Ok exactly where the record is good.
+    // The result is Ok exactly if the record is good.
     ensures good { (result ≡ Ok tt) ↔ IsGood settings.now proof.now }
     ensures fails { IfErr result (λ c. Fails settings.now proof.now c.number) }
-    // Of every such record, whoever made it, the printed choice fits, and none that fits has less error; or no choice fits.
+    // For every such record, whoever made it: the printed choice fits and no fitting choice has less error, or no
+    // choice fits.
     ensures sound { OnOk result (IsTrueOf proof.now.table proof.now.said) }
 {
     good_is_least();

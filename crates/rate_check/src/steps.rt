@@ -10,12 +10,14 @@ use crate::bound::Bound;
 use crate::covering::covers;
 use rate_table::{FrameTable, Pair, least, least_cost, least_costs, least_size};
 
-/// Whether each pair of each layer joined with each entry of its slice is dominated by a pair of the next layer, can't
-/// fit with the slices to come, or passes the bound by the multiplier and the error.
+/// Whether each pair of each layer, joined with each entry of its slice, is dominated by a pair of the next layer,
+/// cannot fit with the slices still to come, or is pruned by the bound of the multiplier and the error.
 pub fn all_step(table: &FrameTable, layers: &[Vec<Pair>], multiplier: u64, error: u64) -> bool
     requires count { length layers.now ≡ suc (length table.now.slices) }
     requires order { All RisesAndFalls (map (λ l. l.items) layers.now) }
-    ensures { (choice : List ℕ) (size : ℕ) → IsTrue result ↔ AllStep table.now (of_layers choice size error multiplier (map (λ l. l.items) layers.now)) table.now.slices (map (λ l. l.items) layers.now) }
+    ensures { (choice : List ℕ) (size : ℕ) → IsTrue result ↔ AllStep table.now
+        (of_layers choice size error multiplier (map (λ l. l.items) layers.now)) table.now.slices
+        (map (λ l. l.items) layers.now) }
 {
     let slices = table.slices.as_slice();
     let byte = u128::from(multiplier);

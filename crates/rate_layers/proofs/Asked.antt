@@ -1,4 +1,4 @@
--- What is asked of the pairs of a layer, beside being undominated.
+-- The tests that the pairs of a frontier pass besides being undominated.
 use Rattle.std.proofs.Common.{ℕ, suc, ◌+◌, ◌*◌, ◌<◌, ◌≤◌, List, [], ◌∷◌, length, get_or, take, drop, sym, subst, arith, ⊎_elim}
 use Rattle.std.specs.List.{Contains}
 use Rattle.std.proofs.lemmas.Nat.{mul-le}
@@ -14,7 +14,8 @@ use Rattle.rate_table.proofs.Entries.{least_below}
 use Rattle.rate_table.proofs.Lists.{contains_none, contains_head, contains_cases}
 use Rattle.rate_layers.proofs.Grown.{front_step}
 
--- It goes down with a pair and back to the pair before, and no front of a fitting choice of error u at most fails it.
+-- If a pair passes the test, so does each pair that dominates it, and the pair before. No prefix of a fitting
+-- choice of error at most u fails it.
 pub record IsTest (t : Table) (u : ℕ) (Fine : List (List Entry) → Pair → Type 0) : Type 0 where
   pub down : (later : List (List Entry)) (p q : Pair) → Dominates q p → Fine later p → Fine later q
   pub back : (s : List Entry) (later : List (List Entry)) (p : Pair) (x : Entry) → Contains s x → Fine later (joined p x) → Fine (s ∷ later) p
@@ -41,7 +42,7 @@ within_back : (t : Table) (m u : ℕ) (s : List Entry) (later : List (List Entry
 within_back t m u s later p x c h =
     omega (arith, sum_by-cons (least (λ x. x.error + m * x.size)) s later, least_at_most (λ x. x.error + m * x.size) s x c)
 
--- What goes on to a fitting choice of error u at most stays within the bound, by any multiplier.
+-- A pair that can be completed to a fitting choice of error at most u stays within the bound, by any multiplier.
 fitting_within : (t : Table) (m u : ℕ) (later : List (List Entry)) (p : Pair) (d : List Entry) → IsChoice later d → t.fixed + (p.size + size_of d) ≤ t.budget → p.error + error_of d ≤ u → StaysWithin t m u later p
 fitting_within t m u later p d c f e =
     let h : m * (t.fixed + (p.size + size_of d)) ≤ m * t.budget = mul-le m (t.fixed + (p.size + size_of d)) m t.budget (omega arith) (omega arith) in
@@ -57,7 +58,7 @@ kept_test t m u =
       keeps = λ later p d c g e. (f.keeps later p d c g e, fitting_within t m u later p d c g e);
     }
 
--- The pair of a choice of the first k slices, that passes.
+-- the pair of a choice of the first k slices, if it passes
 abbrev pub At : Table → (List (List Entry) → Pair → Type 0) → ℕ → Pair → Type 0
 At t Fine k p = Reaches (take k t.slices) p × Fine (drop k t.slices) p
 
@@ -71,7 +72,7 @@ module _ (t : Table) (u : ℕ) (Fine : List (List Entry) → Pair → Type 0) (t
       (front_step (take k t.slices) s (Fine (drop k t.slices)) (Fine later) (test.down later)
       (λ p x c i. subst (λ l. Fine l p) (sym (drop-cons t.slices k [] h)) (test.back s later p x c i)) layer next f g)
 
-  -- the first layer
+  -- the first frontier
   pub layer_none : Fine t.slices (record { size = 0; error = 0 }) → IsFront (At t Fine 0) (record { size = 0; error = 0 } ∷ [])
   layer_none fine =
       let none : Pair = record { size = 0; error = 0 } in

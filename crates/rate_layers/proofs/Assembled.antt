@@ -1,4 +1,4 @@
--- What the loop over slices keeps.
+-- The invariant of the loop over slices.
 use Rattle.std.proofs.Common.{◌≡◌, ℕ, suc, ◌+◌, ◌-◌, ◌*◌, ◌^◌, ◌<◌, ◌≤◌, List, [], ◌∷◌, ◌++◌, length, get_or, take, drop, sym, ap, ◌∙◌, subst, arith, ⊎_elim}
 use Rattle.std.specs.List.{All}
 use Rattle.std.proofs.lemmas.List.{get_or_append_left, get_or_push, get_or_default, length_push, length-take}
@@ -17,7 +17,7 @@ use Rattle.rate_layers.proofs.Kept.{front_kept}
 use Rattle.rate_layers.proofs.Bounds.{bound_stays, front_as, sum_step}
 use Rattle.rate_layers.proofs.Wholes.{kept_same, pairs_below}
 
-error_small : (slices : List (List Entry)) → All IsSliceTable slices → (c : List Entry) → IsChoice slices c → error_of c ≤ length slices * 2 ^ 43
+pub error_small : (slices : List (List Entry)) → All IsSliceTable slices → (c : List Entry) → IsChoice slices c → error_of c ≤ length slices * 2 ^ 43
 error_small [] a [] h = omega arith
 error_small [] a (x ∷ c) h = absurd h
 error_small (s ∷ ss) a [] h = absurd h
@@ -27,7 +27,7 @@ error_small (s ∷ ss) a (x ∷ c) h =
     omega (arith, b.error, error_small ss (All-tail IsSliceTable s ss a) c h.1, sum_by-cons (λ (x : Entry). x.error) x c)
 
 module _ (t : Table) (m u : ℕ) where
-  -- the layers so far
+  -- the frontiers so far
   pub record Assembled (layers : List (List Pair)) (k : ℕ) : Type 0 where
     pub count : length layers ≡ k + 1
     pub fronts : (i : ℕ) → i ≤ k → IsFront (At t (Stays t m u) i) (get_or layers i [])
@@ -61,7 +61,7 @@ module _ (t : Table) (m u : ℕ) where
       merged = front_as (λ p. Joins layer (get_or t.slices k []) p × (HasRoom b p × IsWithin b p)) (λ p. Joins layer (get_or t.slices k []) p × Stays t m u later p) next
           (λ p h. (h.0, (bound_stays t m u later b o p).0 h.1)) (λ p h. (h.0, (bound_stays t m u later b o p).1 h.1)) g
 
-  -- what one slice more makes of the layers and the two sums
+  -- the frontiers and the two sums after one slice more
   pub record Further (layers : List (List Pair)) (k sizes costs : ℕ) : Type 0 where
     pub assembled : Assembled layers k
     pub sizes_left : sizes ≡ t.fixed + least_sizes (drop k t.slices)
@@ -96,7 +96,7 @@ module _ (t : Table) (m u : ℕ) where
   pub assembled_end : (layers : List (List Pair)) (k : ℕ) → length t.slices ≡ k → Assembled layers k → AreKept t m u layers
   assembled_end layers k e a = (omega (arith, a.count), λ i l. kept_at layers k a i (omega arith))
 
-  -- All layers have at least the pairs of those so far.
+  -- All frontiers have at least the pairs of those so far.
   pub assembled_below : (layers all : List (List Pair)) (k : ℕ) → k ≤ length t.slices → Assembled layers k → AreKept t m u all → pairs_in layers ≤ pairs_in all
   assembled_below layers all k n a f =
       pairs_below layers all (omega (arith, a.count, f.0)) (λ i l.
@@ -104,7 +104,7 @@ module _ (t : Table) (m u : ℕ) where
       let e' : length (get_or layers i []) ≡ length (get_or all i []) = ap length e in
       omega arith)
 
-  -- errors of a layer are small
+  -- errors of a frontier are small
   pub errors_small : IsTable t → (k : ℕ) (layer : List Pair) → IsFront (At t (Stays t m u) k) layer → All (λ p. p.error < 2 ^ 63) layer
   errors_small ok k layer f i d n =
       let p = get_or layer i d in

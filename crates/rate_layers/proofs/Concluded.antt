@@ -1,4 +1,4 @@
--- The goal of found layers is the best choice's pair.
+-- The goal of found frontiers is the best choice's pair.
 use Rattle.std.proofs.Common.{◌≡◌, ℕ, List, [], length, get_or, sym, ap, ◌∙◌, subst, arith}
 use Rattle.rate_table.specs.declared.entry.Entry.{Entry}
 use Rattle.rate_table.specs.declared.entry.Pair.{Pair}

@@ -1,4 +1,4 @@
--- How many pairs layers have.
+-- The number of pairs of frontiers.
 use Rattle.std.proofs.Common.{ℕ, ◌+◌, ◌≤◌, List, [], ◌∷◌, length, drop, ap, arith, ⊎_elim, ◌↔◌}
 use Rattle.std.specs.List.{Contains}
 use Rattle.rate_table.specs.declared.entry.Pair.{Pair}
@@ -12,7 +12,7 @@ rises_room : (p : Pair) (ps : List Pair) (b : ℕ) → Rises (p ∷ ps) → ((q 
 rises_room p [] b h f = let g = f p (contains_head p []) in omega arith
 rises_room p (q ∷ ps) b h f = omega (arith, rises_room q ps b h.1 (λ x c. f x (contains_tail p (q ∷ ps) x c)), h.0)
 
--- Of rising sizes up to a budget there are no more than the budget and one.
+-- At most budget + 1 pairs have rising sizes up to the budget.
 pub rises_length : (ps : List Pair) (b : ℕ) → Rises ps → ((q : Pair) → Contains ps q → q.size ≤ b) → length ps ≤ b + 1
 rises_length [] b h f = omega arith
 rises_length (p ∷ ps) b h f = omega (arith, rises_room p ps b h f)
@@ -37,7 +37,7 @@ rises_sub (p ∷ ps) (q ∷ qs) a b f =
     below : (x : Pair) → Contains (p ∷ ps) x → p.size ≤ x.size
     below x c = ⊎_elim (λ e. let s = ap (λ (y : Pair). y.size) e in omega arith) (λ i. omega (arith, first_smaller p ps x a i)) (contains_cases p ps x c)
 
--- A smaller error keeps a part.
+-- A smaller error keeps a subset.
 pub kept_less : (t : Table) (m u v k : ℕ) (kept less : List Pair) → v ≤ u → IsKept t m u k kept → Rises less → ((p : Pair) → Contains less p ↔ (Contains kept p × StaysWithin t m v (drop k t.slices) p)) → IsKept t m v k less
 kept_less t m u v k kept less l (full, f, rises, has) r part = (
   full,

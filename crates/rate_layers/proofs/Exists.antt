@@ -1,4 +1,4 @@
--- There is a layer of undominated pairs of any finite list of pairs.
+-- Every finite list of pairs has a Pareto frontier.
 use Rattle.std.proofs.Common.{◌≡◌, ℕ, ◌+◌, ◌<◌, List, [], ◌∷◌, map, Bool, true, false, cond, leb, refl, sym, ap, ◌∙◌, subst, arith, ◌⊎◌, inl, inr, ⊎_elim, take, drop}
 use Rattle.std.specs.List.{Contains, flat_map, filter}
 use Rattle.std.proofs.lemmas.List.Sums.{sum_by-cons}
@@ -15,7 +15,7 @@ build : (q : Pair) (ps : List Pair) → RisesAndFalls ps → ((x : Pair) → Con
 build q [] h f = tt
 build q (p ∷ ps) h f = let g = f p (contains_head p ps) in (g.0, g.1, h)
 
--- a pair put into a layer
+-- a pair inserted into a frontier
 record Put (old : List Pair) (p : Pair) : Type 0 where
   new : List Pair
   order : RisesAndFalls new
@@ -23,7 +23,7 @@ record Put (old : List Pair) (p : Pair) : Type 0 where
   keeps : (x : Pair) → Contains old x → (q : Pair) × Contains new q × Dominates q x
   puts : (q : Pair) × Contains new q × Dominates q p
 
--- a layer's head already dominates it
+-- the head already dominates it
 put_under : (q : Pair) (qs : List Pair) (p : Pair) → RisesAndFalls (q ∷ qs) → Dominates q p → Put (q ∷ qs) p
 put_under q qs p h d = record {
   new = q ∷ qs;
@@ -43,7 +43,7 @@ put_over q qs p d u = record {
   puts = u.puts;
 }
 
--- it comes behind the head
+-- it comes after the head
 put_behind : (q : Pair) (qs : List Pair) (p : Pair) → RisesAndFalls (q ∷ qs) → q.size < p.size → p.error < q.error → Put qs p → Put (q ∷ qs) p
 put_behind q qs p h s e u = record {
   new = q ∷ u.new;
@@ -79,7 +79,7 @@ put (q ∷ qs) p h =
     (λ e. put_under q qs p h (s, e)) (cases_lt p.error q.error))
     (cases_lt p.size q.size)
 
--- the layer of a list of pairs
+-- the frontier of a list of pairs
 pub front_of : (ps : List Pair) → (layer : List Pair) × IsFront (λ p. Contains ps p) layer
 front_of [] = ([], record { order = tt; only = λ p c. c; covers = λ p c. absurd (contains_none p c) })
 front_of (p ∷ ps) =
@@ -140,7 +140,7 @@ reach_pairs (s ∷ ss) (x ∷ c) h =
     (map_contains (λ p. joined p x) (pairs ss) (pair_of c) (reach_pairs ss c h.1)))
 
 module _ (slices : List (List Entry)) (Fine : Pair → Type 0) (test : Pair → Bool) where
-  -- the layer of the pairs of all choices that pass a test
+  -- the frontier of the pairs of all choices that pass a test
   pub front_of_tested : ((p : Pair) → test p ≡ true → Fine p) → ((p : Pair) → Fine p → test p ≡ true) → (layer : List Pair) × IsFront (λ p. Reaches slices p × Fine p) layer
   front_of_tested there back =
       let f = front_of (filter test (pairs slices)) in (
@@ -152,13 +152,13 @@ module _ (slices : List (List Entry)) (Fine : Pair → Type 0) (test : Pair → 
         },
       )
 
--- There is a full layer after each number of slices.
+-- There is a full frontier after each number of slices.
 pub front_full : (t : Table) (k : ℕ) → (layer : List Pair) × IsFront (λ p. Reaches (take k t.slices) p × CanFit t (drop k t.slices) p) layer
 front_full t k =
     front_of_tested (take k t.slices) (CanFit t (drop k t.slices)) (λ p. leb (t.fixed + (p.size + least_sizes (drop k t.slices))) t.budget)
     (λ p h. leb-true _ _ h) (λ p h. le-leb _ _ h)
 
--- a full layer in the form that a merge shows
+-- a full frontier in the form that a merge establishes
 pub full_front : (t : Table) (k : ℕ) (layer : List Pair) → IsFull t k layer → IsFront (λ p. Reaches (take k t.slices) p × CanFit t (drop k t.slices) p) layer
 full_front t k layer h =
     let f = front_full t k in

@@ -1,33 +1,21 @@
--- The best choice from the layers.
+-- The best choice from the frontiers.
 use Rattle.std.proofs.Common.{◌≡◌, ℕ, ◌+◌, ◌<◌, ◌≤◌, List, [], ◌∷◌, ◌++◌, length, take, drop, refl, sym, ap, ◌∙◌, subst, arith, ◌⊎◌, inl, inr, ⊎_elim}
 use Rattle.std.specs.List.{Contains, sum_by}
 use Rattle.std.proofs.lemmas.List.{take-append-drop, map_push}
 use Rattle.std.proofs.lemmas.List.Sums.{sum_by-cons}
 use Rattle.std.proofs.lemmas.Bool.{cases_lt}
+use Rattle.rate_table.proofs.Enumerated.{comes_first-then}
 use Rattle.rate_table.specs.declared.entry.Entry.{Entry}
 use Rattle.rate_table.specs.declared.entry.Pair.{Pair}
 use Rattle.rate_table.specs.Table.{Table, IsChoice, Fits, size_of, error_of, pair_of, indices, ComesFirst, IsBest, least, IndicesRise}
 use Rattle.rate_layers.specs.First.{IsFirst, extended, IsFirstFrom, Leads}
 use Rattle.rate_table.specs.Pairs.{Dominates, joined, RisesAndFalls}
-use Rattle.rate_layers.specs.Layers.{Reaches, IsUndominated, IsFront}
+use Rattle.rate_layers.specs.Layers.{Reaches, IsFront}
 use Rattle.rate_layers.proofs.Fronts.{same_pair, falls_tail, first_below}
 use Rattle.rate_table.proofs.Lists.{contains_cases, contains_head, contains_tail, contains_none}
 use Rattle.rate_layers.proofs.Grown.{choice_last, choice_push, pair_push}
 use Rattle.rate_layers.proofs.Asked.{IsTest, At}
 use Rattle.rate_table.proofs.Entries.{index_same}
-
--- the order of index lists
-pub first_self : (xs : List ℕ) → ComesFirst xs xs
-first_self [] = tt
-first_self (x ∷ xs) = inr (refl, first_self xs)
-
-pub first_trans : (xs ys zs : List ℕ) → ComesFirst xs ys → ComesFirst ys zs → ComesFirst xs zs
-first_trans [] ys zs a b = tt
-first_trans (x ∷ xs) [] zs a b = absurd a
-first_trans (x ∷ xs) (y ∷ ys) [] a b = absurd b
-first_trans (x ∷ xs) (y ∷ ys) (z ∷ zs) a b =
-    ⊎_elim (λ l. ⊎_elim (λ m. inl (omega arith)) (λ m. inl (omega (arith, m.0))) b)
-    (λ l. ⊎_elim (λ m. inl (omega (arith, l.0))) (λ m. inr (l.0 ∙ m.0, first_trans xs ys zs l.1 m.1)) b) a
 
 pub first_push : (xs ys : List ℕ) (z : ℕ) → length xs ≡ length ys → ComesFirst xs ys → ComesFirst (xs ++ z ∷ []) (ys ++ z ∷ [])
 first_push [] [] z n a = inr (refl, tt)
@@ -54,7 +42,7 @@ choice_append (s ∷ ss) rs (x ∷ c) d h i = (h.0, choice_append ss rs c d h.1 
 abbrev pub IsOptimal : Table → Pair → Type 0
 IsOptimal t p = (other : List Entry) → IsChoice t.slices other → Fits t other → Dominates (pair_of other) p → pair_of other ≡ p
 
--- The front of a choice with an optimal pair has its pair in the layer.
+-- A prefix of a choice with an optimal pair has its pair in the frontier.
 pub prefix_in : (t : Table) (u : ℕ) (Fine : List (List Entry) → Pair → Type 0) → IsTest t u Fine → (k : ℕ) (layer : List Pair) → IsFront (At t Fine k) layer → (p : Pair) → IsOptimal t p → t.fixed + p.size ≤ t.budget → p.error ≤ u → (c d : List Entry) → IsChoice (take k t.slices) c → IsChoice (drop k t.slices) d → extended (pair_of c) d ≡ p → Contains layer (pair_of c)
 prefix_in t u Fine test k layer f p opt fits below c d hc hd e =
     let later = drop k t.slices in
@@ -98,28 +86,13 @@ greedy_step s later p goal x d r c least f = record {
 pub greedy_end : (p : Pair) → IsFirstFrom [] p p []
 greedy_end p = record { chosen = tt; leads = same_pair _ _ (omega arith) (omega arith); first = λ other h e. tt }
 
--- The front of a choice whose pair stands in the next layer has its pair in the layer.
-pub prefix_step : (t : Table) (u : ℕ) (Fine : List (List Entry) → Pair → Type 0) → IsTest t u Fine → (done : List (List Entry)) (s : List Entry) (later : List (List Entry)) (layer : List Pair) → IsFront (λ p. Reaches done p × Fine (s ∷ later) p) layer → (p : Pair) → IsUndominated (λ p. Reaches (done ++ s ∷ []) p × Fine later p) p → (c : List Entry) (x : Entry) → IsChoice done c → Contains s x → joined (pair_of c) x ≡ p → Contains layer (pair_of c)
-prefix_step t u Fine test done s later layer f p und c x hc hx e =
-    let st : Fine later (joined (pair_of c) x) = subst (λ y. Fine later y) (sym e) und.0.1 in
-    let q = f.covers (pair_of c) ((c, hc, refl), test.back s later (pair_of c) x hx st) in
-    let o = f.only q.0 q.1 in
-    let es = ap (λ (y : Pair). y.size) e in
-    let ee = ap (λ (y : Pair). y.error) e in
-    let dom : Dominates (joined q.0 x) p = (omega (arith, q.2), omega (arith, q.2)) in
-    let reach : Reaches (done ++ s ∷ []) (joined q.0 x) = (o.0.0 ++ x ∷ [], choice_push done s o.0.0 x o.0.1 hx, pair_push o.0.0 x ∙ ap (λ y. joined y x) o.0.2) in
-    let g = und.1 (joined q.0 x) (reach, test.down later p (joined q.0 x) dom und.0.1) dom in
-    let gs = ap (λ (y : Pair). y.size) g in
-    let ge = ap (λ (y : Pair). y.error) g in
-    subst (λ y. Contains layer y) (same_pair q.0 (pair_of c) (omega arith) (omega arith)) q.1
-
-length_chosen : (ss : List (List Entry)) (c : List Entry) → IsChoice ss c → length (indices c) ≡ length ss
+pub length_chosen : (ss : List (List Entry)) (c : List Entry) → IsChoice ss c → length (indices c) ≡ length ss
 length_chosen [] [] h = refl
 length_chosen [] (x ∷ c) h = absurd h
 length_chosen (s ∷ ss) [] h = absurd h
 length_chosen (s ∷ ss) (x ∷ c) h = omega (arith, length_chosen ss c h.1)
 
--- the first index list of a pair, from those of the pairs of the layer before
+-- the first index list of a pair, from those of the pairs of the frontier before
 pub first_step : (done : List (List Entry)) (s : List Entry) (layer : List Pair) (firsts : (q : Pair) → Contains layer q → (d : List Entry) × IsFirst done q d) (p : Pair) → ((d : List Entry) (x : Entry) → IsChoice done d → Contains s x → joined (pair_of d) x ≡ p → Contains layer (pair_of d)) → (q : Pair) (has : Contains layer q) (x : Entry) → Contains s x → joined q x ≡ p → ((q' : Pair) (has' : Contains layer q') (x' : Entry) → Contains s x' → joined q' x' ≡ p → ComesFirst (indices ((firsts q has).0 ++ x ∷ [])) (indices ((firsts q' has').0 ++ x' ∷ []))) → IsFirst (done ++ s ∷ []) p ((firsts q has).0 ++ x ∷ [])
 first_step done s layer firsts p front q has x h e best =
     let c = firsts q has in
@@ -136,10 +109,10 @@ first_step done s layer firsts p front q has x h e best =
           let b = first_push (indices d.0) (indices l.front) l.entry.index n (d.1.first l.front l.chosen refl) in
           let b' = subst (λ z. ComesFirst z (indices l.front ++ l.entry.index ∷ [])) (sym (map_push (λ (y : Entry). y.index) d.0 l.entry)) b in
           let b'' = subst (λ z. ComesFirst (indices (d.0 ++ l.entry ∷ [])) z) (sym (map_push (λ (y : Entry). y.index) l.front l.entry) ∙ ap indices (sym l.is)) b' in
-          first_trans (indices (c.0 ++ x ∷ [])) (indices (d.0 ++ l.entry ∷ [])) (indices other) a b'';
+          comes_first-then (indices (c.0 ++ x ∷ [])) (indices (d.0 ++ l.entry ∷ [])) (indices other) a b'';
     }
 
--- the last pair of a layer has the least error
+-- the last pair of a frontier has the least error
 pub last_in : (front : List Pair) (p : Pair) → Contains (front ++ p ∷ []) p
 last_in [] p = contains_head p []
 last_in (r ∷ front) p = contains_tail r (front ++ p ∷ []) p (last_in front p)
@@ -151,7 +124,7 @@ last_least (r ∷ front) p q h c =
     (λ i. last_least front p q (falls_tail r (front ++ p ∷ []) h) i) (contains_cases r (front ++ p ∷ []) q c)
 
 module _ (t : Table) (u : ℕ) (Fine : List (List Entry) → Pair → Type 0) (test : IsTest t u Fine) (front : List Pair) (p : Pair) (f : IsFront (λ p. Reaches t.slices p × Fine [] p) (front ++ p ∷ [])) where
-  -- what the last pair of the last layer says of each fitting choice within the bound
+  -- what the last pair of the last frontier proves of each fitting choice within the bound
   pub below_last : (other : List Entry) → IsChoice t.slices other → Fits t other → error_of other ≤ u → (p.error ≤ error_of other) × (error_of other ≡ p.error → p.size ≤ size_of other)
   below_last other i fits le =
       let q = f.covers (pair_of other) ((other, i, refl), test.keeps [] (pair_of other) [] tt (omega arith) (omega arith)) in
@@ -160,7 +133,7 @@ module _ (t : Table) (u : ℕ) (Fine : List (List Entry) → Pair → Type 0) (t
       (λ l. (omega (arith, q.2), λ h. omega (arith, q.2)))
       (last_least front p q.0 f.order q.1)
 
-  -- a fitting choice whose error is at most u, and so the last pair's error is
+  -- the error of a fitting choice is at most u, so the last pair's error is
   pub best_last : (some : List Entry) → IsChoice t.slices some → Fits t some → error_of some ≤ u → (c : List Entry) → IsFirst t.slices p c → IsBest t c
   best_last some i fits le c first =
       let o = f.only p (last_in front p) in

@@ -1,7 +1,7 @@
--- From found layers to the first choice with the goal's pair.
-use Rattle.std.proofs.Common.{◌≡◌, ℕ, suc, ◌+◌, ◌-◌, ◌^◌, ◌<◌, ◌≤◌, List, [], ◌∷◌, ◌++◌, Vec, Global, Bool, true, false, length, map, get_or, replicate, drop, refl, sym, ap, ◌∙◌, subst, arith, ⊎_elim}
+-- From found frontiers to the first choice with the goal's pair.
+use Rattle.std.proofs.Common.{◌≡◌, ℕ, suc, ◌+◌, ◌-◌, ◌^◌, ◌<◌, ◌≤◌, List, [], ◌∷◌, ◌++◌, Bool, true, false, length, get_or, replicate, drop, refl, sym, ap, ◌∙◌, subst, arith, ⊎_elim}
 use Rattle.std.specs.List.{Contains}
-use Rattle.std.proofs.lemmas.List.{length-append, length-replicate, get_or_append_left, get_or_push, get_or-map, get_or_default, length_push, drop_all, map_push, append_assoc, append-nil}
+use Rattle.std.proofs.lemmas.List.{length-append, length-replicate, get_or_append_left, get_or_push, get_or_default, length_push, drop_all, map_push, append_assoc, append-nil}
 use Rattle.std.proofs.lemmas.Bool.{cases_lt}
 use Rattle.std.proofs.Math.Seq.{drop-cons}
 use Rattle.rate_table.specs.declared.entry.Entry.{Entry}
@@ -20,19 +20,11 @@ use Rattle.rate_layers.proofs.Leading.{AreLive, leads_next, live_step, walk_step
 use Rattle.rate_layers.proofs.Marked.{marked_last}
 use Rattle.rate_layers.proofs.Produced.{whole}
 
--- the pairs of each vector
-abbrev pub items_of : List (Vec Pair Global) → List (List Pair)
-items_of vs = map (λ v. v.items) vs
-
--- what an index gives, as an element of the list of lists
-pub element : (vs : List (Vec Pair Global)) (k : ℕ) (v : Vec Pair Global) (xs : List Pair) → k < length vs → v ≡ get_or vs k v → xs ≡ v.items → xs ≡ get_or (items_of vs) k []
-element vs k v xs n is e = e ∙ ap (λ (w : Vec Pair Global). w.items) is ∙ sym (get_or-map (λ (w : Vec Pair Global). w.items) vs k v [] n)
-
 -- the entries of a slice, as an element of the table's
 pub entries_at : (t : Table) (slices : List (List Entry)) (k : ℕ) (s entries : List Entry) → slices ≡ t.slices → k < length t.slices → s ≡ get_or slices k s → entries ≡ s → entries ≡ get_or t.slices k []
 entries_at t slices k s entries same n is e = e ∙ is ∙ ap (λ l. get_or l k s) same ∙ get_or_default t.slices k s [] n
 
--- the marks of the layers from k on, the last layer's first
+-- the marks of the frontiers from k on, the last one's first
 pub record MarkedFrom (t : Table) (goal : Pair) (layers : List (List Pair)) (marks : List (List Bool)) (k : ℕ) : Type 0 where
   pub count : length marks + k ≡ suc (length t.slices)
   pub each : (i j : ℕ) → i < length marks → i + j ≡ length t.slices → MarkedTo (drop j t.slices) goal (get_or layers j []) (get_or marks i [])
@@ -68,12 +60,12 @@ module _ (t : Table) (m u : ℕ) (goal : Pair) (layers : List (List Pair)) (foun
       let e = goal_least other i f (omega (arith, d.1, goal_below)) in
       same_pair (pair_of other) goal (omega (arith, d.0, d.1, e.0, e.1)) (omega (arith, d.1, e.0))
 
-  -- ---- from the last layer back
+  -- ---- from the last frontier back
 
   pub last_long : 0 < length (get_or layers (length t.slices) [])
   last_long = omega (arith, ap length found.last.1, length-append found.last.0 (goal ∷ []))
 
-  -- the goal alone, in the last layer
+  -- the goal alone, in the last frontier
   pub lead_end : (marks : List Bool) → marks ≡ replicate (length (get_or layers (length t.slices) []) - 1) false ++ true ∷ [] → MarkedTo (drop (length t.slices) t.slices) goal (get_or layers (length t.slices) []) marks
   lead_end marks is =
       let layer = get_or layers (length t.slices) [] in
@@ -113,7 +105,7 @@ module _ (t : Table) (m u : ℕ) (goal : Pair) (layers : List (List Pair)) (foun
             (subst (λ ms. MarkedTo (drop (length t.slices) t.slices) goal (get_or layers (length t.slices) []) (get_or ms 0 [])) (sym e) (lead_end last is)));
       }
 
-  -- the marks of the next layer, as the step before has them
+  -- the marks of the next frontier, as the step before left them
   pub marks_last : (marks : List (List Bool)) (k : ℕ) → k < length t.slices → MarkedFrom t goal layers marks (suc k) → MarkedTo (drop (suc k) t.slices) goal (get_or layers (suc k) []) (get_or marks (length marks - 1) [])
   marks_last marks k n a = a.each (length marks - 1) (suc k) (omega (arith, a.count)) (omega (arith, a.count))
 
@@ -149,9 +141,9 @@ module _ (t : Table) (m u : ℕ) (goal : Pair) (layers : List (List Pair)) (foun
     each = λ i j s. a.each i j (omega (arith, a.count)) s;
   }
 
-  -- ---- from nothing forward
+  -- ---- from the empty pair forward
 
-  -- nothing is in the first layer
+  -- the empty pair is in the first frontier
   pub none_first : Contains (get_or layers 0 []) (record { size = 0; error = 0 })
   none_first =
       let r = goal_reached in
@@ -167,7 +159,7 @@ module _ (t : Table) (m u : ℕ) (goal : Pair) (layers : List (List Pair)) (foun
       let ee : error_of r.0 ≡ goal.error = ap (λ (p : Pair). p.error) r.2 in
       (r.0, r.1, same_pair (extended (record { size = 0; error = 0 }) r.0) goal (omega arith) (omega arith))
 
-  -- a live pair leads on to a live pair
+  -- a live pair leads to a live pair
   pub live_on : (k : ℕ) (live live_next : List Pair) (p : Pair) → k < length t.slices → LeadTo (drop k t.slices) goal (get_or layers k []) live → LeadTo (drop (suc k) t.slices) goal (get_or layers (suc k) []) live_next → Contains live p → LeadsOn (get_or t.slices k []) live_next p
   live_on k live live_next p n a b c =
       let s = a.some p c in
@@ -186,7 +178,7 @@ module _ (t : Table) (m u : ℕ) (goal : Pair) (layers : List (List Pair)) (foun
 
 -- ---- the walk
 
--- where the walk stands after k slices
+-- the walk after k slices
 pub record Walking (t : Table) (goal : Pair) (layers : List (List Pair)) (marks : List (List Bool)) (k : ℕ) (p : Pair) (chosen : List ℕ) : Type 0 where
   pub taken : List Entry
   pub has : chosen ≡ indices taken
@@ -238,14 +230,14 @@ module _ (t : Table) (goal : Pair) (layers : List (List Pair)) (marks : List (Li
       stays p ([], h, e) = let b = ap (λ (q : Pair). q.size) e in let b' = ap (λ (q : Pair). q.error) e in same_pair p goal (omega arith) (omega arith)
       stays p (x ∷ d, h, e) = absurd h
 
--- ---- what the last pair of the last layer tells
+-- ---- what the last pair of the last frontier proves
 
 module _ (t : Table) (m u : ℕ) (layers : List (List Pair)) (kept : AreKept t m u layers) where
   ends : (front : List Pair) (p : Pair) → get_or layers (length t.slices) [] ≡ front ++ p ∷ [] → IsFront (λ p. Reaches t.slices p × Stays t m u [] p) (front ++ p ∷ [])
   ends front p e = subst (λ l. IsFront (λ p. Reaches t.slices p × Stays t m u [] p) l) e
       (whole t (Stays t m u) (get_or layers (length t.slices) []) (kept_front t m u (length t.slices) (get_or layers (length t.slices) []) (kept.1 (length t.slices) (omega arith))))
 
-  -- it is the goal where its error is within the bound
+  -- it is the goal if its error is within the bound
   pub found_here : pairs_in layers ≤ 2 ^ 25 → (at : ℕ) → at ≡ length t.slices → (p : Pair) → (front : List Pair) × (get_or layers at [] ≡ front ++ p ∷ []) → p.error ≤ u → AreFound t m u p layers
   found_here few at n p (front, e) l =
       let e' = subst (λ i. get_or layers i [] ≡ front ++ p ∷ []) n e in
@@ -256,7 +248,7 @@ module _ (t : Table) (m u : ℕ) (layers : List (List Pair)) (kept : AreKept t m
       let f = o.1.0 in
       record { kept = kept; few = few; some = (c, o.0.1, omega arith, omega arith); last = (front, e') }
 
-  -- and else no fitting choice is within it
+  -- otherwise no fitting choice is within it
   pub none_within : (at : ℕ) → at ≡ length t.slices → (p : Pair) → (front : List Pair) × (get_or layers at [] ≡ front ++ p ∷ []) → u < p.error → (c : List Entry) → IsChoice t.slices c → Fits t c → u < error_of c
   none_within at n p (front, e) l c i f =
       let e' = subst (λ i. get_or layers i [] ≡ front ++ p ∷ []) n e in

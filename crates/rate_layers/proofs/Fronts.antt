@@ -1,4 +1,4 @@
--- Lists of undominated pairs, of any pairs.
+-- Pareto frontiers of any pairs.
 use Rattle.std.proofs.Common.{◌≡◌, ◌<◌, List, [], ◌∷◌, refl, sym, ap, ◌∙◌, subst, arith, ⊎_elim}
 use Rattle.std.specs.List.{Contains}
 use Rattle.rate_table.specs.declared.entry.Pair.{Pair}
@@ -87,6 +87,6 @@ same_rising (p ∷ ps) (q ∷ qs) a b f g =
     (λ x c. ⊎_elim (λ i. let s = ap (λ (y : Pair). y.size) i in absurd (omega (arith, first_smaller q qs x b c))) (λ d. d) (contains_cases p ps x (g x (contains_tail q qs x c)))) in
     λ i. e i ∷ rest i
 
--- There is one layer of undominated pairs at most.
+-- The Pareto frontier is unique.
 pub one_layer : (Is : Pair → Type 0) (ps qs : List Pair) → IsLayer Is ps → IsLayer Is qs → ps ≡ qs
 one_layer Is ps qs a b = same_rising ps qs a.rises b.rises (λ x c. (b.has x).1 ((a.has x).0 c)) (λ x c. (a.has x).1 ((b.has x).0 c))

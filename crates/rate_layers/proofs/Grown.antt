@@ -1,4 +1,4 @@
--- One slice more: from the pairs of a layer to those of the next.
+-- One slice more: from the pairs of a frontier to those of the next.
 use Rattle.std.proofs.Common.{◌≡◌, ℕ, ◌+◌, List, [], ◌∷◌, ◌++◌, refl, sym, ap, ◌∙◌, subst, arith}
 use Rattle.std.specs.List.{Contains, sum_by}
 use Rattle.std.proofs.lemmas.List.Sums.{sum_by-cons}
@@ -41,7 +41,7 @@ pub pair_push : (c : List Entry) (x : Entry) → pair_of (c ++ x ∷ []) ≡ joi
 pair_push c x = same_pair _ _ (sum_push (λ x. x.size) c x) (sum_push (λ x. x.error) c x)
 
 module _ (done : List (List Entry)) (slice : List Entry) (Fine Next : Pair → Type 0) where
-  -- What dominates a pair that is fine is fine, and so is what was joined to make it.
+  -- If a pair passes, so does each pair that dominates it, and the pair that it was joined from.
   pub front_step : ((p q : Pair) → Dominates q p → Next p → Next q) → ((p : Pair) (x : Entry) → Contains slice x → Next (joined p x) → Fine p) → (layer next : List Pair) → IsFront (λ p. Reaches done p × Fine p) layer → IsFront (λ p. Joins layer slice p × Next p) next → IsFront (λ p. Reaches (done ++ slice ∷ []) p × Next p) next
   front_step down back layer next f g = record {
     order = g.order;

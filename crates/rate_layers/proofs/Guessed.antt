@@ -1,4 +1,4 @@
--- Choices of a table, and those of the table whose errors count several times.
+-- Choices of a table and of the table with multiplied errors.
 use Rattle.std.proofs.Common.{◌≡◌, ℕ, ◌+◌, ◌-◌, ◌*◌, ◌/◌, ◌^◌, ◌≤◌, List, [], ◌∷◌, map, refl, sym, ap, subst, arith}
 use Rattle.std.proofs.Math.Nat.{div-le_of_le-mul, min-le_left}
 use Rattle.std.proofs.lemmas.List.Sums.{sum_by-cons}
@@ -21,7 +21,7 @@ module _ (times : ℕ) where
   counted_size [] = refl
   counted_size (x ∷ c) = omega (arith, sum_by-cons (λ (y : Entry). y.size) x c, sum_by-cons (λ (y : Entry). y.size) (counted times x) (map (counted times) c), counted_size c)
 
-  -- no choice counts for more than its error so many times
+  -- the multiplied error of a choice is at most `times` its error
   counted_error : (c : List Entry) → error_of (map (counted times) c) ≤ times * error_of c
   counted_error [] = omega arith
   counted_error (x ∷ c) =
@@ -30,7 +30,7 @@ module _ (times : ℕ) where
       let cut : (counted times x).error ≤ x.error * times = min-le_left (x.error * times) (2 ^ 43 - 1) in
       omega (arith, product, cut, sum_by-cons (λ (y : Entry). y.error) (counted times x) (map (counted times) c), counted_error c)
 
--- so an error that no fitting choice of that table goes below is, divided, not above any of this one
+-- so a lower bound of the fitting choices of that table, divided by `times`, is one of this table
 pub guess_least : (t finer : Table) (times m u : ℕ) (goal : Pair) (layers : List (List Pair)) → finer ≡ record { budget = t.budget; fixed = t.fixed; slices = counted_slices times t.slices } → AreFound finer m u goal layers
     → (c : List Entry) → IsChoice t.slices c → Fits t c → goal.error / times ≤ error_of c
 guess_least t finer times m u goal layers is found c i f =

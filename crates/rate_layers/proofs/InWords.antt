@@ -1,4 +1,4 @@
--- Marks in words.
+-- Marks in 64-bit words.
 use Rattle.std.proofs.Common.{◌≡◌, ℕ, zero, suc, ◌*◌, ◌/◌, ◌%◌, ◌^◌, ◌<◌, ◌≤◌, List, [], ◌∷◌, ◌++◌, length, get_or, set, replicate, Bool, true, false, eqb, bit_or, refl, sym, ap, ◌∙◌, arith, ⊎_elim}
 use Rattle.std.specs.Int.{bit_at, w64}
 use Rattle.std.proofs.Math.Nat.{div-lt_iff_lt-mul}
@@ -21,7 +21,7 @@ module _ (words : List ℕ) (count : ℕ) where
   pub has_word : (i : ℕ) → i < count → count ≤ length words * 64 → i / 64 < length words
   has_word i n w = (div-lt_iff_lt-mul (omega arith)).1 (omega arith)
 
-  -- what a set bit makes of the marks
+  -- the marks after a bit was set
   module _ (i word : ℕ) (n : i < count) (w : count ≤ length words * 64) (is : word ≡ get_or words (i / 64) 0) where
     new : ℕ
     new = bit_or word (1 * 2 ^ (i % 64) % 2 ^ 64)
@@ -62,7 +62,7 @@ module _ (words : List ℕ) (count : ℕ) where
     unfolding marks_in new with_bit
     set_one = sym (fill_by_all (is_set with_bit) (set (marks_in words count) i true) count false (length-set (marks_in words count) i true ∙ marks_length) each)
 
--- no mark is set in words of zeros
+-- no mark is set in zero words
 pub none_set : (size count : ℕ) → count ≤ size * 64 → marks_in (replicate size 0) count ≡ replicate count false
 unfolding marks_in
 none_set size count w = sym (fill_by_all (is_set (replicate size 0)) (replicate count false) count false (length-replicate count false)

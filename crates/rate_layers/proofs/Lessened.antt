@@ -1,9 +1,10 @@
--- Found layers under a smaller error.
+-- Found frontiers under a smaller error.
 use Rattle.std.proofs.Common.{◌≡◌, ℕ, zero, suc, ◌+◌, ◌-◌, ◌*◌, ◌<◌, ◌≤◌, List, [], ◌∷◌, ◌++◌, Vec, Global, Bool, true, cond, length, get_or, set, drop, nat_lt, refl, sym, ap, ◌∙◌, subst, arith, ⊎_elim}
 use Rattle.std.specs.List.{filter}
 use Rattle.std.proofs.lemmas.Bool.{cases_lt, cases_Bool, ltb-true, lt-ltb}
 use Rattle.std.proofs.lemmas.Nat.{mul-le}
 use Rattle.std.proofs.lemmas.List.{length-set, get_or-set_same, get_or-set_other, drop_all}
+use Rattle.rate_table.proofs.Vectors.{items_of, element}
 use Rattle.rate_table.specs.declared.entry.Pair.{Pair}
 use Rattle.rate_table.specs.Table.{Table, size_of, error_of}
 use Rattle.rate_table.specs.Pairs.{rest, StaysWithin}
@@ -11,16 +12,16 @@ use Rattle.rate_layers.specs.Layers.{IsKept, AreKept}
 use Rattle.rate_layers.specs.inner.Live.{AreFound}
 use Rattle.rate_layers.proofs.Counts.{kept_less}
 use Rattle.rate_layers.proofs.Wholes.{kept_same, kept_are_fewer}
-use Rattle.rate_layers.proofs.Found.{items_of, element, goal_reached, goal_fits, goal_below}
+use Rattle.rate_layers.proofs.Found.{goal_reached, goal_fits, goal_below}
 use Rattle.rate_layers.proofs.Onward.{filter_has, has_filter, rises_filter}
 
--- the layers up to k are those of the error v, and those behind are as they were
+-- the frontiers up to k are those of the error v, and those after are unchanged
 pub record Lessened (t : Table) (m v : ℕ) (before now : List (List Pair)) (k : ℕ) : Type 0 where
   pub count : length now ≡ length before
   pub done : (i : ℕ) → i ≤ k → IsKept t m v i (get_or now i [])
   pub left : (i : ℕ) → k < i → get_or now i [] ≡ get_or before i []
 
--- what the bound keeps of a layer
+-- the pairs of a frontier that the bound keeps
 pub kept_filter : (t : Table) (m u v k multiplier ceiling : ℕ) (layer : List Pair) → v ≤ u → IsKept t m u k layer → multiplier ≡ m → ceiling ≡ (v + m * t.budget + 1) - (rest m (drop k t.slices) + m * t.fixed) → IsKept t m v k (filter (λ p. nat_lt (p.error + multiplier * p.size) ceiling) layer)
 kept_filter t m u v k multiplier ceiling layer l h em ec =
     kept_less t m u v k layer (filter (λ p. nat_lt (p.error + multiplier * p.size) ceiling) layer) l h
@@ -59,7 +60,7 @@ module _ (t : Table) (m v : ℕ) (before : List (List Pair)) (count : length bef
     left = λ i l. get_or-set_other now (k + 1) i layer [] (λ e. omega arith) ∙ a.left i (omega arith);
   }
 
--- a vector of the layers, and what the test leaves of it
+-- a vector of the frontiers, and the pairs of it that pass the test
 pub kept_vector : (t : Table) (m u v k : ℕ) (vs : List (Vec Pair Global)) (old new : Vec Pair Global) (multiplier ceiling : ℕ) → v ≤ u → k < length vs → IsKept t m u k (get_or (items_of vs) k []) → old ≡ get_or vs k old
     → new.items ≡ filter (λ p. nat_lt (p.error + multiplier * p.size) ceiling) old.items → multiplier ≡ m → ceiling ≡ (v + m * t.budget + 1) - (rest m (drop k t.slices) + m * t.fixed) → IsKept t m v k new.items
 kept_vector t m u v k vs old new multiplier ceiling l n h is e em ec =
@@ -87,7 +88,7 @@ module _ (t : Table) (m u : ℕ) (goal : Pair) (before : List (List Pair)) (foun
   stays : StaysWithin t m goal.error [] goal
   stays = let f = goal_fits t m u goal before found in let h = mul-le m (t.fixed + goal.size) m t.budget (omega arith) (omega arith) in omega arith
 
-  -- the layer of its error, told as a filter of the last layer
+  -- the frontier of its error, as a filter of the last frontier
   end_is : (layer : List Pair) → IsKept t m goal.error (length t.slices) layer → (front : List Pair) × (layer ≡ front ++ goal ∷ [])
   end_is layer h =
       let n = length t.slices in

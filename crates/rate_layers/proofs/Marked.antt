@@ -14,7 +14,7 @@ use Rattle.rate_layers.specs.inner.Live.{StandsAt, LeadsAt, marked, MarkedMore, 
 use Rattle.rate_layers.proofs.Fronts.{first_smaller, rises_tail}
 use Rattle.rate_layers.proofs.Onward.{rises_at, build_rises}
 
--- ---- which pairs have a mark
+-- ---- which pairs are marked
 
 pub marked_has : (marks : List Bool) (layer : List Pair) (p : Pair) → Contains (marked marks layer) p → (i : ℕ) × (i < length layer) × (get_or layer i p ≡ p) × (get_or marks i false ≡ true)
 marked_has [] layer p c = absurd (contains_none p c)
@@ -58,7 +58,7 @@ pub marked_last : (front : List Pair) (p : Pair) → marked (replicate (length f
 marked_last [] p = refl
 marked_last (q ∷ front) p = marked_last front p
 
--- ---- the place of a pair
+-- ---- the position of a pair
 
 same_place : (layer : List Pair) (i j : ℕ) (d : Pair) → Rises layer → i < length layer → j < length layer → (get_or layer i d).size ≡ (get_or layer j d).size → i ≡ j
 same_place layer i j d h n l e =
@@ -135,7 +135,7 @@ module _ (slice : List Entry) (next : List Pair) (next_marks : List Bool) (layer
   abbrev pub Source : ℕ → Pair → Type 0
   Source k p = (i : ℕ) × (i < k) × (get_or next_marks i false ≡ true) × (x : Entry) × Contains slice x × ((d : Pair) → joined p x ≡ get_or next i d)
 
-  -- the sources of the first k pairs have a mark
+  -- the sources of the first k pairs are marked
   pub record MarkedSo (marks : List Bool) (k : ℕ) : Type 0 where
     pub count : length marks ≡ length layer
     pub each : (j : ℕ) (d : Pair) → j < length layer → (get_or marks j false ≡ true) ↔ Source k (get_or layer j d)

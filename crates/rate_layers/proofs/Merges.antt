@@ -19,7 +19,7 @@ push_order [] p h f = tt
 push_order (q ∷ []) p h f = let g = f q (contains_head q []) in (g.0, g.1, tt)
 push_order (q ∷ r ∷ old) p h f = (h.0, h.1, push_order (r ∷ old) p h.2 (λ s c. f s (contains_tail q (r ∷ old) s c)))
 
--- The pair has less error than each.
+-- The pair has less error than each of the frontier.
 pub offered_push : (p : Pair) (old : List Pair) → RisesAndFalls old → AreBehind p old → ((q : Pair) → Contains old q → p.error < q.error) → Offered p old (old ++ p ∷ [])
 offered_push p old h a less = record {
   front = record {
@@ -30,7 +30,7 @@ offered_push p old h a less = record {
   };
 }
 
--- A pair of the layer dominates it.
+-- A pair of the frontier dominates it.
 pub offered_keep : (p : Pair) (old : List Pair) → RisesAndFalls old → (q : Pair) × Contains old q × Dominates q p → Offered p old old
 offered_keep p old h d = record {
   front = record {
@@ -41,7 +41,7 @@ offered_keep p old h d = record {
 }
 
 module _ (b : Bound) (x : Entry) where
-  -- a pair of the front is offered
+  -- a pair of `front` is offered
   pub merging_front : (done left ldone lleft out new : List Pair) (p : Pair) → RisesAndFalls (p ∷ left) → ((r : Pair) → Contains lleft r → IsBehind (joined r x) p) → Merging b x done (p ∷ left) ldone lleft out → Offered p out new → Merging b x (done ++ p ∷ []) left ldone lleft new
   merging_front done left ldone lleft out new p h later m o = record {
     front = record {
@@ -111,7 +111,7 @@ at_end (p ∷ r ∷ layer) last h n e =
       λ q c. ⊎_elim (λ i. let j = ap (λ (y : Pair). y.error) i in let b = first_below p (r ∷ layer) last h f.0 in omega arith) (λ i. f.1 q i) (contains_cases p (r ∷ layer) q c),
     )
 
--- The same, as a loop with indices has them.
+-- The same by indices, as a loop uses it.
 pub falls_drop : (i : ℕ) (ps : List Pair) → RisesAndFalls ps → RisesAndFalls (drop i ps)
 falls_drop zero ps h = h
 falls_drop (suc i) [] h = tt
@@ -139,7 +139,7 @@ module _ (b : Bound) (x : Entry) where
       subst (λ k. Merging b x done left k (drop (j + 1) l) out) (sym (take_more l j d n))
       (merging_skip b x done left (take j l) (drop (j + 1) l) out (get_or l j d) fails (subst (λ k. Merging b x done left (take j l) k out) e m))
 
-  -- what comes behind the next of the layer
+  -- what comes after the next of the layer
   pub layer_later : (l : List Pair) (j : ℕ) (d p : Pair) → RisesAndFalls l → j < length l → IsBehind (joined (get_or l j d) x) p → (r : Pair) → Contains (drop j l) r → IsBehind (joined r x) p
   layer_later l j d p h n a r c =
       let e = drop_more l j d n in
@@ -159,7 +159,7 @@ front_later f i d q h a r c = ⊎_elim
 pub merged_end : (b : Bound) (x : Entry) (f : List Pair) (i : ℕ) (l out : List Pair) → length f ≤ i → Merging b x (take i f) (drop i f) l [] out → Merged b f l x out
 merged_end b x f i l out n m = record { front = subst (λ k. IsFront (λ p. Contains k p ⊎ JoinsOne b l x p) out) (take_all i f n) m.front }
 
--- the next layer, entry by entry
+-- the next frontier, entry by entry
 pub next_none : (b : Bound) (layer : List Pair) → IsNext b layer [] []
 next_none b layer = record { order = tt; only = λ p c. absurd (contains_none p c); covers = λ p h. absurd (contains_none h.0.1 h.0.3) }
 

@@ -40,7 +40,7 @@ pub build_rises : (q : Pair) (ps : List Pair) → Rises ps → ((x : Pair) → C
 build_rises q [] h f = tt
 build_rises q (p ∷ ps) h f = (f p (contains_head p ps), h)
 
--- ---- what passes a test
+-- ---- pairs that pass a test
 
 pub filter_has : (test : Pair → Bool) (ps : List Pair) (p : Pair) → Contains (filter test ps) p → Contains ps p × (test p ≡ true)
 filter_has test [] p c = absurd (contains_none p c)
@@ -75,14 +75,14 @@ rises_filter test (q ∷ ps) h =
     (λ e. subst (λ b. Rises (cond b (q ∷ filter test ps) (filter test ps))) (sym e) r)
     (cases_Bool (test q))
 
--- ---- the place of a size
+-- ---- the position of a size
 
 module _ (ps : List Pair) (size at : ℕ) (h : Rises ps) (parts : IsPartitionPoint (λ (p : Pair). ltb p.size size ≡ true) (λ (p : Pair). ltb p.size size ≡ false) ps at) where
   behind : (q : Pair) → Contains ps q → size ≤ q.size → (k : ℕ) × (k < length ps) × (get_or ps k q ≡ q) × (at ≤ k)
   behind q (k, n, e) l =
       (k, n, e, ⊎_elim (λ b. let s = ltb-true _ _ (parts.0 k q (omega arith) b) in let e' = ap (λ (p : Pair). p.size) e in absurd (omega arith)) (λ b. b) (cases_lt k at))
 
-  -- The pair of this size stands here, or it is none of them.
+  -- The pair of this size is here, or there is none.
   pub none_at : (q : Pair) → q.size ≡ size → (at < length ps → get_or ps at q ≡ q → ⊥) → Contains ps q → ⊥
   none_at q e other c =
       let b = behind q c (omega arith) in
@@ -102,7 +102,7 @@ indices_at (x ∷ xs) zero (suc j) d h l n = index_after x xs (get_or xs j d) h 
 indices_at (x ∷ xs) (suc i) (suc j) d h l n = indices_at xs i j d (rest_rises x xs h) (omega arith) (omega arith)
 
 module _ (slice : List Entry) (next : List Pair) (p : Pair) where
-  -- none of the entries before this place leads on
+  -- no entry before this position leads on
   abbrev pub NoneBefore : ℕ → Type 0
   NoneBefore k = (i : ℕ) → i < k → (d : Entry) → Contains next (joined p (get_or slice i d)) → ⊥
 

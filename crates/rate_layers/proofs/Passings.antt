@@ -1,5 +1,5 @@
--- Entries that no pair of the layer can pass with are left out.
-use Rattle.std.proofs.Common.{ℕ, ◌+◌, ◌-◌, ◌*◌, ◌<◌, ◌≤◌, List, [], ◌∷◌, ◌++◌, length, get_or, take, sym, subst, arith, ⊎_elim}
+-- Entries that are pruned with every pair of the frontier are left out.
+use Rattle.std.proofs.Common.{ℕ, ◌+◌, ◌-◌, ◌<◌, ◌≤◌, List, [], ◌∷◌, ◌++◌, length, get_or, take, sym, subst, arith, ⊎_elim}
 use Rattle.std.specs.List.{Contains}
 use Rattle.std.proofs.lemmas.List.{take_more}
 use Rattle.std.proofs.lemmas.List.Elements.{Contains-append_left, Contains-push_cases, Contains-push}
@@ -10,20 +10,6 @@ use Rattle.rate_table.proofs.Lists.{contains_none}
 use Rattle.rate_layers.specs.declared.bound.Bound.{Bound}
 use Rattle.rate_layers.specs.inner.Bound.{IsWithin, IsNext}
 use Rattle.rate_layers.specs.inner.Merge.{IsFloor, Passing}
-
--- ---- the least cost of a layer's pairs
-
-pub floor_none : (m floor : ℕ) → IsFloor m [] floor
-floor_none m floor = record { least = λ p c. absurd (contains_none p c) }
-
-pub floor_more : (m : ℕ) (layer : List Pair) (k : ℕ) (d : Pair) (old new : ℕ) → k < length layer → new ≤ old → new ≤ (get_or layer k d).error + m * (get_or layer k d).size → IsFloor m (take k layer) old → IsFloor m (take (k + 1) layer) new
-floor_more m layer k d old new n l h f =
-    let q = get_or layer k d in
-    subst (λ y. IsFloor m y new) (sym (take_more layer k d n)) (record {
-      least = λ p c. ⊎_elim (λ i. omega (arith, f.least p i)) (λ e. subst (λ y. new ≤ y.error + m * y.size) e h) (Contains-push_cases (take k layer) q p c);
-    })
-
--- ---- the entries
 
 module _ (b : Bound) (layer : List Pair) where
   pub passing_none : Passing b layer [] []
@@ -47,14 +33,14 @@ module _ (b : Bound) (layer : List Pair) where
   passing_kept slice few k d n t =
       subst (λ y. Passing b layer y (few ++ get_or slice k d ∷ [])) (sym (take_more slice k d n)) (passing_push (take k slice) few (get_or slice k d) t)
 
-  -- With the least cost of the layer's pairs it passes the bound, and so it does with each pair.
+  -- With the least cost of the frontier's pairs it exceeds the bound, and so it does with each pair.
   pub passing_left : (slice few : List Entry) (k floor : ℕ) (d : Entry) → k < length slice → IsFloor b.multiplier layer floor → b.ceiling - floor ≤ cost b.multiplier (get_or slice k d) → Passing b layer (take k slice) few → Passing b layer (take (k + 1) slice) few
   passing_left slice few k floor d n f l t =
       let x = get_or slice k d in
       subst (λ y. Passing b layer y few) (sym (take_more slice k d n))
       (passing_skip (take k slice) few x (λ p c w. omega (arith, f.least p c, l, w)) t)
 
--- what is made of the entries that are left is the next layer
+-- the merge with the remaining entries is the next frontier
 pub next_passing : (b : Bound) (layer : List Pair) (slice few : List Entry) (next : List Pair) → Passing b layer slice few → IsNext b layer few next → IsNext b layer slice next
 next_passing b layer slice few next t f = record {
   order = f.order;

@@ -1,4 +1,4 @@
--- The multiplier exists, and a search by halves finds it.
+-- The Lagrangian multiplier exists, and a binary search finds it.
 use Rattle.std.proofs.Common.{◌≡◌, ℕ, zero, suc, ◌+◌, ◌-◌, ◌*◌, ◌^◌, ◌<◌, ◌≤◌, List, [], ◌∷◌, ◌++◌, Bool, true, false, leb, sym, ap, ◌∙◌, subst, arith, ◌⊎◌, inl, inr, ⊎_elim}
 use Rattle.std.specs.List.{Contains, All}
 use Rattle.std.proofs.lemmas.List.Sums.{sum_by-cons}
@@ -6,13 +6,13 @@ use Rattle.std.proofs.lemmas.List.Elements.{All-head, All-tail, All-contains, Al
 use Rattle.std.proofs.lemmas.Nat.{mul-le}
 use Rattle.std.proofs.lemmas.Bool.{cases_lt, cases_Bool, leb-true, le-leb, true≢false}
 use Rattle.rate_table.specs.declared.entry.Entry.{Entry}
-use Rattle.rate_table.specs.Table.{Table, IsChoice, Fits, HasNoFit, size_of, least_bytes, IsSliceTable, IsTable, IsEntry}
+use Rattle.rate_table.specs.Table.{Table, IsChoice, Fits, size_of, least_bytes, IsSliceTable, IsTable, IsEntry}
 use Rattle.rate_table.specs.Pairs.{cost}
 use Rattle.rate_layers.specs.Multiplier.{Wins, IsPick, ArePicks, PicksFit, IsMultiplier}
 use Rattle.rate_table.proofs.Lists.{contains_cases, contains_head, contains_tail, contains_none}
-use Rattle.rate_table.proofs.Entries.{least_choice, least_below}
+use Rattle.rate_table.proofs.Entries.{least_choice}
 
--- the order of taking
+-- the order of preference
 pub wins_self : (m : ℕ) (a b : Entry) → a ≡ b → Wins m a b
 wins_self m a b e =
     let c = ap (λ (x : Entry). cost m x) e in
@@ -59,12 +59,12 @@ pick_with m x s p k =
     (λ w. (p, pick_wins m (x ∷ s) p (contains_tail x s p k.in_slice) (λ y c. ⊎_elim (λ e. wins_trans m p x y w (wins_self m x y e)) (λ i. wins_pick m s p k y i) (contains_cases x s y c))))
     (wins_either m x p)
 
--- the pick of a slice that has an entry
+-- the Lagrangian minimiser of a slice that has an entry
 pub pick_of : (m : ℕ) (x : Entry) (xs : List Entry) → (p : Entry) × IsPick m (x ∷ xs) p
 pick_of m x [] = (x, pick_wins m (x ∷ []) x (contains_head x []) (λ y c. ⊎_elim (λ e. wins_self m x y e) (λ i. absurd (contains_none y i)) (contains_cases x [] y c)))
 pick_of m x (y ∷ xs) = let r = pick_of m y xs in pick_with m x (y ∷ xs) r.0 r.1
 
--- the picks of slices that have entries
+-- the Lagrangian minimisers of slices that have entries
 pub picks_of : (m : ℕ) (slices : List (List Entry)) → All IsSliceTable slices → (c : List Entry) × ArePicks m slices c
 picks_of m [] a = ([], tt)
 picks_of m ([] ∷ ss) a = let h = All-head IsSliceTable [] ss a in absurd (omega (arith, h.some))
@@ -79,8 +79,8 @@ picks_choice m [] (x ∷ c) h = absurd h
 picks_choice m (s ∷ ss) [] h = absurd h
 picks_choice m (s ∷ ss) (x ∷ c) h = (h.0.in_slice, picks_choice m ss c h.1)
 
--- A greater multiplier picks no greater size, entry by entry.
-crossed : (m n s k e f : ℕ) → m < n → 0 < k → e + m * s ≤ f + m * (s + k) → f + n * (s + k) ≤ e + n * s → ⊥
+-- The size of the minimisers does not rise with the multiplier, entry by entry.
+pub crossed : (m n s k e f : ℕ) → m < n → 0 < k → e + m * s ≤ f + m * (s + k) → f + n * (s + k) ≤ e + n * s → ⊥
 crossed m n s k e f l h a b = let p : suc m * k ≤ n * k = mul-le (suc m) k n k (omega arith) (omega arith) in omega arith
 
 pick_down : (m n : ℕ) (s : List Entry) (x y : Entry) → m < n → IsPick m s x → IsPick n s y → y.size ≤ x.size
@@ -110,7 +110,7 @@ picks_down m n (s ∷ ss) (x ∷ c) (y ∷ d) l a b =
     (λ k. let e : n ≡ m = omega arith in same_pick m s x y a.0 (subst (λ i. IsPick i s y) e b.0)) (cases_lt m n) in
     omega (arith, one, picks_down m n ss c d l a.1 b.1, sum_by-cons (λ (x : Entry). x.size) x c, sum_by-cons (λ (x : Entry). x.size) y d)
 
--- By a multiplier of the limit of errors, the least sizes are picked.
+-- By a multiplier of the limit of errors, the minimisers have the least sizes.
 pub picks_least : (m : ℕ) (slices : List (List Entry)) → All (λ s. All (λ x. x.error < m) s) slices → (c d : List Entry) → ArePicks m slices c → IsChoice slices d → size_of c ≤ size_of d
 picks_least m [] h [] [] a b = omega arith
 picks_least m [] h [] (y ∷ d) a b = absurd b
@@ -140,7 +140,7 @@ least_passing test (suc n) =
     (λ h. inr (λ k l. ⊎_elim (λ i. none k (omega arith)) (λ i. let e : k ≡ suc n = omega arith in subst (λ j. test j ≡ false) (sym e) h) (cases_lt k (suc n)))) (cases_Bool (test (suc n))))
     (least_passing test n)
 
--- all picks by one multiplier fit, or none
+-- all minimisers for one multiplier fit, or none
 pub picks_fit : (t : Table) (m : ℕ) (c : List Entry) → ArePicks m t.slices c → PicksFit t m → Fits t c
 picks_fit t m c a (d, b, f) = omega (arith, picks_down m m t.slices d c (omega arith) b a)
 
@@ -171,13 +171,13 @@ picks_push m [] s (y ∷ c) x h i = absurd h
 picks_push m (r ∷ slices) s [] x h i = absurd h
 picks_push m (r ∷ slices) s (y ∷ c) x h i = (h.0, picks_push m slices s c x h.1 i)
 
--- Where a choice has no more than this size, the picks by the greatest multiplier have.
+-- If a choice has no more than this size, so have the minimisers for the greatest multiplier.
 pub top_picks : (slices : List (List Entry)) (room : ℕ) → All IsSliceTable slices → (d : List Entry) → IsChoice slices d → size_of d ≤ room → (c : List Entry) × ArePicks (2 ^ 43) slices c × (size_of c ≤ room)
 top_picks slices room ok d h f =
     let c = picks_of (2 ^ 43) slices ok in
     (c.0, c.1, omega (arith, picks_least (2 ^ 43) slices (small_errors slices ok) c.0 d c.1 h))
 
--- Where the picks by one multiplier have more, those by each lower one have.
+-- If the minimisers for one multiplier have more, so have those for each lower one.
 pub none_lower : (slices : List (List Entry)) (room middle : ℕ) → All IsSliceTable slices → ((c : List Entry) × ArePicks middle slices c × (size_of c ≤ room) → ⊥) → (n : ℕ) (c : List Entry) → ArePicks n slices c → size_of c ≤ room → middle + 1 ≤ n
 none_lower slices room middle ok none n c h f =
     ⊎_elim (λ l. let p = picks_of middle slices ok in
@@ -193,10 +193,6 @@ multiplier_end t room m e (c, h, f) least = record {
 pub multiplier_same : (t : Table) (m n : ℕ) → IsMultiplier t m → IsMultiplier t n → m ≡ n
 multiplier_same t m n f g = omega (arith, f.least n g.fits, g.least m f.fits)
 
--- Where the fixed bytes and the least sizes are within the budget, a choice fits.
+-- If the fixed bytes plus the least sizes are within the budget, a choice fits.
 pub some_fit : (t : Table) → IsTable t → least_bytes t ≤ t.budget → (c : List Entry) × IsChoice t.slices c × Fits t c
 some_fit t ok h = let c = least_choice t.slices ok.each in (c.0, c.1, omega (arith, c.2))
-
--- Where they pass it, none does.
-pub none_fits : (t : Table) → t.budget < least_bytes t → HasNoFit t
-none_fits t h c i f = omega (arith, least_below (λ x. x.size) t.slices c i)

@@ -1,13 +1,13 @@
--- The record of the best choice and its layers is good.
+-- The record of the best choice and its frontiers is good.
 use Rattle.std.proofs.Common.{◌≡◌, ℕ, suc, ◌+◌, ◌*◌, ◌<◌, ◌≤◌, List, [], ◌∷◌, ◌++◌, length, get_or, take, drop, refl, sym, ap, ◌∙◌, subst, arith, ◌⊎◌, inl, inr, ⊎_elim}
 use Rattle.std.specs.List.{Contains, All}
 use Rattle.std.proofs.lemmas.List.{take_all, drop_all, get_or_default}
-use Rattle.std.proofs.lemmas.List.Elements.{Contains-get_or}
 use Rattle.std.proofs.lemmas.Bool.{cases_lt}
 use Rattle.std.proofs.Math.Seq.{take-suc, drop-cons}
+use Rattle.pw_outside.proofs.Lists.{all_from}
 use Rattle.rate_table.specs.declared.entry.Entry.{Entry}
 use Rattle.rate_table.specs.declared.entry.Pair.{Pair}
-use Rattle.rate_table.specs.Table.{Table, IsChoice, Fits, HasNoFit, size_of, error_of, pair_of, indices, IsBest, least_sizes, IsTable}
+use Rattle.rate_table.specs.Table.{Table, IsChoice, Fits, HasNoFit, size_of, error_of, pair_of, IsBest, least_sizes, IsTable}
 use Rattle.rate_layers.specs.First.{IsFirst}
 use Rattle.rate_table.specs.Pairs.{joined, rest, CanFit, StaysWithin, RisesAndFalls}
 use Rattle.rate_layers.specs.Layers.{Reaches, IsFront, IsFull, IsKept, AreFull, AreKept}
@@ -19,17 +19,14 @@ use Rattle.rate_layers.proofs.Asked.{IsTest, At, Stays, full_test, kept_test, la
 use Rattle.rate_layers.proofs.Kept.{kept_front}
 use Rattle.rate_layers.proofs.Grown.{choice_push, pair_push}
 use Rattle.rate_table.proofs.Entries.{choice_same}
-use Rattle.rate_layers.proofs.Firsts.{best_last, last_in}
+use Rattle.rate_layers.proofs.Firsts.{best_last, last_in, length_chosen}
 
-all_from : {X : Type 0} (P : X → Type 0) (xs : List X) → ((x : X) → Contains xs x → P x) → All P xs
-all_from P xs f k d h = f (get_or xs k d) (Contains-get_or xs k d h)
-
--- what comes of a pair: it passes, or a clause says why not
+-- a pair passes, or a clause says why not
 abbrev pub Judged : Table → Printed → (List (List Entry) → Pair → Type 0) → Type 0
 Judged t r Fine = (later : List (List Entry)) (p : Pair) → Fine later p ⊎ (CanFit t later p → ⊥) ⊎ (StaysWithin t r.multiplier r.error later p → ⊥)
 
 module _ (t : Table) (r : Printed) (u : ℕ) (Fine : List (List Entry) → Pair → Type 0) (test : IsTest t u Fine) (judged : Judged t r Fine) where
-  -- one layer and the next
+  -- one frontier and the next
   steps_at : (k : ℕ) (layer next : List Pair) → k < length t.slices → IsFront (At t Fine k) layer → IsFront (At t Fine (suc k)) next → Steps t r (get_or t.slices k []) (drop (suc k) t.slices) layer next
   steps_at k layer next h f g =
       let s = get_or t.slices k [] in
@@ -47,7 +44,7 @@ module _ (t : Table) (r : Printed) (u : ℕ) (Fine : List (List Entry) → Pair 
       covered p c x i (inl fine) = inl (g.covers (joined p x) (reach p c x i, fine))
       covered p c x i (inr other) = inr other
 
-  -- the slices and layers that are left, from k on
+  -- the remaining slices and frontiers, from k on
   steps_from : (slices : List (List Entry)) (layers : List (List Pair)) (k : ℕ) → drop k t.slices ≡ slices → k + length slices ≡ length t.slices → length layers ≡ suc (length slices) → ((i : ℕ) → i ≤ length slices → IsFront (At t Fine (k + i)) (get_or layers i [])) → AllStep t r slices layers
   steps_from [] layers k d n m f = tt
   steps_from (s ∷ later) [] k d n m f = tt
@@ -67,7 +64,7 @@ module _ (t : Table) (r : Printed) (u : ℕ) (Fine : List (List Entry) → Pair 
             (λ i b. let j : k + suc i ≡ suc k + i = omega arith in subst (λ n. IsFront (At t Fine n) (get_or (next ∷ layers) i [])) j (f (suc i) (omega arith))),
       )
 
--- the record of a best choice with the layers of a test
+-- the record of a best choice with the frontiers of a test
 pub produced : (t : Table) → IsTable t → (b : List Entry) → IsBest t b → (m : ℕ) (layers : List (List Pair)) (Fine : List (List Entry) → Pair → Type 0) → IsTest t (error_of b) Fine → Judged t (record_of b m layers) Fine → length layers ≡ suc (length t.slices) → ((k : ℕ) → k ≤ length t.slices → IsFront (At t Fine k) (get_or layers k [])) → IsGoodFit t (record_of b m layers)
 produced t ok b best m layers Fine test judged n f =
     let none : Pair = record { size = 0; error = 0 } in
@@ -77,7 +74,7 @@ produced t ok b best m layers Fine test judged n f =
     let m0 = front_layer _ (get_or layers 0 []) (f 0 (omega arith)) in
     let fn = f (length t.slices) (omega arith) in
     record {
-      counts = (length_indices b t.slices best.choice, n);
+      counts = (length_chosen t.slices b best.choice, n);
       entries = (b, best.choice, refl);
       sums = λ c h e. subst (λ d. (size_of d ≡ size_of b) × (error_of d ≡ error_of b) × Fits t d) (choice_same t.slices ok.each b c best.choice h (sym e)) (refl, refl, best.fits);
       first = one_layer _ (get_or layers 0 []) (none ∷ []) m0 l0;
@@ -93,12 +90,6 @@ produced t ok b best m layers Fine test judged n f =
           omega (arith, best.error reach.0 reach.1 (omega arith)));
     }
   where
-    length_indices : (c : List Entry) (ss : List (List Entry)) → IsChoice ss c → length (indices c) ≡ length ss
-    length_indices [] [] h = refl
-    length_indices [] (s ∷ ss) h = absurd h
-    length_indices (x ∷ c) [] h = absurd h
-    length_indices (x ∷ c) (s ∷ ss) h = omega (arith, length_indices c ss h.1)
-
     order : All RisesAndFalls layers
     order k d h =
         let g = f k (omega arith) in subst (λ l. RisesAndFalls l) (get_or_default layers k [] d h) g.order
@@ -123,7 +114,7 @@ produced_kept t ok b best m layers a =
     produced t ok b best m layers (Stays t m (error_of b)) (kept_test t m (error_of b)) (judged_kept t (record_of b m layers)) a.0
     (λ k h. kept_front t m (error_of b) k (get_or layers k []) (a.1 k h))
 
--- the layer after all slices
+-- the frontier after all slices
 pub whole : (t : Table) (Fine : List (List Entry) → Pair → Type 0) (layer : List Pair) → IsFront (At t Fine (length t.slices)) layer → IsFront (λ p. Reaches t.slices p × Fine [] p) layer
 whole t Fine layer f =
     subst (λ l. IsFront (λ p. Reaches l p × Fine [] p) layer) (take_all (length t.slices) t.slices (omega arith))
@@ -149,14 +140,10 @@ best_kept_law t m u some layer front p c i fits le f e first =
     let g' = subst (λ l. IsFront (λ p. Reaches t.slices p × Stays t m u [] p) l) e g in
     best_last t u (Stays t m u) (kept_test t m u) front p g' some i fits le c first
 
--- Where each pair of the last kept layer has more error, a fitting choice has.
+-- If each pair of the last kept frontier has more error, so has each fitting choice.
 pub above_kept_law : (t : Table) (m u : ℕ) (layer : List Pair) (c : List Entry) → IsKept t m u (length t.slices) layer → ((p : Pair) → Contains layer p → u < p.error) → IsChoice t.slices c → Fits t c → u < error_of c
 above_kept_law t m u layer c f above h fits =
     ⊎_elim (λ l. l)
     (λ l. let g = whole t (Stays t m u) layer (kept_front t m u (length t.slices) layer f) in
     let q = g.covers (pair_of c) ((c, h, refl), (kept_test t m u).keeps [] (pair_of c) [] tt (omega arith) (omega arith)) in
     absurd (omega (arith, above q.0 q.1, q.2))) (cases_lt u (error_of c))
-
--- So it has where that layer has no pair.
-pub none_kept_law : (t : Table) (m u : ℕ) (c : List Entry) → IsKept t m u (length t.slices) [] → IsChoice t.slices c → Fits t c → u < error_of c
-none_kept_law t m u c f h fits = above_kept_law t m u [] c f (λ p i. absurd (contains_none p i)) h fits

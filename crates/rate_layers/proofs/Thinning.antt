@@ -1,4 +1,4 @@
--- Fewer entries make the same layer.
+-- Without the dominated entries the merge makes the same frontier.
 use Rattle.std.proofs.Common.{◌≡◌, ℕ, suc, ◌+◌, ◌-◌, ◌<◌, ◌≤◌, List, [], ◌∷◌, ◌++◌, length, get_or, drop, refl, sym, ap, ◌∙◌, subst, arith, ⊎_elim}
 use Rattle.std.specs.List.{Contains}
 use Rattle.std.proofs.lemmas.Nat.{mul-le}
@@ -7,14 +7,11 @@ use Rattle.std.proofs.Math.Seq.{drop-cons}
 use Rattle.rate_table.specs.declared.entry.Entry.{Entry}
 use Rattle.rate_table.specs.declared.entry.Pair.{Pair}
 use Rattle.rate_table.specs.Pairs.{Dominates, joined}
-use Rattle.rate_table.proofs.Lists.{contains_cases, contains_head, contains_tail, contains_none}
+use Rattle.rate_table.proofs.Lists.{contains_cases, contains_head, contains_tail}
 use Rattle.rate_layers.specs.declared.bound.Bound.{Bound}
 use Rattle.rate_layers.specs.inner.Bound.{IsNext}
 use Rattle.rate_layers.specs.inner.Merge.{Thinned}
 use Rattle.rate_layers.proofs.Fronts.{dominates_trans}
-
-pub thinned_none : Thinned [] []
-thinned_none = record { only = λ x c. c; covers = λ x c. absurd (contains_none x c) }
 
 -- an entry that is kept
 thinned_push : (x : Entry) (xs few : List Entry) → Thinned xs few → Thinned (x ∷ xs) (few ++ x ∷ [])
@@ -25,14 +22,14 @@ thinned_push x xs few t = record {
       (λ i. let r = t.covers y i in (r.0, Contains-append_left few (x ∷ []) r.0 r.1, r.2, r.3)) (contains_cases x xs y c);
 }
 
--- an entry that is beaten
+-- an entry that is dominated
 thinned_skip : (x : Entry) (xs few : List Entry) → (y : Entry) × Contains few y × (y.size ≤ x.size) × (y.error ≤ x.error) → Thinned xs few → Thinned (x ∷ xs) few
 thinned_skip x xs few b t = record {
   only = λ y c. contains_tail x xs y (t.only y c);
   covers = λ y c. ⊎_elim (λ e. subst (λ z. (w : Entry) × Contains few w × (w.size ≤ z.size) × (w.error ≤ z.error)) e b) (λ i. t.covers y i) (contains_cases x xs y c);
 }
 
--- The same from the back, as a loop over the entries has them.
+-- The same from the back, as a loop over the entries uses it.
 back : (xs : List Entry) (k : ℕ) (d : Entry) → k < length xs → drop (length xs - (k + 1)) xs ≡ get_or xs (length xs - 1 - k) d ∷ drop (length xs - k) xs
 back xs k d n =
     let i : length xs - (k + 1) ≡ length xs - 1 - k = omega arith in
@@ -53,7 +50,7 @@ thinned_trans xs few fewer s t = record {
   covers = λ x c. let a = s.covers x c in let b = t.covers a.0 a.1 in (b.0, b.1, omega (arith, a.2, b.2), omega (arith, a.3, b.3));
 }
 
--- what is made of the fewer entries is the next layer
+-- the merge with the remaining entries is the next frontier
 pub next_thinned : (b : Bound) (layer : List Pair) (xs few : List Entry) (next : List Pair) → Thinned xs few → IsNext b layer few next → IsNext b layer xs next
 next_thinned b layer xs few next t f = record {
   order = f.order;

@@ -1,4 +1,4 @@
--- All kept layers of a table together.
+-- All kept frontiers of a table together.
 use Rattle.std.proofs.Common.{◌≡◌, ℕ, zero, suc, ◌+◌, ◌*◌, ◌<◌, ◌≤◌, List, [], ◌∷◌, ◌++◌, length, get_or, take, drop, leb, ◌&&◌, sym, ◌∙◌, subst, arith, ⊎_elim}
 use Rattle.std.proofs.lemmas.List.{get_or_append_left, get_or_push, length_push}
 use Rattle.std.proofs.lemmas.List.Sums.{sum_by-cons}
@@ -24,7 +24,7 @@ same_lists d (x ∷ xs) (y ∷ ys) n f =
     let more = same_lists d xs ys (omega arith) (λ k l. f (suc k) (omega arith)) in
     λ i. first i ∷ more i
 
--- at most as many lists, each of at most as many pairs
+-- no more lists than ys, each with no more pairs
 pub pairs_below : (xs ys : List (List Pair)) → length xs ≤ length ys → ((k : ℕ) → k < length xs → length (get_or xs k []) ≤ length (get_or ys k [])) → pairs_in xs ≤ pairs_in ys
 pairs_below [] ys n f = omega arith
 pairs_below (x ∷ xs) [] n f = absurd (omega arith)
@@ -39,7 +39,7 @@ pairs_room (x ∷ xs) b f =
     let more = pairs_room xs b (λ k l. f (suc k) (omega arith)) in
     omega (arith, first, more, sum_by-cons length x xs)
 
--- ---- kept layers
+-- ---- kept frontiers
 
 pub kept_same : (t : Table) (m u k : ℕ) (first second : List Pair) → IsKept t m u k first → IsKept t m u k second → first ≡ second
 kept_same t m u k first second f g =
@@ -49,7 +49,7 @@ pub kept_are_one : (t : Table) (m u : ℕ) (first second : List (List Pair)) →
 kept_are_one t m u first second f g =
     same_lists [] first second (f.0 ∙ sym g.0) (λ k l. kept_same t m u k (get_or first k []) (get_or second k []) (f.1 k (omega (arith, f.0))) (g.1 k (omega (arith, f.0))))
 
--- the kept layer after each number of slices
+-- the kept frontier after each number of slices
 a_kept : (t : Table) (m u k : ℕ) → (layer : List Pair) × IsKept t m u k layer
 a_kept t m u k =
     let later = drop k t.slices in
@@ -59,7 +59,7 @@ a_kept t m u k =
     (f.0, front_kept t m u k f.0 f.1)
 
 module _ (t : Table) (m u : ℕ) where
-  -- the kept layers of the first slices
+  -- the kept frontiers of the first slices
   record Upto (n : ℕ) : Type 0 where
     layers : List (List Pair)
     count : length layers ≡ n

@@ -1,8 +1,8 @@
--- What the search for the best choice answers. Our own definitions.
-use Rattle.std.specs.Prelude.{◌≡◌, ℕ, ◌<◌, ◌^◌, List, map, Result, Ok, Err}
+-- The result of the search for the best choice. Our own definitions.
+use Rattle.std.specs.Prelude.{ℕ, ◌<◌, ◌^◌, List, map, Result, Ok, Err}
 use Rattle.rate_table.specs.declared.entry.Entry.{Entry}
 use Rattle.rate_table.specs.declared.entry.Pair.{Pair}
-use Rattle.rate_table.specs.Table.{Table, IsBest, IsBestWith, size_of, error_of, indices}
+use Rattle.rate_table.specs.Table.{Table, IsBest, IsBestWith, error_of}
 use Rattle.rate_table.specs.Records.{Printed}
 use Rattle.rate_layers.specs.Layers.{AreKept, pairs_in}
 use Rattle.rate_layers.specs.Multiplier.{ArePicks, IsMultiplier}
@@ -10,14 +10,14 @@ use Rattle.rate_layers.specs.declared.fault.BestFault.{BestFault}
 use Rattle.rate_layers.specs.declared.outcome.Outcome.{Outcome}
 use Rattle.rate_layers.specs.declared.outcome.Outcome.TheVariants as outcomes
 
--- what is told of a choice that fits
+-- If the outcome is a fitting choice, its record has the property.
 abbrev pub OnFits : Result Outcome BestFault → (Printed → Type 0) → Type 0
 OnFits (Ok (outcomes.Fits choice size error layers multiplier)) P =
     P (record { choice = choice.items; size = size; error = error; multiplier = multiplier; layers = map (λ l. l.items) layers.items })
 OnFits (Ok (outcomes.None least)) P = Unit {0}
 OnFits (Err fault) P = Unit {0}
 
--- what is told where no choice fits, of the printed number
+-- If the outcome says that no choice fits, its number has the property.
 abbrev pub OnNone : Result Outcome BestFault → (ℕ → Type 0) → Type 0
 OnNone (Ok (outcomes.Fits choice size error layers multiplier)) P = Unit {0}
 OnNone (Ok (outcomes.None least)) P = P least
@@ -27,12 +27,12 @@ OnNone (Err fault) P = Unit {0}
 abbrev pub TellsBest : Table → Printed → Type 0
 TellsBest t r = IsBestWith t r.choice r.size r.error
 
--- the least multiplier whose picks fit, and the layers that it and the printed error keep
+-- the least multiplier whose Lagrangian minimisers fit, and the frontiers that it and the printed error keep
 pub record TellsLayers (t : Table) (r : Printed) : Type 0 where
   pub multiplier : IsMultiplier t r.multiplier
   pub kept : AreKept t r.multiplier r.error r.layers
 
--- A choice fits, and the layers that the error of the multiplier's picks keeps number more than 2^25 pairs.
+-- A choice fits, and the frontiers kept by the error of the Lagrangian minimisers have more than 2^25 pairs.
 pub record PassesByPicks (t : Table) : Type 0 where
   pub multiplier : ℕ
   pub is_multiplier : IsMultiplier t multiplier
@@ -42,7 +42,7 @@ pub record PassesByPicks (t : Table) : Type 0 where
   pub kept : AreKept t multiplier (error_of picks) layers
   pub passes : 2 ^ 25 < pairs_in layers
 
--- A choice fits, and the layers that the error of the best choice keeps number more than 2^25 pairs.
+-- A choice fits, and the frontiers kept by the error of the best choice have more than 2^25 pairs.
 pub record PassesByBest (t : Table) : Type 0 where
   pub multiplier : ℕ
   pub is_multiplier : IsMultiplier t multiplier

@@ -1,9 +1,9 @@
-//! Marks of one bit each.
+//! A bit set.
 
 use std::alloc::{AllocError, Global};
 use std::marker::Model;
 
-/// So many marks, each set or not.
+/// A fixed number of marks, each set or not.
 #[derive(Drop)]
 pub struct Marks {
     words: Vec<u64>,
@@ -25,7 +25,7 @@ impl Model for Marks {
 impl Marks {
     ghost use Rattle.std.specs.Prelude.{◌≡◌, ◌<◌, IfOk, false, true, length, replicate, slice_index_or, slice_set};
 
-    /// So many marks, of which none is set. They take an eighth of a byte each, rounded up to 8 bytes.
+    /// `count` marks, none of them set. Takes an eighth of a byte for each, rounded up to 8 bytes.
     pub fn new(alloc: Global, count: usize) -> Result<Marks, AllocError>
         ensures { IfOk result (λ m. m ≡ replicate count false) }
     {
@@ -33,7 +33,7 @@ impl Marks {
         Ok(Marks { words, count })
     }
 
-    /// Whether the mark with this number, from 0 on, is set.
+    /// Whether mark `number` is set; marks are numbered from 0.
     pub fn get(&self, number: usize) -> bool
         requires { number < length self.now }
         ensures { result ≡ slice_index_or self.now number false }
@@ -41,7 +41,7 @@ impl Marks {
         self.words[number / 64] >> (number % 64) & 1 == 1
     }
 
-    /// Sets the mark with this number, from 0 on.
+    /// Sets mark `number`; marks are numbered from 0.
     pub fn set(&mut self, number: usize)
         requires { number < length self.old }
         ensures { self.new ≡ slice_set self.old number true }

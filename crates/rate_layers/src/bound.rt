@@ -1,12 +1,12 @@
-//! What pairs are compared with.
+//! The bounds that prune pairs.
 
-ghost use Rattle.std.specs.Prelude.{◌≡◌, ◌+◌, ◌-◌, ◌*◌, ◌<◌, ◌≤◌, ◌^◌, ◌↔◌, IsTrue};
+ghost use Rattle.std.specs.Prelude.{◌≡◌, ◌+◌, ◌-◌, ◌*◌, ◌<◌, ◌^◌, ◌↔◌, IsTrue};
 ghost use Rattle.rate_layers.specs.inner.Bound.{IsSmall};
 
 use rate_table::FrameTable;
 
-/// A bound with some slices to come: a pair can still fit where its size is below the end, and stays within
-/// the bound where its cost by the multiplier is below the ceiling.
+/// The bound for pairs with some slices still to come: a pair can fit if its size is below `end`, and survives
+/// pruning if its Lagrangian cost is below `ceiling`.
 #[derive(Clone, Copy)]
 pub struct Bound {
     pub end: u64,
@@ -14,7 +14,7 @@ pub struct Bound {
     pub multiplier: u64,
 }
 
-/// The bound with slices to come of these least costs, whose least sizes and the fixed bytes are these.
+/// The bound of slices still to come with these least costs, and with these least sizes including the fixed bytes.
 pub fn bound_of(table: &FrameTable, sizes: u64, costs: u128, multiplier: u64, error: u64) -> Bound
     requires { costs < 2 ^ 98 }
     ensures multiplier { result.multiplier ≡ multiplier }
@@ -32,7 +32,7 @@ pub fn bound_of(table: &FrameTable, sizes: u64, costs: u128, multiplier: u64, er
     }
 }
 
-/// Whether a pair of this size and error stays within the bound.
+/// Whether a pair of this size and error stays within the bound, that is, is not pruned by it.
 pub fn is_within(bound: &Bound, size: u64, error: u64) -> bool
     ensures { IsTrue result ↔ (error + bound.now.multiplier * size < bound.now.ceiling) }
 {

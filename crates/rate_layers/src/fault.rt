@@ -1,14 +1,14 @@
-//! Why a table has no answer.
+//! Errors of the search.
 
 ghost use Rattle.std.specs.Prelude.{◌≡◌};
 
 use std::alloc::{AllocError, AllocFailed};
 use thiserror::Error;
 
-/// Why there is no best choice to give.
+/// Why no best choice is returned.
 #[derive(Clone, Copy, Debug, PartialEq, Eq, Error)]
 pub enum BestFault {
-    /// Finished layers number more than 2^25 pairs.
+    /// The finished Pareto frontiers have more than 2^25 pairs.
     #[error("LayersFull")]
     LayersFull,
     /// Memory ran out.

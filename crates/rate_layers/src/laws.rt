@@ -1,68 +1,68 @@
-//! Laws over the definitions alone.
+//! Laws of the definitions, independent of any program.
 
 ghost use Rattle.rate_layers.specs.Laws.{FullExists, FullIsOne, FullIsMerged, BestOfFull, NoneOfFull, FullIsNarrow, FullIsGood, KeptExist, KeptAreOne, KeptIsMerged, BestOfKept, NoneOfKept, KeptAreNarrow, KeptAreFewer, KeptIsFilter, KeptIsGood, MultiplierExists, MultiplierIsOne, PicksFall};
 
-/// There is a full layer after each number of slices.
+/// There is a full frontier after each number of slices.
 pub fn full_exists()
     ensures { FullExists }
 {}
 
-/// There is one full layer at most.
+/// The full frontier is unique.
 pub fn full_is_one()
     ensures { FullIsOne }
 {}
 
-/// The next full layer is what a merge makes of the full layer and the slice.
+/// Merging a full frontier with the next slice makes the next full frontier.
 pub fn full_is_merged()
     ensures { FullIsMerged }
 {}
 
-/// The last pair of the last full layer is that of the best choice.
+/// The last pair of the last full frontier is that of the best choice.
 pub fn best_of_full()
     ensures { BestOfFull }
 {}
 
-/// Where the last full layer has no pair, no choice fits.
+/// If the last full frontier is empty, no choice fits.
 pub fn none_of_full()
     ensures { NoneOfFull }
 {}
 
-/// A full layer has at most one pair more than the budget has bytes.
+/// A full frontier has at most one pair more than the budget has bytes.
 pub fn full_is_narrow()
     ensures { FullIsNarrow }
 {}
 
-/// The record of the best choice with all full layers is good.
+/// The record of the best choice with all full frontiers is good.
 pub fn full_is_good()
     ensures { FullIsGood }
 {}
 
-/// There are kept layers, for each multiplier and error.
+/// There are kept frontiers, for each multiplier and error.
 pub fn kept_exist()
     ensures { KeptExist }
 {}
 
-/// Kept layers are one list at most.
+/// The kept frontiers are unique.
 pub fn kept_are_one()
     ensures { KeptAreOne }
 {}
 
-/// The next kept layer is what a merge under the bound makes of the kept layer and the slice.
+/// Merging a kept frontier with the next slice under the bound makes the next kept frontier.
 pub fn kept_is_merged()
     ensures { KeptIsMerged }
 {}
 
-/// The last pair of the last kept layer is that of the best choice.
+/// The last pair of the last kept frontier is that of the best choice.
 pub fn best_of_kept()
     ensures { BestOfKept }
 {}
 
-/// Where each pair of the last kept layer has more error than that of the bound, each fitting choice has.
+/// If each pair of the last kept frontier has more error than that of the bound, so has each fitting choice.
 pub fn none_of_kept()
     ensures { NoneOfKept }
 {}
 
-/// Kept layers together have at most one pair more than the budget has bytes for each layer.
+/// The kept frontiers have at most one pair more than the budget has bytes, for each frontier.
 pub fn kept_are_narrow()
     ensures { KeptAreNarrow }
 {}
@@ -72,27 +72,27 @@ pub fn kept_are_fewer()
     ensures { KeptAreFewer }
 {}
 
-/// Of the pairs that an error keeps, a smaller one keeps those within its own bound.
+/// The pairs that a smaller error keeps are those within its own bound, of the pairs that a greater one keeps.
 pub fn kept_is_filter()
     ensures { KeptIsFilter }
 {}
 
-/// The record of the best choice with the layers kept by its own error is good.
+/// The record of the best choice with the frontiers kept by its own error is good.
 pub fn kept_is_good()
     ensures { KeptIsGood }
 {}
 
-/// Where a choice fits, the multiplier exists and is at most 2^43.
+/// If a choice fits, the multiplier exists and is at most 2^43.
 pub fn multiplier_exists()
     ensures { MultiplierExists }
 {}
 
-/// There is one multiplier at most.
+/// The multiplier is unique.
 pub fn multiplier_is_one()
     ensures { MultiplierIsOne }
 {}
 
-/// The sizes of picks never rise with the multiplier.
+/// The size of the Lagrangian minimisers never rises with the multiplier.
 pub fn picks_fall()
     ensures { PicksFall }
 {}

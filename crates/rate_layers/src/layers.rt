@@ -1,6 +1,6 @@
-//! All layers of a table under a bound.
+//! All Pareto frontiers of a table under a bound.
 
-ghost use Rattle.std.specs.Prelude.{◌≡◌, ◌+◌, ◌*◌, ◌<◌, ◌≤◌, ◌^◌, ℕ, List, [], ◌∷◌, ◌++◌, OnOk, IfOk, IfErr, length, map};
+ghost use Rattle.std.specs.Prelude.{◌≡◌, ◌+◌, ◌*◌, ◌<◌, ◌≤◌, ◌^◌, List, [], ◌∷◌, ◌++◌, OnOk, IfOk, IfErr, length, map};
 ghost use Rattle.rate_table.specs.declared.entry.Pair.{Pair};
 ghost use Rattle.rate_layers.specs.declared.fault.BestFault.TheVariants.{LayersFull};
 ghost use Rattle.rate_layers.specs.Layers.{IsFront, AreKept, pairs_in};
@@ -12,12 +12,13 @@ use crate::merge::{Work, next_layer};
 use rate_table::{FrameTable, Pair, least, least_cost, least_costs, least_size};
 use std::alloc::{AllocError, Global};
 
-/// Layers may number so many pairs.
+/// The largest number of pairs of all frontiers together.
 const MOST: usize = 1 << 25;
 
-/// The pair of nothing, where it passes.
+/// The first frontier: the empty pair, if it passes.
 fn first_layer(alloc: Global, bound: &Bound) -> Result<Vec<Pair>, AllocError>
-    ensures { IfOk result (λ v. IsFront (λ p. (p ≡ record { size = 0; error = 0 }) × (HasRoom bound.now p × IsWithin bound.now p)) v.items) }
+    ensures { IfOk result (λ v. IsFront (λ p. (p ≡ record { size = 0; error = 0 })
+        × (HasRoom bound.now p × IsWithin bound.now p)) v.items) }
 {
     let mut layer = Vec::new(alloc);
     if 0 < bound.end && is_within(bound, 0, 0) {
@@ -26,7 +27,7 @@ fn first_layer(alloc: Global, bound: &Bound) -> Result<Vec<Pair>, AllocError>
     Ok(layer)
 }
 
-/// A copy that takes no more room than its pairs.
+/// A copy without spare capacity.
 fn exact(alloc: Global, layer: &[Pair]) -> Result<Vec<Pair>, AllocError>
     ensures { IfOk result (λ v. v.items ≡ layer.now) }
 {
@@ -35,7 +36,7 @@ fn exact(alloc: Global, layer: &[Pair]) -> Result<Vec<Pair>, AllocError>
     Ok(copy)
 }
 
-/// Puts a finished layer behind the others, and counts its pairs; not where there are too many.
+/// Appends a finished frontier and counts its pairs, unless there are too many.
 fn put_layer(
     alloc: Global,
     layers: &mut Vec<Vec<Pair>>,
@@ -43,7 +44,8 @@ fn put_layer(
     next: &[Pair],
 ) -> Result<(), BestFault>
     requires { pairs.old ≤ 2 ^ 25 }
-    ensures layers { OnOk result (map (λ l. l.items) layers.new.items ≡ map (λ l. l.items) layers.old.items ++ next.now ∷ []) }
+    ensures layers { OnOk result (map (λ l. l.items) layers.new.items ≡ map (λ l. l.items) layers.old.items ++ next.now
+        ∷ []) }
     ensures pairs { OnOk result (pairs.new ≡ pairs.old + length next.now) }
     ensures few { OnOk result (pairs.new ≤ 2 ^ 25) }
     ensures full { IfErr result (λ e. e ≡ LayersFull → 2 ^ 25 < pairs.old + length next.now) }
@@ -56,11 +58,11 @@ fn put_layer(
     Ok(())
 }
 
-/// The layers that a multiplier and an error keep: after each number of slices the pairs that no other dominates,
-/// of those that can still fit and stay within the bound, by rising size. They take 16 bytes a pair, and the two
-/// vectors of the layer at work up to 32 bytes for each pair of the longest half-merged layer.
+/// The Pareto frontiers that a multiplier and an error keep: after each number of slices, by rising size, the pairs
+/// that no other dominates, of those that can still fit and are not pruned by the bound. They take 16 bytes a pair.
+/// While a frontier is made, two vectors take up to 32 bytes for each pair of the longest half-merged frontier.
 ///
-/// The errors are `LayersFull` where finished layers number more than 2^25 pairs, and `NoMemory`.
+/// The errors are `LayersFull` if the finished frontiers have more than 2^25 pairs, and `NoMemory`.
 pub fn kept_layers(
     alloc: Global,
     table: &FrameTable,
@@ -69,8 +71,9 @@ pub fn kept_layers(
 ) -> Result<Vec<Vec<Pair>>, BestFault>
     ensures kept { IfOk result (λ v. AreKept table.now multiplier error (map (λ l. l.items) v.items)) }
     ensures few { IfOk result (λ v. pairs_in (map (λ l. l.items) v.items) ≤ 2 ^ 25) }
-    // The error is `LayersFull` only where the kept layers number more.
-    ensures full { IfErr result (λ e. e ≡ LayersFull → (layers : List (List Pair)) → AreKept table.now multiplier error layers → 2 ^ 25 < pairs_in layers) }
+    // The error is `LayersFull` only if the kept frontiers have more.
+    ensures full { IfErr result (λ e. e ≡ LayersFull → (layers : List (List Pair)) → AreKept table.now multiplier error
+        layers → 2 ^ 25 < pairs_in layers) }
 {
     let slices = table.slices.as_slice();
     let mut sizes = least(table);

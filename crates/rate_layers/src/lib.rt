@@ -1,4 +1,4 @@
-//! Layers of undominated pairs under a bound, the multiplier of a table, and the laws of both.
+//! Pareto frontiers under a bound, the Lagrangian multiplier of a table, and the laws of both.
 #![tactic(auto)]
 
 mod bits;
@@ -16,8 +16,6 @@ mod outcome;
 mod passing;
 mod places;
 mod search;
-#[cfg(test)]
-mod tests;
 mod thin;
 
 pub use fault::BestFault;

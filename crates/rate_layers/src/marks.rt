@@ -1,6 +1,6 @@
-//! Marks for the pairs of a layer from which an entry leads to a marked pair of the next.
+//! Marks of the pairs of a frontier from which an entry leads to a marked pair of the next.
 
-ghost use Rattle.std.specs.Prelude.{◌≡◌, ℕ, ◌≤◌, IfOk, IfSome, IfNone, length};
+ghost use Rattle.std.specs.Prelude.{◌≡◌, IfOk, IfSome, IfNone, length};
 ghost use Rattle.std.specs.List.{Contains};
 ghost use Rattle.rate_table.specs.declared.entry.Pair.{Pair};
 ghost use Rattle.rate_table.specs.Pairs.{joined};
@@ -12,7 +12,7 @@ use crate::places::place_of;
 use rate_table::{Entry, Pair};
 use std::alloc::{AllocError, Global};
 
-/// The place of the pair that the entry leads from to this one, if it is in the layer.
+/// The position of the pair that the entry leads from to this one, if it is in the frontier.
 fn source_of(layer: &[Pair], x: Entry, q: Pair) -> Option<usize>
     requires { Rises layer.now }
     ensures some { IfSome result (LeadsAt layer.now x q) }
@@ -29,7 +29,7 @@ fn source_of(layer: &[Pair], x: Entry, q: Pair) -> Option<usize>
     }
 }
 
-/// Marks the pairs of a layer from which an entry of the slice leads to this pair.
+/// Marks the pairs of a frontier from which an entry of the slice leads to this pair.
 fn mark_sources(marks: &mut Marks, layer: &[Pair], slice: &[Entry], q: Pair)
     requires layer { Rises layer.now }
     requires count { length marks.old ≡ length layer.now }
@@ -43,8 +43,8 @@ fn mark_sources(marks: &mut Marks, layer: &[Pair], slice: &[Entry], q: Pair)
     }
 }
 
-/// A mark for each pair of a layer: those have one from which an entry of the slice leads to a pair of the next
-/// layer that has one.
+/// A mark for each pair of a frontier: it is set if an entry of the slice leads from the pair to a marked pair of
+/// the next frontier.
 pub fn marks_before(
     alloc: Global,
     layer: &[Pair],

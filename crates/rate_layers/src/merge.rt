@@ -1,14 +1,13 @@
-//! One slice more: the next layer, from a layer and the entries of the slice.
+//! One slice more: the next Pareto frontier, from a frontier and the entries of the slice.
 
-ghost use Rattle.std.specs.Prelude.{◌≡◌, ◌+◌, ◌*◌, ◌<◌, ◌≤◌, ◌^◌, ◌↔◌, ◌⊎◌, IsTrue, OnOk, IfOk, List, [], ◌∷◌};
+ghost use Rattle.std.specs.Prelude.{◌≡◌, ◌+◌, ◌*◌, ◌<◌, ◌≤◌, ◌^◌, IsTrue, OnOk, []};
 ghost use Rattle.std.specs.List.{All, Contains};
 ghost use Rattle.rate_table.specs.declared.entry.Entry.{Entry};
 ghost use Rattle.rate_table.specs.declared.entry.Pair.{Pair};
 ghost use Rattle.rate_table.specs.Table.{IsEntry};
-ghost use Rattle.rate_table.specs.Pairs.{joined, RisesAndFalls, Dominates};
-ghost use Rattle.rate_layers.specs.Layers.{Joins, IsFront};
-ghost use Rattle.rate_layers.specs.inner.Bound.{HasRoom, IsWithin, IsSmall, IsNext};
-ghost use Rattle.rate_layers.specs.inner.Merge.{IsBehind, AreBehind, Offered, Passes, JoinsIf, Merged, Merging};
+ghost use Rattle.rate_table.specs.Pairs.{RisesAndFalls, Dominates};
+ghost use Rattle.rate_layers.specs.inner.Bound.{IsSmall, IsNext};
+ghost use Rattle.rate_layers.specs.inner.Merge.{IsBehind, AreBehind, Offered, JoinsIf, Merged};
 
 use crate::bound::{Bound, is_within};
 use crate::passing::passing;
@@ -17,7 +16,7 @@ use rate_table::{Entry, Pair};
 use std::alloc::{AllocError, Global};
 use std::mem;
 
-/// Whether a pair that comes behind a layer has less error than each of its pairs.
+/// Whether a pair that comes after a frontier has less error than each of its pairs.
 fn is_below(layer: &[Pair], p: Pair) -> bool
     requires order { RisesAndFalls layer.now }
     requires behind { AreBehind p layer.now }
@@ -30,7 +29,7 @@ fn is_below(layer: &[Pair], p: Pair) -> bool
     }
 }
 
-/// Adds a pair to a layer that it comes behind, unless the layer's last pair dominates it.
+/// Appends a pair that comes after a frontier, unless the frontier's last pair dominates it.
 fn offer(out: &mut Vec<Pair>, p: Pair) -> Result<(), AllocError>
     requires order { RisesAndFalls out.old.items }
     requires behind { AreBehind p out.old.items }
@@ -42,7 +41,7 @@ fn offer(out: &mut Vec<Pair>, p: Pair) -> Result<(), AllocError>
     Ok(())
 }
 
-/// The pair joined with the entry, where it passes.
+/// The pair joined with the entry, if it passes the bound.
 fn joined_if(bound: &Bound, p: Pair, x: Entry) -> Option<Pair>
     requires small { IsSmall bound.now }
     requires errors { p.error + x.error < 2 ^ 64 }
@@ -60,7 +59,7 @@ fn joined_if(bound: &Bound, p: Pair, x: Entry) -> Option<Pair>
     }
 }
 
-/// Whether the pair comes first, or as much in size with no more error.
+/// Whether `p` has less size, or the same size and no more error.
 fn comes_first(p: Pair, q: Pair) -> bool
     ensures yes { IsTrue result → IsBehind q p }
     ensures no { (IsTrue result → ⊥) → IsBehind p q × (p.size ≤ q.size → q.error < p.error) }
@@ -68,8 +67,8 @@ fn comes_first(p: Pair, q: Pair) -> bool
     p.size < q.size || p.size == q.size && p.error <= q.error
 }
 
-/// Writes into an empty vector, of the pairs of a front, and of those of a layer joined with one entry that
-/// pass, the undominated ones.
+/// Merges `front` with the pairs of `layer` joined with one entry, as far as they pass the bound, and writes the
+/// undominated pairs into the empty vector `out`.
 fn merge_one(
     out: &mut Vec<Pair>,
     bound: &Bound,
@@ -105,7 +104,7 @@ fn merge_one(
     Ok(())
 }
 
-/// Makes `next` the next layer, entry by entry. `spare` is a second vector to write in.
+/// Makes `next` the next frontier, entry by entry. `spare` is scratch.
 fn merge_all(
     next: &mut Vec<Pair>,
     spare: &mut Vec<Pair>,
@@ -128,7 +127,7 @@ fn merge_all(
     Ok(())
 }
 
-/// What the merges of one layer after the other are written in.
+/// Scratch buffers of the merges.
 #[derive(Drop)]
 pub struct Work {
     pub next: Vec<Pair>,
@@ -138,7 +137,7 @@ pub struct Work {
 }
 
 impl Work {
-    /// Nothing yet, with no memory.
+    /// Empty buffers, which hold no memory.
     pub fn new(alloc: Global) -> Work
         ensures next { result.next.items ≡ [] }
         ensures spare { result.spare.items ≡ [] }
@@ -154,8 +153,8 @@ impl Work {
     }
 }
 
-/// Makes `work.next` the next layer: of the pairs of a layer joined with the entries of a slice, of those that
-/// pass, the undominated ones.
+/// Makes `work.next` the next frontier: the undominated pairs of a frontier joined with the entries of a slice, of
+/// those that pass the bound.
 pub fn next_layer(
     work: &mut Work,
     bound: &Bound,
@@ -169,7 +168,7 @@ pub fn next_layer(
     ensures { OnOk result (IsNext bound.now layer.now slice.now work.new.next.items) }
 {
     passing(&mut work.few, bound, layer, slice)?;
-    // Entries are compared with each other where that is less work than to merge them.
+    // Removing dominated entries first pays only if there are fewer entries than pairs.
     if work.few.len() <= layer.len() {
         thin(&mut work.fewer, &work.few)?;
         thin(&mut work.few, &work.fewer)?;

@@ -1,6 +1,6 @@
-//! A table whose errors count several times.
+//! A table with multiplied errors.
 
-ghost use Rattle.std.specs.Prelude.{◌≡◌, ◌<◌, ◌≤◌, ◌^◌, IfOk, IfSome, map};
+ghost use Rattle.std.specs.Prelude.{◌≡◌, ◌<◌, IfOk, IfSome, map};
 ghost use Rattle.std.specs.List.{All};
 ghost use Rattle.rate_table.specs.Table.{IsEntry, IsSliceTable};
 ghost use Rattle.rate_layers.specs.inner.Multiplied.{counted, counted_slices};
@@ -11,7 +11,7 @@ use std::alloc::{AllocError, Global};
 /// The greatest error of an entry.
 const MOST: u64 = (1 << 43) - 1;
 
-/// The entry with its error so many times, or the greatest error.
+/// The entry with its error multiplied by `times`, capped at the greatest error.
 fn entry_of(x: &Entry, times: u64) -> Entry
     requires { IsEntry x.now }
     ensures counted { result ≡ counted times x.now }
@@ -52,10 +52,15 @@ fn slices_of(
     Ok(all)
 }
 
-/// The table whose entries have their errors so many times; an error that is too great for an entry is the greatest one.
-/// `None` where memory ran out.
+/// The table with the errors of all entries multiplied by `times`, capped at the greatest error of an entry. `None`
+/// if memory runs out.
 pub fn multiplied(alloc: Global, table: &FrameTable, times: u64) -> Option<FrameTable>
-    ensures { IfSome result (λ t. t ≡ record { budget = table.now.budget; fixed = table.now.fixed; slices = counted_slices times table.now.slices }) }
+    ensures { IfSome result (λ t. t ≡ record {
+      budget = table.now.budget;
+      fixed = table.now.fixed;
+      slices
+          = counted_slices times table.now.slices;
+    }) }
 {
     let slices = slices_of(alloc, table.slices.as_slice(), times).ok()?;
     Some(FrameTable {

@@ -1,8 +1,9 @@
-//! What the search for the best choice answers.
+//! The result of the search for the best choice.
 
 use rate_table::Pair;
 
-/// The best choice of a table with layers that show that it is, or the least bytes where none fits.
+/// The best choice of a table with the Pareto frontiers that prove it, or the least number of bytes if no choice
+/// fits.
 #[derive(Debug, Drop)]
 pub enum Outcome {
     /// A choice fits.
@@ -13,15 +14,15 @@ pub enum Outcome {
         size: u64,
         /// Its error.
         error: u64,
-        /// After each number of slices, the pairs that no other dominates and that can still be those of a choice
-        /// as good, by rising size. There is one layer more than slices.
+        /// After each number of slices, by rising size, the pairs that no other dominates and that the bound of
+        /// this error does not prune. There is one frontier more than slices.
         layers: Vec<Vec<Pair>>,
-        /// The least multiplier whose picks fit.
+        /// The least Lagrangian multiplier whose minimisers fit.
         multiplier: u64,
     },
     /// No choice fits.
     None {
-        /// The fixed bytes and each slice's least size together, above the budget.
+        /// The fixed bytes plus each slice's least size; greater than the budget.
         least: u64,
     },
 }

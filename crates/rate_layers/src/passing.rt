@@ -1,7 +1,7 @@
-//! The entries of a slice that some pair of a layer can pass with.
+//! The entries of a slice that the bound does not prune with every pair of a frontier.
 
-ghost use Rattle.std.specs.Prelude.{◌≡◌, ◌+◌, ◌*◌, ◌≤◌, OnOk};
-ghost use Rattle.std.specs.List.{All, Contains};
+ghost use Rattle.std.specs.Prelude.{◌+◌, ◌*◌, ◌≤◌, OnOk};
+ghost use Rattle.std.specs.List.{All};
 ghost use Rattle.rate_table.specs.declared.entry.Pair.{Pair};
 ghost use Rattle.rate_table.specs.Table.{IsEntry};
 ghost use Rattle.rate_layers.specs.inner.Merge.{IsFloor, Passing};
@@ -10,7 +10,7 @@ use crate::bound::Bound;
 use rate_table::{Entry, Pair, cost_of};
 use std::alloc::AllocError;
 
-/// What each pair of the layer costs at least, by the bound's multiplier, and no more than the ceiling.
+/// The least Lagrangian cost of the frontier's pairs by the bound's multiplier, or the ceiling if that is less.
 fn floor_of(bound: &Bound, layer: &[Pair]) -> u128
     ensures floor { IsFloor bound.now.multiplier layer.now result }
     ensures ceiling { result ≤ bound.now.ceiling }
@@ -23,8 +23,8 @@ fn floor_of(bound: &Bound, layer: &[Pair]) -> u128
     floor
 }
 
-/// Writes the entries whose own cost, with the least cost of the layer's pairs, stays within the bound. With each of
-/// the others every pair of the layer passes the bound.
+/// Writes the entries whose own cost plus the least cost of the frontier's pairs stays within the bound. Each other
+/// entry is pruned with every pair of the frontier.
 pub fn passing(
     few: &mut Vec<Entry>,
     bound: &Bound,

@@ -1,6 +1,6 @@
-//! Where a pair stands among pairs of rising sizes.
+//! The position of a pair among pairs of rising sizes.
 
-ghost use Rattle.std.specs.Prelude.{◌≡◌, ℕ, ◌<◌, ◌↔◌, IsTrue, IfSome, IfNone, length, slice_index_or};
+ghost use Rattle.std.specs.Prelude.{◌≡◌, ◌<◌, ◌↔◌, IsTrue, IfSome, IfNone};
 ghost use Rattle.std.specs.List.{Contains};
 ghost use Rattle.rate_table.specs.declared.entry.Pair.{Pair};
 ghost use Rattle.rate_layers.specs.Layers.{Rises};
@@ -15,7 +15,7 @@ fn is_pair(q: Pair, size: u64, error: u128) -> bool
     u64::from(q.size) == size && u128::from(q.error) == error
 }
 
-/// The place of the pair with this size and this error, if it is one of these.
+/// The position of the pair with this size and this error, if it is there.
 pub fn place_of(pairs: &[Pair], size: u64, error: u128) -> Option<usize>
     requires { Rises pairs.now }
     ensures some { IfSome result (StandsAt pairs.now (record { size = size; error = error })) }

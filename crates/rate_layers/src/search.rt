@@ -1,6 +1,6 @@
 //! The best choice of a table.
 
-ghost use Rattle.std.specs.Prelude.{◌≡◌, ◌≢◌, ◌+◌, ◌-◌, ◌*◌, ◌<◌, ◌≤◌, ◌^◌, ℕ, suc, List, [], ◌∷◌, ◌++◌, IfOk, IfErr, IfSome, IfNone, IsErr, Err, length, map, slice_index_or};
+ghost use Rattle.std.specs.Prelude.{◌≡◌, ◌≢◌, ◌+◌, ◌-◌, ◌*◌, ◌<◌, ◌≤◌, ◌^◌, ℕ, List, [], ◌∷◌, ◌++◌, IfOk, IfErr, IfSome, IfNone, IsErr, Err, length, map, slice_index_or};
 ghost use Rattle.rate_table.specs.declared.entry.Entry.{Entry};
 ghost use Rattle.rate_table.specs.declared.entry.Pair.{Pair};
 ghost use Rattle.rate_table.specs.Table.{IsTable, IsChoice, Fits, HasNoFit, error_of};
@@ -12,9 +12,6 @@ ghost use Rattle.rate_layers.specs.Multiplier.{IsMultiplier};
 ghost use Rattle.rate_layers.specs.inner.Live.{AreFound};
 ghost use Rattle.rate_layers.specs.Best.{OnFits, OnNone, TellsBest, TellsLayers, PassesByPicks, PassesByBest};
 
-#[cfg(test)]
-mod tests;
-
 use crate::fault::BestFault;
 use crate::layers::kept_layers;
 use crate::live::first_choice;
@@ -25,25 +22,26 @@ use crate::outcome::Outcome;
 use rate_table::{FrameTable, Pair, least, least_costs};
 use std::alloc::Global;
 
-/// The span to an error of too many pairs is halved so many times before the refusal stands.
+/// How many times an interval of errors is halved before `LayersFull` is returned.
 const HALVINGS: usize = 8;
 
-/// A multiplier below this is small: its bound is loose, since it is a whole number.
+/// A multiplier below this is small: as a whole number it gives a loose bound.
 const SMALL: u64 = 100;
 
-/// A small multiplier is made about as great as this in the search for the optimum's error.
+/// A small multiplier is scaled to about this in the search for the least error.
 const FINE: u64 = 1024;
 
-/// Layers, and the pair of the best choice, which is the last one of the last layer.
+/// Frontiers, and the pair of the best choice, which is the last one of the last frontier.
 #[derive(Drop)]
 struct Found {
     layers: Vec<Vec<Pair>>,
     goal: Pair,
 }
 
-/// The last pair of the last layer.
+/// The last pair of the last frontier.
 fn last_pair(layers: &[Vec<Pair>]) -> Option<Pair>
-    ensures some { IfSome result (λ p. (front : List Pair) × (slice_index_or (map (λ l. l.items) layers.now) (length layers.now - 1) [] ≡ front ++ p ∷ [])) }
+    ensures some { IfSome result (λ p. (front : List Pair) × (slice_index_or (map (λ l. l.items) layers.now)
+        (length layers.now - 1) [] ≡ front ++ p ∷ [])) }
     ensures none { IfNone result (slice_index_or (map (λ l. l.items) layers.now) (length layers.now - 1) [] ≡ []) }
 {
     match layers.last() {
@@ -52,16 +50,19 @@ fn last_pair(layers: &[Vec<Pair>]) -> Option<Pair>
     }
 }
 
-/// The layers that this error keeps, if a fitting choice has no more.
+/// The frontiers that this error keeps, if a fitting choice has no more error.
 fn found_within(
     alloc: Global,
     table: &FrameTable,
     multiplier: u64,
     error: u64,
 ) -> Result<Option<Found>, BestFault>
-    ensures some { IfOk result (λ o. IfSome o (λ f. AreFound table.now multiplier error f.goal (map (λ l. l.items) f.layers.items))) }
-    ensures none { IfOk result (λ o. IfNone o ((c : List Entry) → IsChoice table.now.slices c → Fits table.now c → error < error_of c)) }
-    ensures full { IfErr result (λ e. e ≡ LayersFull → (layers : List (List Pair)) → AreKept table.now multiplier error layers → 2 ^ 25 < pairs_in layers) }
+    ensures some { IfOk result (λ o. IfSome o (λ f. AreFound table.now multiplier error f.goal
+        (map (λ l. l.items) f.layers.items))) }
+    ensures none { IfOk result (λ o. IfNone o ((c : List Entry) → IsChoice table.now.slices c → Fits table.now c → error
+        < error_of c)) }
+    ensures full { IfErr result (λ e. e ≡ LayersFull → (layers : List (List Pair)) → AreKept table.now multiplier error
+        layers → 2 ^ 25 < pairs_in layers) }
 {
     let layers = kept_layers(alloc, table, multiplier, error)?;
     match last_pair(&layers) {
@@ -70,8 +71,8 @@ fn found_within(
     }
 }
 
-/// The layers of a smaller error, where this one's are too many: from an error up to which all were too small, the span
-/// to this one is halved so many times.
+/// The frontiers of an error below `full`, whose frontiers are too large. All errors below `low` are too small. The
+/// interval is halved `halvings` times at most.
 fn found_by_halving(
     alloc: Global,
     table: &FrameTable,
@@ -99,8 +100,8 @@ fn found_by_halving(
     Err(BestFault::LayersFull)
 }
 
-/// The layers that this error keeps, if a fitting choice has no more; where they are too many, those of a smaller
-/// error, down to `low`, below which all were too small.
+/// The frontiers that this error keeps, if a fitting choice has no more error. If they are too large, those of a
+/// smaller error, from `low` on; all below `low` are too small.
 fn found_up_to(
     alloc: Global,
     table: &FrameTable,
@@ -109,9 +110,12 @@ fn found_up_to(
     error: u64,
     halvings: usize,
 ) -> Result<Option<Found>, BestFault>
-    ensures some { IfOk result (λ o. IfSome o (λ f. (u : ℕ) × AreFound table.now multiplier u f.goal (map (λ l. l.items) f.layers.items))) }
-    ensures none { IfOk result (λ o. IfNone o ((c : List Entry) → IsChoice table.now.slices c → Fits table.now c → error < error_of c)) }
-    ensures full { IfErr result (λ e. e ≡ LayersFull → (layers : List (List Pair)) → AreKept table.now multiplier error layers → 2 ^ 25 < pairs_in layers) }
+    ensures some { IfOk result (λ o. IfSome o (λ f. (u : ℕ) × AreFound table.now multiplier u f.goal
+        (map (λ l. l.items) f.layers.items))) }
+    ensures none { IfOk result (λ o. IfNone o ((c : List Entry) → IsChoice table.now.slices c → Fits table.now c → error
+        < error_of c)) }
+    ensures full { IfErr result (λ e. e ≡ LayersFull → (layers : List (List Pair)) → AreKept table.now multiplier error
+        layers → 2 ^ 25 < pairs_in layers) }
 {
     match found_within(alloc, table, multiplier, error) {
         Ok(found) => Ok(found),
@@ -123,7 +127,7 @@ fn found_up_to(
     }
 }
 
-/// No fitting choice has less error. It is 0 where the costs of the budget are above all others.
+/// A lower bound of the error of a fitting choice. It is 0 if the budget's cost is greater than the other costs.
 fn lower_bound(table: &FrameTable, multiplier: u64) -> u128
     ensures { result ≡ (rest multiplier table.now.slices + multiplier * table.now.fixed) - multiplier * table.now.budget }
 {
@@ -132,7 +136,7 @@ fn lower_bound(table: &FrameTable, multiplier: u64) -> u128
     costs.saturating_sub(byte * u128::from(table.budget))
 }
 
-/// The error one part of the way from the lower to the greater.
+/// The error at one `part`-th of the way from `low` to `most`.
 fn between(low: u64, most: u64, part: u64) -> u64
     requires order { low ≤ most }
     requires part { 1 ≤ part }
@@ -142,9 +146,10 @@ fn between(low: u64, most: u64, part: u64) -> u64
     low + (most - low) / part
 }
 
-/// The layers that some error keeps that a fitting choice has. Small errors are tried first: from a lower bound of all
-/// errors a 4,096th of the way to the error of the multiplier's picks, then four times as far, up to that error, which
-/// a fitting choice has. None is tried twice. Where an error's layers are too many, the span is halved so many times.
+/// The frontiers that some error of a fitting choice keeps. Small errors are tried first: a 4,096th of the way from
+/// the lower bound of all errors to the error of the Lagrangian minimisers, then four times as far each, up to the
+/// minimisers' error, which a fitting choice has. No error is tried twice. If an error's frontiers are too large,
+/// the interval is halved `halvings` times at most.
 fn find_by_stages(
     alloc: Global,
     table: &FrameTable,
@@ -152,7 +157,8 @@ fn find_by_stages(
     halvings: usize,
 ) -> Result<Found, BestFault>
     requires { IsMultiplier table.now multiplier }
-    ensures found { IfOk result (λ f. (u : ℕ) × AreFound table.now multiplier u f.goal (map (λ l. l.items) f.layers.items)) }
+    ensures found { IfOk result (λ f. (u : ℕ) × AreFound table.now multiplier u f.goal
+        (map (λ l. l.items) f.layers.items)) }
     ensures full { IfErr result (λ e. e ≡ LayersFull → PassesByPicks table.now) }
 {
     let most = pick_sums(table, multiplier).1;
@@ -174,8 +180,8 @@ fn find_by_stages(
     }
 }
 
-/// How many times errors count in the search for the optimum's error: once where the multiplier isn't small, and where it
-/// is 0, so that the picks are best.
+/// The factor of errors in the search for the least error: 1 if the multiplier isn't small, or is 0, so that the
+/// Lagrangian minimisers are best.
 fn times_of(multiplier: u64) -> u64
     ensures { 1 ≤ result }
 {
@@ -186,9 +192,10 @@ fn times_of(multiplier: u64) -> u64
     }
 }
 
-/// The error of the best choice, found over the table whose errors count so many times. Whole multipliers are fractions
-/// there, and their bounds keep far fewer pairs where the table's own is small. `None` where nothing was found.
-/// It is a guess, since errors of that table may have been cut: whoever takes it tries it.
+/// Guesses the error of the best choice, by a search over the table with errors multiplied by `times`. Whole
+/// multipliers of that table are fractions of this one, so its bounds prune far more pairs if this one's multiplier
+/// is small. `None` if nothing was found. The guess may be too small, since errors of that table may have been
+/// capped; the caller tries it.
 fn guess(alloc: Global, table: &FrameTable, times: u64) -> Option<u64>
     requires { 1 ≤ times }
     // No fitting choice has less error.
@@ -202,13 +209,14 @@ fn guess(alloc: Global, table: &FrameTable, times: u64) -> Option<u64>
     }
 }
 
-/// The layers that some error keeps that a fitting choice has. Where the multiplier is small, the first error that is
-/// tried is guessed, and it is never above that of the best choice. Where its layers are too many, no smaller error would
-/// serve, and a greater one keeps no fewer. It is that of the best choice, and no layers are made that aren't needed, unless
-/// an error was cut in the finer table; then it may be too small, and the stages follow.
+/// The frontiers that some error of a fitting choice keeps. If the multiplier is small, the error to try first is
+/// guessed. The guess is never above the error of the best choice: if its frontiers are too large, so are those of
+/// every error that would do. It is that error, and no frontiers are made in vain, unless an error was capped in
+/// the multiplied table; then the guess may be too small, and the stages follow.
 fn find(alloc: Global, table: &FrameTable, multiplier: u64) -> Result<Found, BestFault>
     requires { IsMultiplier table.now multiplier }
-    ensures found { IfOk result (λ f. (u : ℕ) × AreFound table.now multiplier u f.goal (map (λ l. l.items) f.layers.items)) }
+    ensures found { IfOk result (λ f. (u : ℕ) × AreFound table.now multiplier u f.goal
+        (map (λ l. l.items) f.layers.items)) }
     ensures full { IfErr result (λ e. e ≡ LayersFull → PassesByPicks table.now) }
 {
     let times = times_of(multiplier);
@@ -223,7 +231,7 @@ fn find(alloc: Global, table: &FrameTable, multiplier: u64) -> Result<Found, Bes
     find_by_stages(alloc, table, multiplier, HALVINGS)
 }
 
-/// The best choice of a table where one fits.
+/// The best choice of a table with a choice that fits.
 fn best_fit(alloc: Global, table: &FrameTable) -> Result<Outcome, BestFault>
     requires table { IsTable table.now }
     requires some { (c : List Entry) × IsChoice table.now.slices c × Fits table.now c }
@@ -247,23 +255,27 @@ fn best_fit(alloc: Global, table: &FrameTable) -> Result<Outcome, BestFault>
     })
 }
 
-/// The best choice of a table: the fitting one of least error, then of least size, then the first in the order of
-/// index lists; with the layers and the multiplier that show that none has less error. `None` where no choice fits.
-/// The layers take 16 bytes a pair and up to 48 bytes a layer; those that are returned no more, since they give back what a
-/// wider pass had reserved. While it searches it holds at most 2^25 pairs of finished layers, with two vectors for the layer
-/// at work, each of up to 32 bytes for each pair of the longest half-merged layer, and where the multiplier is small a second
-/// table, until an error is guessed; while the choice is found, a mark of one bit for each pair, and up to 72 bytes a layer,
-/// beside the layers that are returned.
+/// The best choice of a table: the fitting one of least error, then of least size, then the first in lexicographic
+/// order of its indices; with the Pareto frontiers and the Lagrangian multiplier that prove that none has less
+/// error. `None` if no choice fits.
 ///
-/// The errors are `LayersFull` where the layers number more than 2^25 pairs, and `NoMemory`.
+/// The frontiers take 16 bytes a pair and up to 48 bytes a frontier; those that are returned have no spare
+/// capacity. During the search the call holds:
+/// - at most 2^25 pairs of finished frontiers;
+/// - two vectors for the frontier in progress, each of up to 32 bytes a pair of the longest half-merged one;
+/// - if the multiplier is small, a second table, until an error is guessed;
+/// - while the choice is found, besides the returned frontiers, a bit for each pair and up to 72 bytes a frontier.
+///
+/// The errors are `LayersFull` if the frontiers have more than 2^25 pairs, and `NoMemory`.
 pub fn best(alloc: Global, table: &FrameTable) -> Result<Outcome, BestFault>
     ensures fits { OnFits result (TellsBest table.now) }
     ensures layers { OnFits result (TellsLayers table.now) }
     ensures good { OnFits result (IsGoodFit table.now) }
     ensures none { OnNone result (λ least. HasNoFit table.now × SaysNone table.now least) }
-    // `LayersFull` comes only where the layers kept by the error of the multiplier's picks number more than 2^25 pairs.
+    // `LayersFull` is returned only if the frontiers kept by the error of the Lagrangian minimisers have more than
+    // 2^25 pairs.
     ensures full_only { IfErr result (λ e. e ≡ LayersFull → PassesByPicks table.now) }
-    // Where those kept by the best choice's own error do, there is no other answer than `LayersFull` and `NoMemory`.
+    // If those kept by the best choice's own error do, the result is `LayersFull` or `NoMemory`.
     ensures full_always { PassesByBest table.now → IsErr result }
     ensures full_never { (table.now.budget + 1) * (length table.now.slices + 1) ≤ 2 ^ 25 → result ≢ Err LayersFull }
 {

@@ -1,4 +1,4 @@
--- What is asked of the pairs of a layer, beside being undominated.
+-- The tests that the pairs of a frontier pass besides being undominated.
 use Rattle.std.proofs.Common.{ℕ, suc, ◌+◌, ◌*◌, ◌<◌, ◌≤◌, List, [], ◌∷◌, length, get_or, take, drop, sym, subst, arith, leb, ⊎_elim}
 use Rattle.std.specs.List.{Contains}
 use Rattle.std.proofs.lemmas.Nat.{mul-le}
@@ -19,7 +19,7 @@ use Rattle.rate_least.proofs.Fronts.{front_layer, one_layer}
 use Rattle.rate_least.proofs.Grown.{front_step}
 use Rattle.rate_least.proofs.Exists.{front_of_tested}
 
--- what is defined over slices and a cap
+-- definitions over slices and a cap
 abbrev pub Meets : Capped → List (List Entry) → WidePair → Type 0
 Meets t later p = MeetsCap t.cap later p
 
@@ -38,7 +38,8 @@ IsKept t m u k held = IsHeld t.slices t.cap m u k held
 abbrev pub AreKept : Capped → ℕ → ℕ → List (List WidePair) → Type 0
 AreKept t m u layers = AreHeld t.slices t.cap m u layers
 
--- It goes down with a pair and back to the pair before, and no front of a choice of size u at most that meets the cap fails it.
+-- If a pair passes the test, so does each pair that dominates it, and the pair before. No prefix of a choice of
+-- size at most u that meets the cap fails it.
 pub record IsTest (t : Capped) (u : ℕ) (Fine : List (List Entry) → WidePair → Type 0) : Type 0 where
   pub down : (later : List (List Entry)) (p q : WidePair) → Dominates q p → Fine later p → Fine later q
   pub back : (s : List Entry) (later : List (List Entry)) (p : WidePair) (x : Entry) → Contains s x → Fine later (joined p x) → Fine (s ∷ later) p
@@ -57,7 +58,8 @@ within_back : (t : Capped) (m u : ℕ) (s : List Entry) (later : List (List Entr
 within_back t m u s later p x c h =
     omega (arith, sum_by-cons (least (λ x. x.error + m * x.size)) s later, least_at_most (λ x. x.error + m * x.size) s x c)
 
--- What goes on to a choice of size u at most that meets the cap stays within the bound, by any multiplier.
+-- A pair that can be completed to a choice of size at most u that meets the cap stays within the bound, by any
+-- multiplier.
 fitting_within : (t : Capped) (m u : ℕ) (later : List (List Entry)) (p : WidePair) (d : List Entry) → IsChoice later d → p.error + error_of d ≤ t.cap → p.size + size_of d ≤ u → Within t m u later p
 fitting_within t m u later p d c f e =
     let h : m * (p.size + size_of d) ≤ m * u = mul-le m (p.size + size_of d) m u (omega arith) (omega arith) in
@@ -71,17 +73,17 @@ kept_test t m u = record {
   keeps = λ later p d c g e. (omega (arith, g, least_below (λ x. x.error) later d c), fitting_within t m u later p d c g e);
 }
 
--- The pair of a choice of the first k slices, that passes.
+-- the pair of a choice of the first k slices, if it passes
 abbrev pub At : Capped → (List (List Entry) → WidePair → Type 0) → ℕ → WidePair → Type 0
 At t Fine k p = Reaches (take k t.slices) p × Fine (drop k t.slices) p
 
--- There is a capped layer after each number of slices.
+-- There is a capped frontier after each number of slices.
 pub front_full : (t : Capped) (k : ℕ) → (layer : List WidePair) × IsFront (At t (Meets t) k) layer
 front_full t k =
     front_of_tested (take k t.slices) (Meets t (drop k t.slices)) (λ p. leb (p.error + least_error (drop k t.slices)) t.cap)
     (λ p h. leb-true _ _ h) (λ p h. le-leb _ _ h)
 
--- a capped layer in the form that a merge shows
+-- a capped frontier in the form that a merge establishes
 pub full_front : (t : Capped) (k : ℕ) (layer : List WidePair) → IsFull t k layer → IsFront (At t (Meets t) k) layer
 full_front t k layer h =
     let f = front_full t k in
@@ -97,7 +99,7 @@ module _ (t : Capped) (u : ℕ) (Fine : List (List Entry) → WidePair → Type 
       (front_step (take k t.slices) s (Fine (drop k t.slices)) (Fine later) (test.down later)
       (λ p x c i. subst (λ l. Fine l p) (sym (drop-cons t.slices k [] h)) (test.back s later p x c i)) layer next f g)
 
-  -- the first layer
+  -- the first frontier
   pub layer_none : Fine t.slices (record { size = 0; error = 0 }) → IsFront (At t Fine 0) (record { size = 0; error = 0 } ∷ [])
   layer_none fine =
       let none : WidePair = record { size = 0; error = 0 } in

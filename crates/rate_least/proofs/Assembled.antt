@@ -1,9 +1,12 @@
--- What the loop over slices keeps.
+-- The invariant of the loop over slices.
 use Rattle.std.proofs.Common.{◌≡◌, ℕ, suc, ◌+◌, ◌-◌, ◌*◌, ◌^◌, ◌<◌, ◌≤◌, List, [], ◌∷◌, ◌++◌, length, get_or, take, drop, sym, ap, ◌∙◌, subst, arith, ⊎_elim}
 use Rattle.std.specs.List.{All}
 use Rattle.std.proofs.lemmas.List.{get_or_append_left, get_or_push, get_or_default, length_push, length-take}
 use Rattle.std.proofs.lemmas.List.Elements.{All-take, Contains-get_or}
 use Rattle.std.proofs.lemmas.Bool.{cases_lt}
+use Rattle.rate_layers.proofs.Bounds.{sum_step}
+use Rattle.rate_layers.proofs.Assembled.{error_small}
+use Rattle.rate_table.specs.declared.table.TheConstants.{MAX_TABLE_SLICES}
 use Rattle.rate_table.specs.declared.entry.Entry.{Entry}
 use Rattle.rate_table.specs.Table.{IsSliceTable, least}
 use Rattle.rate_table.specs.Pairs.{cost, rest}
@@ -16,13 +19,13 @@ use Rattle.rate_least.specs.inner.Covering.{IsBoundOf}
 use Rattle.rate_least.specs.inner.Merge.{Passes, IsNext}
 use Rattle.rate_least.specs.inner.Live.{Capped}
 use Rattle.rate_least.proofs.Asked.{IsKept, AreKept, Stays, At, kept_test, layer_step}
-use Rattle.rate_least.proofs.Curved.{size_small, error_small, pairs_below}
+use Rattle.rate_least.proofs.Curved.{size_small, pairs_below}
 use Rattle.rate_least.proofs.Kept.{front_kept}
-use Rattle.rate_least.proofs.Bounds.{bound_stays, front_as, sum_step}
+use Rattle.rate_least.proofs.Bounds.{bound_stays, front_as}
 use Rattle.rate_least.proofs.Wholes.{kept_same}
 
 module _ (t : Capped) (m u : ℕ) where
-  -- the layers so far
+  -- the frontiers so far
   pub record Assembled (layers : List (List WidePair)) (k : ℕ) : Type 0 where
     pub count : length layers ≡ k + 1
     pub fronts : (i : ℕ) → i ≤ k → IsFront (At t (Stays t m u) i) (get_or layers i [])
@@ -56,7 +59,7 @@ module _ (t : Capped) (m u : ℕ) where
       merged = front_as (λ p. Joins layer (get_or t.slices k []) p × Passes b p) (λ p. Joins layer (get_or t.slices k []) p × Stays t m u later p) next
           (λ p h. (h.0, (bound_stays t m u later b o p).0 h.1)) (λ p h. (h.0, (bound_stays t m u later b o p).1 h.1)) g
 
-  -- what one slice more makes of the layers and the two sums
+  -- the frontiers and the two sums after one slice more
   pub record Further (layers : List (List WidePair)) (k errors costs : ℕ) : Type 0 where
     pub assembled : Assembled layers k
     pub errors_left : errors ≡ least_error (drop k t.slices)
@@ -91,7 +94,7 @@ module _ (t : Capped) (m u : ℕ) where
   pub assembled_end : (layers : List (List WidePair)) (k : ℕ) → length t.slices ≡ k → Assembled layers k → AreKept t m u layers
   assembled_end layers k e a = (omega (arith, a.count), λ i l. kept_at layers k a i (omega arith))
 
-  -- All layers have at least the pairs of those so far.
+  -- All frontiers have at least the pairs of those so far.
   pub assembled_below : (layers all : List (List WidePair)) (k : ℕ) → k ≤ length t.slices → Assembled layers k → AreKept t m u all → pairs_in layers ≤ pairs_in all
   assembled_below layers all k n a f =
       pairs_below layers all (omega (arith, a.count, f.0)) (λ i l.
@@ -99,7 +102,7 @@ module _ (t : Capped) (m u : ℕ) where
       let e' : length (get_or layers i []) ≡ length (get_or all i []) = ap length e in
       omega arith)
 
-  reached_small : All IsSliceTable t.slices → length t.slices ≤ 131070 → (k : ℕ) (p : WidePair) → Reaches (take k t.slices) p → (p.size < 2 ^ 34) × (p.error < 2 ^ 61)
+  reached_small : All IsSliceTable t.slices → length t.slices ≤ MAX_TABLE_SLICES → (k : ℕ) (p : WidePair) → Reaches (take k t.slices) p → (p.size < 2 ^ 34) × (p.error < 2 ^ 61)
   reached_small each few k p r =
       let s = ap (λ (x : WidePair). x.size) r.2 in
       let e = ap (λ (x : WidePair). x.error) r.2 in (
@@ -107,9 +110,9 @@ module _ (t : Capped) (m u : ℕ) where
         omega (arith, e, error_small (take k t.slices) (All-take IsSliceTable k t.slices each) r.0 r.1, few, length-take k t.slices),
       )
 
-  -- sizes and errors of a layer are small
-  pub layer_narrow : All IsSliceTable t.slices → length t.slices ≤ 131070 → (k : ℕ) (layer : List WidePair) → IsFront (At t (Stays t m u) k) layer → All IsNarrow layer
+  -- sizes and errors of a frontier are small
+  pub layer_narrow : All IsSliceTable t.slices → length t.slices ≤ MAX_TABLE_SLICES → (k : ℕ) (layer : List WidePair) → IsFront (At t (Stays t m u) k) layer → All IsNarrow layer
   layer_narrow each few k layer f i d n = (reached_small each few k (get_or layer i d) (f.only (get_or layer i d) (Contains-get_or layer i d n)).0).0
 
-  pub layer_small : All IsSliceTable t.slices → length t.slices ≤ 131070 → (k : ℕ) (layer : List WidePair) → IsFront (At t (Stays t m u) k) layer → All (λ p. p.error < 2 ^ 63) layer
+  pub layer_small : All IsSliceTable t.slices → length t.slices ≤ MAX_TABLE_SLICES → (k : ℕ) (layer : List WidePair) → IsFront (At t (Stays t m u) k) layer → All (λ p. p.error < 2 ^ 63) layer
   layer_small each few k layer f i d n = let r = (reached_small each few k (get_or layer i d) (f.only (get_or layer i d) (Contains-get_or layer i d n)).0).1 in omega arith

@@ -1,10 +1,12 @@
--- The multiplier: bends by a greater one have no less error, and a search by halves finds the greatest that meets the cap.
-use Rattle.std.proofs.Common.{◌≡◌, ℕ, suc, ◌+◌, ◌-◌, ◌*◌, ◌<◌, ◌≤◌, List, [], ◌∷◌, ◌++◌, ap, subst, arith, ◌⊎◌, inl, inr, ⊎_elim}
+-- The Lagrangian multiplier: minimisers for a greater one have no less error, and a binary search finds the
+-- greatest that meets the cap.
+use Rattle.std.proofs.Common.{◌≡◌, ℕ, ◌+◌, ◌-◌, ◌*◌, ◌<◌, ◌≤◌, List, [], ◌∷◌, ◌++◌, ap, subst, arith, ◌⊎◌, inl, inr, ⊎_elim}
 use Rattle.std.specs.List.{Contains, All}
 use Rattle.std.proofs.lemmas.List.Sums.{sum_by-cons}
 use Rattle.std.proofs.lemmas.List.Elements.{All-head, All-tail}
 use Rattle.std.proofs.lemmas.Nat.{mul-le}
 use Rattle.std.proofs.lemmas.Bool.{cases_lt}
+use Rattle.rate_layers.proofs.Picks.{crossed}
 use Rattle.rate_table.specs.declared.entry.Entry.{Entry}
 use Rattle.rate_table.specs.Table.{IsChoice, error_of, IsSliceTable}
 use Rattle.rate_table.specs.Pairs.{cost}
@@ -12,7 +14,7 @@ use Rattle.rate_table.proofs.Lists.{contains_cases, contains_head, contains_tail
 use Rattle.rate_least.specs.Held.{IsBent, IsBend, BendMeets, IsGreatestMultiplier}
 use Rattle.rate_least.specs.inner.Bent.{Wins}
 
--- the order of taking
+-- the order of preference
 pub wins_self : (m : ℕ) (a b : Entry) → a ≡ b → Wins m a b
 wins_self m a b e =
     let c = ap (λ (x : Entry). cost m x) e in
@@ -59,12 +61,12 @@ bent_with m x s p k =
     (λ w. (p, bent_wins m (x ∷ s) p (contains_tail x s p k.in_slice) (λ y c. ⊎_elim (λ e. wins_trans m p x y w (wins_self m x y e)) (λ i. wins_bent m s p k y i) (contains_cases x s y c))))
     (wins_either m x p)
 
--- the bent entry of a slice that has an entry
+-- the Lagrangian minimiser of a slice that has an entry
 pub bent_of : (m : ℕ) (x : Entry) (xs : List Entry) → (p : Entry) × IsBent m (x ∷ xs) p
 bent_of m x [] = (x, bent_wins m (x ∷ []) x (contains_head x []) (λ y c. ⊎_elim (λ e. wins_self m x y e) (λ i. absurd (contains_none y i)) (contains_cases x [] y c)))
 bent_of m x (y ∷ xs) = let r = bent_of m y xs in bent_with m x (y ∷ xs) r.0 r.1
 
--- the bend of slices that have entries
+-- the Lagrangian minimisers of slices that have entries
 pub bend_of : (m : ℕ) (slices : List (List Entry)) → All IsSliceTable slices → (c : List Entry) × IsBend m slices c
 bend_of m [] a = ([], tt)
 bend_of m ([] ∷ ss) a = let h = All-head IsSliceTable [] ss a in absurd (omega (arith, h.some))
@@ -78,10 +80,6 @@ bend_choice m [] [] h = tt
 bend_choice m [] (x ∷ c) h = absurd h
 bend_choice m (s ∷ ss) [] h = absurd h
 bend_choice m (s ∷ ss) (x ∷ c) h = (h.0.in_slice, bend_choice m ss c h.1)
-
--- A greater multiplier takes no less error, entry by entry.
-crossed : (m n s k e f : ℕ) → m < n → 0 < k → e + m * s ≤ f + m * (s + k) → f + n * (s + k) ≤ e + n * s → ⊥
-crossed m n s k e f l h a b = let p : suc m * k ≤ n * k = mul-le (suc m) k n k (omega arith) (omega arith) in omega arith
 
 bent_up : (m n : ℕ) (s : List Entry) (x y : Entry) → m < n → IsBent m s x → IsBent n s y → x.error ≤ y.error
 bent_up m n s x y l a b =
@@ -111,7 +109,7 @@ bends_up m n (s ∷ ss) (x ∷ c) (y ∷ d) l a b =
     (λ k. let e : n ≡ m = omega arith in same_bent m s x y a.0 (subst (λ i. IsBent i s y) e b.0)) (cases_lt m n) in
     omega (arith, one, bends_up m n ss c d l a.1 b.1, sum_by-cons (λ (x : Entry). x.error) x c, sum_by-cons (λ (x : Entry). x.error) y d)
 
--- By the multiplier 0, the least errors are taken.
+-- By the multiplier 0, the minimisers have the least errors.
 bend_least : (slices : List (List Entry)) (c d : List Entry) → IsBend 0 slices c → IsChoice slices d → error_of c ≤ error_of d
 bend_least [] [] [] a b = omega arith
 bend_least [] [] (y ∷ d) a b = absurd b
@@ -129,17 +127,17 @@ bend_push m [] s (y ∷ c) x h i = absurd h
 bend_push m (r ∷ slices) s [] x h i = absurd h
 bend_push m (r ∷ slices) s (y ∷ c) x h i = (h.0, bend_push m slices s c x h.1 i)
 
--- Where a choice meets the cap, the bend by 0 does.
+-- If a choice meets the cap, so do the minimisers for 0.
 pub first_bend : (slices : List (List Entry)) (cap : ℕ) → All IsSliceTable slices → (d : List Entry) → IsChoice slices d → error_of d ≤ cap → BendMeets slices cap 0
 first_bend slices cap ok d h f =
     let c = bend_of 0 slices ok in
     (c.0, c.1, omega (arith, bend_least slices c.0 d c.1 h))
 
--- all bends by one multiplier meet the cap, or none
+-- all minimisers for one multiplier meet the cap, or none
 pub bend_meets : (slices : List (List Entry)) (cap m : ℕ) (c : List Entry) → IsBend m slices c → BendMeets slices cap m → error_of c ≤ cap
 bend_meets slices cap m c a (d, b, f) = omega (arith, bends_up m m slices c d (omega arith) a b)
 
--- Where the bend by one multiplier doesn't meet the cap, that by no greater one does.
+-- If the minimisers for one multiplier don't meet the cap, neither do those for a greater one.
 pub none_higher : (slices : List (List Entry)) (cap middle : ℕ) → All IsSliceTable slices → (BendMeets slices cap middle → ⊥) → (n : ℕ) → BendMeets slices cap n → n < middle
 none_higher slices cap middle ok none n (c, h, f) =
     ⊎_elim (λ l. l) (λ l. let p = bend_of middle slices ok in

@@ -1,8 +1,5 @@
--- What stays below a bound's numbers, and the first layers of it.
-use Rattle.std.proofs.Common.{◌≡◌, ℕ, suc, ◌+◌, ◌*◌, ◌<◌, List, [], ◌∷◌, length, get_or, drop, sym, ap, ◌∙◌, arith, ◌↔◌}
-use Rattle.std.specs.List.{sum_by}
-use Rattle.std.proofs.lemmas.List.Sums.{sum_by-cons}
-use Rattle.std.proofs.Math.Seq.{drop-cons}
+-- Pairs below a bound's numbers, and the first frontier.
+use Rattle.std.proofs.Common.{◌≡◌, ℕ, ◌*◌, List, [], ◌∷◌, sym, ap, arith, ◌↔◌}
 use Rattle.rate_table.specs.declared.entry.Entry.{Entry}
 use Rattle.rate_least.specs.declared.outcome.WidePair.{WidePair}
 use Rattle.rate_least.specs.declared.bound.Bound.{Bound}
@@ -12,7 +9,7 @@ use Rattle.rate_least.specs.inner.Merge.{Passes}
 use Rattle.rate_least.specs.inner.Live.{Capped}
 use Rattle.rate_least.proofs.Asked.{Stays, At}
 
--- A pair passes a bound exactly where it can still meet the cap and stays within the bound.
+-- A pair passes a bound exactly if it can still meet the cap and stays within the bound.
 pub bound_stays : (t : Capped) (m u : ℕ) (later : List (List Entry)) (b : Bound) → IsBoundOf t.cap m u later b → (p : WidePair) → Passes b p ↔ Stays t m u later p
 bound_stays t m u later b o p =
     let e : b.multiplier * p.size ≡ m * p.size = ap (λ n. n * p.size) o.multiplier in (
@@ -20,11 +17,11 @@ bound_stays t m u later b o p =
       (λ h. (omega (arith, o.errors, o.limit, h.0), omega (arith, o.floor, o.most, e, h.1))),
     )
 
--- a front of the same pairs, told otherwise
+-- a frontier of the same pairs by another description
 pub front_as : (P Q : WidePair → Type 0) (layer : List WidePair) → ((p : WidePair) → P p → Q p) → ((p : WidePair) → Q p → P p) → IsFront P layer → IsFront Q layer
 front_as P Q layer to from f = record { order = f.order; only = λ p c. to p (f.only p c); covers = λ p h. f.covers p (from p h) }
 
--- the first layer
+-- the first frontier
 pub front_first : (t : Capped) (m u : ℕ) (b : Bound) (layer : List WidePair) → IsBoundOf t.cap m u t.slices b
     → IsFront (λ p. (p ≡ record { size = 0; error = 0 }) × Passes b p) layer → IsFront (At t (Stays t m u) 0) layer
 front_first t m u b layer o f =
@@ -35,8 +32,3 @@ front_first t m u b layer o f =
     nothing : (p : WidePair) → Reaches [] p → p ≡ record { size = 0; error = 0 }
     nothing p ([], h, e) = sym e
     nothing p (x ∷ c, h, e) = absurd h
-
--- a sum over the slices to come, with one slice less
-pub sum_step : (f : List Entry → ℕ) (slices : List (List Entry)) (k : ℕ) (s : List Entry) → k < length slices → s ≡ get_or slices k s → sum_by f (drop k slices) ≡ f s + sum_by f (drop (suc k) slices)
-sum_step f slices k s n e =
-    ap (λ l. sum_by f l) (drop-cons slices k s n) ∙ sum_by-cons f (get_or slices k s) (drop (suc k) slices) ∙ ap (λ l. f l + sum_by f (drop (suc k) slices)) (sym e)

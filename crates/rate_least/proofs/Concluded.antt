@@ -1,11 +1,13 @@
--- The goal of found layers is the smallest choice's pair.
-use Rattle.std.proofs.Common.{◌≡◌, ℕ, zero, suc, ◌<◌, ◌≤◌, List, [], ◌∷◌, length, get_or, take, refl, sym, ap, ◌∙◌, subst, arith, ⊎_elim}
+-- The goal of found frontiers is the smallest choice's pair.
+use Rattle.std.proofs.Common.{◌≡◌, ℕ, zero, suc, ◌<◌, ◌≤◌, List, [], ◌∷◌, length, get_or, take, refl, sym, ap, ◌∙◌, subst, arith}
 use Rattle.std.specs.Prelude.{Result, Ok, Err, IfErr}
 use Rattle.std.specs.List.{All, Contains}
 use Rattle.std.proofs.lemmas.List.{length-take, get_or_default}
-use Rattle.std.proofs.lemmas.Bool.{cases_lt}
 use Rattle.std.proofs.lemmas.List.Elements.{All-head, All-tail, All-contains, All-take, Contains-get_or}
 use Rattle.std.proofs.lemmas.List.Sums.{sum_by-cons}
+use Rattle.rate_layers.proofs.Firsts.{length_chosen}
+use Rattle.rate_layers.proofs.Assembled.{error_small}
+use Rattle.rate_table.specs.declared.table.TheConstants.{MAX_TABLE_SLICES}
 use Rattle.rate_table.specs.declared.entry.Entry.{Entry}
 use Rattle.rate_table.specs.Table.{Table, IsEntry, IsSliceTable, least, IsChoice, size_of, error_of, indices}
 use Rattle.rate_least.specs.declared.outcome.WidePair.{WidePair}
@@ -13,8 +15,7 @@ use Rattle.rate_layers.specs.declared.fault.BestFault.{BestFault}
 use Rattle.rate_least.specs.Pairs.{least_error}
 use Rattle.rate_least.specs.Least.{HasNoneUnder}
 use Rattle.rate_least.specs.Records.{Printed, IsGoodFit}
-use Rattle.rate_table.proofs.Lists.{contains_head, contains_tail}
-use Rattle.rate_table.proofs.Entries.{least_below}
+use Rattle.rate_table.proofs.Entries.{least_below, least_attained}
 use Rattle.rate_least.specs.Files.{IsPrintable, HasWidths, IsPair}
 use Rattle.rate_least.specs.inner.First.{IsFirst}
 use Rattle.rate_least.specs.Held.{IsGreatestMultiplier}
@@ -22,10 +23,10 @@ use Rattle.rate_least.specs.inner.Live.{AreFound}
 use Rattle.rate_least.specs.Answers.{IsSmallest, IsSmallestWith, PassesBySmallest}
 use Rattle.rate_least.proofs.Asked.{AreKept}
 use Rattle.rate_least.proofs.Bends.{multiplier_same}
-use Rattle.rate_least.proofs.Curved.{size_small, error_small}
+use Rattle.rate_least.proofs.Curved.{size_small}
 use Rattle.rate_least.proofs.Refused.{capped}
 use Rattle.rate_least.proofs.Wholes.{kept_are_fewer}
-use Rattle.rate_least.proofs.Produced.{best_kept, produced_kept, printed_of, length_indices}
+use Rattle.rate_least.proofs.Produced.{best_kept, produced_kept, printed_of}
 
 all_more : (n : ℕ) (ns : List ℕ) → n < 256 → All (λ index. index < 256) ns → All (λ index. index < 256) (n ∷ ns)
 all_more n ns h a zero d l = h
@@ -45,13 +46,6 @@ pub begins : (ps : List WidePair) (d p : WidePair) → 0 < length ps → p ≡ g
 begins [] d p n e = absurd (omega arith)
 begins (q ∷ ps) d p n e = (ps, ap (λ r. r ∷ ps) (sym e))
 
--- some entry has the least value
-least_attained : (f : Entry → ℕ) (x : Entry) (xs : List Entry) → (y : Entry) × Contains (x ∷ xs) y × (f y ≡ least f (x ∷ xs))
-least_attained f x [] = (x, contains_head x [], refl)
-least_attained f x (z ∷ xs) =
-    let r = least_attained f z xs in
-    ⊎_elim (λ l. (r.0, contains_tail x (z ∷ xs) r.0 r.1, omega (arith, r.2))) (λ l. (x, contains_head x (z ∷ xs), omega (arith, r.2))) (cases_lt (f r.0) (f x))
-
 -- Some choice has the least errors.
 pub least_meets : (slices : List (List Entry)) → All IsSliceTable slices → (c : List Entry) × IsChoice slices c × (error_of c ≡ least_error slices)
 least_meets [] a = ([], tt, refl)
@@ -61,11 +55,11 @@ least_meets ((x ∷ s) ∷ ss) a =
     let c = least_meets ss (All-tail IsSliceTable (x ∷ s) ss a) in
     (r.0 ∷ c.0, (r.1, c.1), omega (arith, sum_by-cons (λ (x : Entry). x.error) r.0 c.0, sum_by-cons (least (λ x. x.error)) (x ∷ s) ss, r.2, c.2))
 
--- Where they pass it, none does.
+-- If they exceed it, none does.
 pub none_meets : (slices : List (List Entry)) (cap : ℕ) → cap < least_error slices → HasNoneUnder slices cap
 none_meets slices cap h c i f = omega (arith, least_below (λ x. x.error) slices c i)
 
--- what is told of an error, told otherwise
+-- a property of an error, by another description
 pub err_weaker : {A : Type 0} (r : Result A BestFault) (P Q : BestFault → Type 0) → ((e : BestFault) → P e → Q e) → IfErr r P → IfErr r Q
 err_weaker (Ok x) P Q f h = tt
 err_weaker (Err e) P Q f h = f e h
@@ -82,7 +76,7 @@ module _ (slices : List (List Entry)) (cap m : ℕ) (goal : WidePair) (layers : 
   has_error : error_of c ≡ goal.error
   has_error = ap (λ (p : WidePair). p.error) first.pair
 
-  -- what is printed
+  -- the printed record
   abbrev pub shown : List ℕ → Printed
   shown chosen = record { choice = chosen; size = goal.size; error = goal.error; multiplier = m; layers = layers }
 
@@ -101,11 +95,11 @@ module _ (slices : List (List Entry)) (cap m : ℕ) (goal : WidePair) (layers : 
 
   pub tells_said : (t : Table) → t.slices ≡ slices → (chosen : List ℕ) → chosen ≡ indices c → IsPrintable t (shown chosen)
   tells_said t e chosen e' = record {
-    counts = (ap length e' ∙ length_indices c slices first.chosen ∙ sym (ap length e), found.kept.0 ∙ ap (λ l. suc (length l)) (sym e));
+    counts = (ap length e' ∙ length_chosen slices c first.chosen ∙ sym (ap length e), found.kept.0 ∙ ap (λ l. suc (length l)) (sym e));
     few = found.few;
   }
 
-  pub tells_widths : All IsSliceTable slices → length slices ≤ 131070 → IsGreatestMultiplier slices cap m → (chosen : List ℕ) → chosen ≡ indices c → HasWidths (shown chosen)
+  pub tells_widths : All IsSliceTable slices → length slices ≤ MAX_TABLE_SLICES → IsGreatestMultiplier slices cap m → (chosen : List ℕ) → chosen ≡ indices c → HasWidths (shown chosen)
   tells_widths each few i chosen e = record {
     indices = subst (λ l. All (λ index. index < 256) l) (sym e) (indices_small slices each c first.chosen);
     size = omega (arith, has_size, size_small slices each c first.chosen, few);

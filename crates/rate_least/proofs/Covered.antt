@@ -1,4 +1,4 @@
--- Whether a pair is covered, as the number of pairs of at most its size tells.
+-- Whether a pair is covered, by the number of pairs of at most its size.
 use Rattle.std.proofs.Common.{◌≡◌, ℕ, ◌+◌, ◌-◌, ◌*◌, ◌<◌, ◌≤◌, List, length, get_or, sym, ap, ◌∙◌, subst, arith, inl, inr, ⊎_elim}
 use Rattle.std.specs.List.{All, Contains}
 use Rattle.std.proofs.lemmas.Bool.{cases_lt}
@@ -10,15 +10,15 @@ use Rattle.rate_least.specs.declared.bound.Bound.{Bound}
 use Rattle.rate_least.specs.inner.Covering.{Covers, CoversEntry, ReachesTo, weight}
 use Rattle.rate_least.proofs.Orders.{no_pair, apart}
 
--- the first i pairs of the layer joined with the entry are covered
+-- the first i pairs of the layer, joined with the entry, are covered
 abbrev pub SoFar : Bound → List WidePair → List WidePair → Entry → ℕ → Type 0
 SoFar b layer next x i = (j : ℕ) (d : WidePair) → j < i → Covers b next (joined (get_or layer j d) x)
 
--- the pairs that a number reaches are no larger than each pair from i on joined with the entry
+-- the first n pairs are no larger than each pair from i on, joined with the entry
 abbrev pub ReachesFrom : List WidePair → List WidePair → Entry → ℕ → ℕ → Type 0
 ReachesFrom layer next x at i = (k : ℕ) → k < at → (j : ℕ) → i ≤ j → j < length layer → (get_or next k no_pair).size ≤ (get_or layer j no_pair).size + x.size
 
--- A pair of next dominates p exactly where the last one that is reached has no more error.
+-- A pair of `next` dominates p exactly if the last one of at most its size has no more error.
 pub dominated : (next : List WidePair) (p : WidePair) (n : ℕ) → RisesAndFalls next → n ≤ length next → ReachesTo next n p.size → (n < length next → p.size < (get_or next n no_pair).size)
     → (q : WidePair) × Contains next q × Dominates q p → (0 < n) × ((get_or next (n - 1) no_pair).error ≤ p.error)
 dominated next p n order within reached behind (q, (k, m, e), dom) =
@@ -35,7 +35,7 @@ dominated next p n order within reached behind (q, (k, m, e), dom) =
     far k m l small = ⊎_elim (λ e. let f = (apart next no_pair n k order e m).0 in let g = behind (omega arith) in omega (arith, f, g, small))
         (λ e. let f : n ≡ k = omega (arith, e, l) in let g = behind (omega arith) in omega (arith, g, small, ap (λ i. (get_or next i no_pair).size) f)) (cases_lt n k)
 
--- with no pair of least weight below it, an entry that passes with that weight passes with each
+-- an entry that is pruned at the least cost is pruned with each pair
 pub passes : (b : Bound) (layer next : List WidePair) (x : Entry) (least : ℕ) → All (λ p. least ≤ weight b.multiplier p) layer
     → b.most < least + (x.error + b.multiplier * x.size) + b.floor → CoversEntry b layer next x
 passes b layer next x least low h j d m =
@@ -56,7 +56,7 @@ reaches_on layer next x n i order reached k m j l lt =
     let s = (apart layer no_pair i j order (omega arith) lt).0 in
     omega arith
 
--- by what reaching a pair's size tells, it isn't covered
+-- by the number of pairs of at most its size, it isn't covered
 pub uncovered : (b : Bound) (layer next : List WidePair) (x : Entry) (i n : ℕ) → RisesAndFalls next → i < length layer → n ≤ length next → ReachesTo next n ((get_or layer i no_pair).size + x.size)
     → (n < length next → (get_or layer i no_pair).size + x.size < (get_or next n no_pair).size)
     → ((0 < n) × ((get_or next (n - 1) no_pair).error ≤ (get_or layer i no_pair).error + x.error) → ⊥)
@@ -71,9 +71,6 @@ uncovered b layer next x i n order m within reached behind none meets stays all 
 pub last_dominates : (b : Bound) (next : List WidePair) (p : WidePair) (n : ℕ) → n ≤ length next → ReachesTo next n p.size → (0 < n) × ((get_or next (n - 1) no_pair).error ≤ p.error) → Covers b next p
 last_dominates b next p n within reached h =
     inl (get_or next (n - 1) no_pair, (n - 1, omega (arith, h.0), get_or_default next (n - 1) (get_or next (n - 1) no_pair) no_pair (omega (arith, h.0))), (reached (n - 1) (omega (arith, h.0)), h.1))
-
-pub same_product : {a b x y : ℕ} → a ≡ x → b ≡ y → a * b ≡ x * y
-same_product e f = λ i. e i * f i
 
 -- a pair that can't both meet the cap and stay within the bound
 pub not_counted : (b : Bound) (next : List WidePair) (p : WidePair) (size error : ℕ) → size ≡ p.size → error ≡ p.error

@@ -6,8 +6,10 @@ use Rattle.std.proofs.lemmas.List.Sums.{sum_by-cons, sum_by_push}
 use Rattle.std.proofs.lemmas.List.Elements.{All-head, All-tail, All-contains, All-take, Contains-get_or}
 use Rattle.std.proofs.lemmas.Bool.{cases_lt}
 use Rattle.std.proofs.Math.Seq.{take-suc}
+use Rattle.rate_layers.proofs.Assembled.{error_small}
+use Rattle.rate_table.specs.declared.table.TheConstants.{MAX_TABLE_SLICES}
 use Rattle.rate_table.specs.declared.entry.Entry.{Entry}
-use Rattle.rate_table.specs.Table.{IsChoice, IsEntry, IsSliceTable, size_of, error_of}
+use Rattle.rate_table.specs.Table.{IsChoice, IsEntry, IsSliceTable, size_of}
 use Rattle.rate_table.proofs.Lists.{contains_none, contains_head, contains_cases}
 use Rattle.rate_least.specs.declared.outcome.WidePair.{WidePair}
 use Rattle.rate_least.specs.declared.bound.Bound.{Bound}
@@ -30,18 +32,9 @@ size_small (s ∷ ss) a (x ∷ c) h =
     let b : IsEntry x = All-contains IsEntry s x i.limits h.0 in
     omega (arith, b.size, size_small ss (All-tail IsSliceTable s ss a) c h.1, sum_by-cons (λ (x : Entry). x.size) x c)
 
-pub error_small : (slices : List (List Entry)) → All IsSliceTable slices → (c : List Entry) → IsChoice slices c → error_of c ≤ length slices * 2 ^ 43
-error_small [] a [] h = omega arith
-error_small [] a (x ∷ c) h = absurd h
-error_small (s ∷ ss) a [] h = absurd h
-error_small (s ∷ ss) a (x ∷ c) h =
-    let i = All-head IsSliceTable s ss a in
-    let b : IsEntry x = All-contains IsEntry s x i.limits h.0 in
-    omega (arith, b.error, error_small ss (All-tail IsSliceTable s ss a) c h.1, sum_by-cons (λ (x : Entry). x.error) x c)
+-- ---- frontiers by their numbers of pairs
 
--- ---- layers by their numbers of pairs
-
--- at most as many lists, each of at most as many pairs
+-- no more lists than ys, each with no more pairs
 pub pairs_below : (xs ys : List (List WidePair)) → length xs ≤ length ys → ((k : ℕ) → k < length xs → length (get_or xs k []) ≤ length (get_or ys k [])) → pairs_in xs ≤ pairs_in ys
 pairs_below [] ys n f = omega arith
 pairs_below (x ∷ xs) [] n f = absurd (omega arith)
@@ -49,7 +42,7 @@ pairs_below (x ∷ xs) (y ∷ ys) n f =
     let first : length x ≤ length y = f 0 (omega arith) in
     omega (arith, first, sum_by-cons length x xs, sum_by-cons length y ys, pairs_below xs ys (omega arith) (λ k l. f (suc k) (omega arith)))
 
--- the curves of the first slices, so many of them, with so many points together; the last one is this
+-- the curves of up to k slices have `count` points together, and the last one is `points`
 pub record Curved (slices : List (List Entry)) (k count : ℕ) (points : List WidePair) : Type 0 where
   pub layers : List (List WidePair)
   pub number : length layers ≡ k + 1
@@ -57,7 +50,7 @@ pub record Curved (slices : List (List Entry)) (k count : ℕ) (points : List Wi
   pub total : pairs_in layers ≡ count
   pub last : get_or layers k [] ≡ points
 
-module _ (slices : List (List Entry)) (each : All IsSliceTable slices) (few : length slices ≤ 131070) where
+module _ (slices : List (List Entry)) (each : All IsSliceTable slices) (few : length slices ≤ MAX_TABLE_SLICES) where
   pub curved_first : (points : List WidePair) → points ≡ record { size = 0; error = 0 } ∷ [] → Curved slices 0 1 points
   curved_first points e =
       let none : WidePair = record { size = 0; error = 0 } in
@@ -165,7 +158,7 @@ module _ (slices : List (List Entry)) (each : All IsSliceTable slices) (few : le
       let below = pairs_below c.layers all.0 (omega (arith, c.number, all.1.0)) (λ i l. let e = same_length k count points c all.0 all.1 i (omega (arith, c.number)) (omega (arith, c.number)) in omega arith) in
       (all.0, all.1, omega (arith, over, c.total, below))
 
-  -- where all were made, they are all
+  -- after the last slice they are all
   pub curves_stay : (k count : ℕ) (points : List WidePair) → Curved slices k count points → k ≡ length slices → count ≤ 2 ^ 25 → CurvesPass slices → ⊥
   curves_stay k count points c n under pass =
       let below = pairs_below pass.0 c.layers (omega (arith, c.number, pass.1.0, n)) (λ i l. let e = same_length k count points c pass.0 pass.1 i (omega (arith, pass.1.0, n)) (omega (arith, pass.1.0)) in omega arith) in

@@ -1,4 +1,4 @@
--- There is a layer of undominated pairs of any finite list of pairs.
+-- Every finite list of pairs has a Pareto frontier.
 use Rattle.std.proofs.Common.{◌≡◌, ◌<◌, Bool, true, List, [], ◌∷◌, map, sym, ap, ◌∙◌, subst, arith, ◌⊎◌, inl, inr, ⊎_elim}
 use Rattle.std.specs.List.{Contains, filter, flat_map}
 use Rattle.std.proofs.lemmas.List.Sums.{sum_by-cons}
@@ -16,7 +16,7 @@ build : (q : WidePair) (ps : List WidePair) → RisesAndFalls ps → ((x : WideP
 build q [] h f = tt
 build q (p ∷ ps) h f = let g = f p (contains_head p ps) in (g.0, g.1, h)
 
--- a pair put into a layer
+-- a pair inserted into a frontier
 record Put (old : List WidePair) (p : WidePair) : Type 0 where
   new : List WidePair
   order : RisesAndFalls new
@@ -24,7 +24,7 @@ record Put (old : List WidePair) (p : WidePair) : Type 0 where
   keeps : (x : WidePair) → Contains old x → (q : WidePair) × Contains new q × Dominates q x
   puts : (q : WidePair) × Contains new q × Dominates q p
 
--- a layer's head already dominates it
+-- the head already dominates it
 put_under : (q : WidePair) (qs : List WidePair) (p : WidePair) → RisesAndFalls (q ∷ qs) → Dominates q p → Put (q ∷ qs) p
 put_under q qs p h d = record {
   new = q ∷ qs;
@@ -44,7 +44,7 @@ put_over q qs p d u = record {
   puts = u.puts;
 }
 
--- it comes behind the head
+-- it comes after the head
 put_behind : (q : WidePair) (qs : List WidePair) (p : WidePair) → RisesAndFalls (q ∷ qs) → q.size < p.size → p.error < q.error → Put qs p → Put (q ∷ qs) p
 put_behind q qs p h s e u = record {
   new = q ∷ u.new;
@@ -80,7 +80,7 @@ put (q ∷ qs) p h =
     (λ e. put_under q qs p h (s, e)) (cases_lt p.error q.error))
     (cases_lt p.size q.size)
 
--- the layer of a list of pairs
+-- the frontier of a list of pairs
 front_of : (ps : List WidePair) → (layer : List WidePair) × IsFront (λ p. Contains ps p) layer
 front_of [] = ([], record { order = tt; only = λ p c. c; covers = λ p c. absurd (contains_none p c) })
 front_of (p ∷ ps) =
@@ -120,7 +120,7 @@ reach_pairs (s ∷ ss) (x ∷ c) h =
     (flat_contains (λ x. map (λ p. joined p x) (pairs ss)) s x (joined (wide_of c) x) h.0
     (map_contains (λ p. joined p x) (pairs ss) (wide_of c) (reach_pairs ss c h.1)))
 
--- There is a curve of any slices.
+-- All slices have a curve.
 pub front_of_all : (slices : List (List Entry)) → (layer : List WidePair) × IsFront (Reaches slices) layer
 front_of_all slices =
     let f = front_of (pairs slices) in (
@@ -133,7 +133,7 @@ front_of_all slices =
     )
 
 module _ (slices : List (List Entry)) (Fine : WidePair → Type 0) (test : WidePair → Bool) where
-  -- the layer of the pairs of all choices that pass a test
+  -- the frontier of the pairs of all choices that pass a test
   pub front_of_tested : ((p : WidePair) → test p ≡ true → Fine p) → ((p : WidePair) → Fine p → test p ≡ true) → (layer : List WidePair) × IsFront (λ p. Reaches slices p × Fine p) layer
   front_of_tested there back =
       let f = front_of (filter test (pairs slices)) in (

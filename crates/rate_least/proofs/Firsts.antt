@@ -1,9 +1,10 @@
--- The best choice from the layers.
+-- The best choice from the frontiers.
 use Rattle.std.proofs.Common.{◌≡◌, ℕ, ◌+◌, ◌<◌, ◌≤◌, List, [], ◌∷◌, ◌++◌, take, drop, refl, sym, ap, ◌∙◌, subst, arith, ◌⊎◌, inl, inr, ⊎_elim}
-use Rattle.std.specs.List.{Contains, sum_by}
+use Rattle.std.specs.List.{Contains}
 use Rattle.std.proofs.lemmas.List.{take-append-drop}
 use Rattle.std.proofs.lemmas.List.Sums.{sum_by-cons}
 use Rattle.std.proofs.lemmas.Bool.{cases_lt}
+use Rattle.rate_layers.proofs.Firsts.{sum_append, choice_append}
 use Rattle.rate_table.specs.declared.entry.Entry.{Entry}
 use Rattle.rate_table.specs.declared.entry.Pair.{Pair}
 use Rattle.rate_least.specs.declared.outcome.WidePair.{WidePair}
@@ -18,25 +19,14 @@ use Rattle.rate_table.proofs.Lists.{contains_cases, contains_head}
 use Rattle.rate_least.proofs.Asked.{Fits, IsTest, At}
 use Rattle.rate_table.proofs.Entries.{index_same}
 
--- sums over a choice in two parts
-pub sum_append : (f : Entry → ℕ) (c d : List Entry) → sum_by f (c ++ d) ≡ sum_by f c + sum_by f d
-sum_append f [] d = omega arith
-sum_append f (x ∷ c) d = omega (arith, sum_by-cons f x (c ++ d), sum_by-cons f x c, sum_append f c d)
-
 pub pair_append : (c d : List Entry) → wide_of (c ++ d) ≡ extended (wide_of c) d
 pair_append c d = same_pair _ _ (sum_append (λ x. x.size) c d) (sum_append (λ x. x.error) c d)
-
-pub choice_append : (ss rs : List (List Entry)) (c d : List Entry) → IsChoice ss c → IsChoice rs d → IsChoice (ss ++ rs) (c ++ d)
-choice_append [] rs [] d h i = i
-choice_append [] rs (x ∷ c) d h i = absurd h
-choice_append (s ∷ ss) rs [] d h i = absurd h
-choice_append (s ∷ ss) rs (x ∷ c) d h i = (h.0, choice_append ss rs c d h.1 i)
 
 -- No choice that meets the cap has another pair that dominates this one.
 abbrev pub IsOptimal : Capped → WidePair → Type 0
 IsOptimal t p = (other : List Entry) → IsChoice t.slices other → Fits t other → Dominates (wide_of other) p → wide_of other ≡ p
 
--- The front of a choice with an optimal pair has its pair in the layer.
+-- A prefix of a choice with an optimal pair has its pair in the frontier.
 pub prefix_in : (t : Capped) (u : ℕ) (Fine : List (List Entry) → WidePair → Type 0) → IsTest t u Fine → (k : ℕ) (layer : List WidePair) → IsFront (At t Fine k) layer → (p : WidePair) → IsOptimal t p → p.error ≤ t.cap → p.size ≤ u → (c d : List Entry) → IsChoice (take k t.slices) c → IsChoice (drop k t.slices) d → extended (wide_of c) d ≡ p → Contains layer (wide_of c)
 prefix_in t u Fine test k layer f p opt fits below c d hc hd e =
     let later = drop k t.slices in
@@ -80,12 +70,12 @@ greedy_step s later p goal x d r c least f = record {
 pub greedy_end : (p : WidePair) → IsFirstFrom [] p p []
 greedy_end p = record { chosen = tt; leads = same_pair _ _ (omega arith) (omega arith); first = λ other h e. tt }
 
--- the first pair of a layer has the least size
+-- the first pair of a frontier has the least size
 first_least : (p : WidePair) (back : List WidePair) (q : WidePair) → RisesAndFalls (p ∷ back) → Contains (p ∷ back) q → (q ≡ p) ⊎ (p.size < q.size)
 first_least p back q h c = ⊎_elim (λ e. inl (sym e)) (λ i. inr (first_below p back q h i).0) (contains_cases p back q c)
 
 module _ (t : Capped) (u : ℕ) (Fine : List (List Entry) → WidePair → Type 0) (test : IsTest t u Fine) (p : WidePair) (back : List WidePair) (f : IsFront (λ p. Reaches t.slices p × Fine [] p) (p ∷ back)) where
-  -- what the first pair of the last layer says of each choice within the bound that meets the cap
+  -- what the first pair of the last frontier proves of each choice within the bound that meets the cap
   pub below_first : (other : List Entry) → IsChoice t.slices other → Fits t other → size_of other ≤ u → (p.size ≤ size_of other) × (size_of other ≡ p.size → p.error ≤ error_of other)
   below_first other i fits le =
       let q = f.covers (wide_of other) ((other, i, refl), test.keeps [] (wide_of other) [] tt (omega arith) (omega arith)) in
@@ -94,7 +84,7 @@ module _ (t : Capped) (u : ℕ) (Fine : List (List Entry) → WidePair → Type 
       (λ l. (omega (arith, q.2), λ h. omega (arith, q.2)))
       (first_least p back q.0 f.order q.1)
 
-  -- a choice whose size is at most u meets the cap, and so the first pair is the smallest choice's
+  -- a choice of size at most u meets the cap, so the first pair is the smallest choice's
   pub best_first : (some : List Entry) → IsChoice t.slices some → Fits t some → size_of some ≤ u → (c : List Entry) → IsFirst t.slices p c → IsSmallest t.slices t.cap c
   best_first some i fits le c first =
       let o = f.only p (contains_head p back) in

@@ -1,9 +1,10 @@
--- From found layers to the first choice with the goal's pair.
-use Rattle.std.proofs.Common.{◌≡◌, ℕ, suc, ◌+◌, ◌-◌, ◌^◌, ◌<◌, ◌≤◌, List, [], ◌∷◌, ◌++◌, Vec, Global, Bool, true, false, length, map, get_or, replicate, drop, refl, sym, ap, ◌∙◌, subst, arith, ⊎_elim}
+-- From found frontiers to the first choice with the goal's pair.
+use Rattle.std.proofs.Common.{◌≡◌, ℕ, suc, ◌+◌, ◌-◌, ◌^◌, ◌<◌, ◌≤◌, List, [], ◌∷◌, ◌++◌, Vec, Global, Bool, true, false, length, get_or, replicate, drop, refl, sym, ap, ◌∙◌, subst, arith, ⊎_elim}
 use Rattle.std.specs.List.{Contains}
-use Rattle.std.proofs.lemmas.List.{length-replicate, get_or_append_left, get_or_push, get_or-map, get_or_default, length_push, drop_all, map_push, append_assoc, append-nil}
+use Rattle.std.proofs.lemmas.List.{length-replicate, get_or_append_left, get_or_push, get_or_default, length_push, drop_all, map_push, append_assoc, append-nil}
 use Rattle.std.proofs.lemmas.Bool.{cases_lt}
 use Rattle.std.proofs.Math.Seq.{drop-cons}
+use Rattle.rate_table.proofs.Vectors.{items_of}
 use Rattle.rate_table.specs.declared.entry.Entry.{Entry}
 use Rattle.rate_least.specs.declared.outcome.WidePair.{WidePair}
 use Rattle.rate_table.specs.Table.{IsChoice, size_of, error_of, indices, IndicesRise}
@@ -21,29 +22,14 @@ use Rattle.rate_least.proofs.Leading.{AreLive, leads_next, live_step, walk_step,
 use Rattle.rate_least.proofs.Marked.{marked_first}
 use Rattle.rate_least.proofs.Produced.{whole}
 
--- the pairs of each vector
-abbrev pub items_of : List (Vec WidePair Global) → List (List WidePair)
-items_of vs = map (λ v. v.items) vs
-
--- what an index gives, as an element of the list of lists
-pub element : (vs : List (Vec WidePair Global)) (k : ℕ) (v : Vec WidePair Global) (xs : List WidePair) → k < length vs → v ≡ get_or vs k v → xs ≡ v.items → xs ≡ get_or (items_of vs) k []
-element vs k v xs n is e = e ∙ ap (λ (w : Vec WidePair Global). w.items) is ∙ sym (get_or-map (λ (w : Vec WidePair Global). w.items) vs k v [] n)
-
--- the marks of each vector
-abbrev pub marks_in : List (Vec Bool Global) → List (List Bool)
-marks_in vs = map (λ v. v.items) vs
-
-pub mark_element : (vs : List (Vec Bool Global)) (k : ℕ) (v : Vec Bool Global) (xs : List Bool) → k < length vs → v ≡ get_or vs k v → xs ≡ v.items → xs ≡ get_or (marks_in vs) k []
-mark_element vs k v xs n is e = e ∙ ap (λ (w : Vec Bool Global). w.items) is ∙ sym (get_or-map (λ (w : Vec Bool Global). w.items) vs k v [] n)
-
-pub marks_push : (vs : List (Vec Bool Global)) (v : Vec Bool Global) → marks_in (vs ++ v ∷ []) ≡ marks_in vs ++ v.items ∷ []
+pub marks_push : (vs : List (Vec Bool Global)) (v : Vec Bool Global) → items_of (vs ++ v ∷ []) ≡ items_of vs ++ v.items ∷ []
 marks_push vs v = map_push (λ (w : Vec Bool Global). w.items) vs v
 
 -- the entries of a slice, as an element of the table's
 pub entries_at : (all slices : List (List Entry)) (k : ℕ) (s entries : List Entry) → slices ≡ all → k < length all → s ≡ get_or slices k s → entries ≡ s → entries ≡ get_or all k []
 entries_at all slices k s entries same n is e = e ∙ is ∙ ap (λ l. get_or l k s) same ∙ get_or_default all k s [] n
 
--- the marks of the layers from k on, the last layer's first
+-- the marks of the frontiers from k on, the last one's first
 pub record MarkedFrom (slices : List (List Entry)) (goal : WidePair) (layers : List (List WidePair)) (marks : List (List Bool)) (k : ℕ) : Type 0 where
   pub count : length marks + k ≡ suc (length slices)
   pub each : (i j : ℕ) → i < length marks → i + j ≡ length slices → MarkedTo (drop j slices) goal (get_or layers j []) (get_or marks i [])
@@ -75,12 +61,12 @@ module _ (t : Capped) (m u : ℕ) (goal : WidePair) (layers : List (List WidePai
       let e = goal_least other i f (omega (arith, d.0, goal_below)) in
       same_pair (wide_of other) goal (omega (arith, d.0, e.0)) (omega (arith, d.0, d.1, e.0, e.1))
 
-  -- ---- from the last layer back
+  -- ---- from the last frontier back
 
   pub last_long : 0 < length (get_or layers (length t.slices) [])
   last_long = omega (arith, ap length found.first.1)
 
-  -- the goal alone, in the last layer
+  -- the goal alone, in the last frontier
   pub lead_end : (marks : List Bool) → marks ≡ true ∷ replicate (length (get_or layers (length t.slices) []) - 1) false → MarkedTo (drop (length t.slices) t.slices) goal (get_or layers (length t.slices) []) marks
   lead_end marks is =
       let layer = get_or layers (length t.slices) [] in
@@ -120,7 +106,7 @@ module _ (t : Capped) (m u : ℕ) (goal : WidePair) (layers : List (List WidePai
             (subst (λ ms. MarkedTo (drop (length t.slices) t.slices) goal (get_or layers (length t.slices) []) (get_or ms 0 [])) (sym e) (lead_end last is)));
       }
 
-  -- the marks of the next layer, as the step before has them
+  -- the marks of the next frontier, as the step before left them
   pub marks_last : (marks : List (List Bool)) (k : ℕ) → k < length t.slices → MarkedFrom t.slices goal layers marks (suc k) → MarkedTo (drop (suc k) t.slices) goal (get_or layers (suc k) []) (get_or marks (length marks - 1) [])
   marks_last marks k n a = a.each (length marks - 1) (suc k) (omega (arith, a.count)) (omega (arith, a.count))
 
@@ -157,9 +143,9 @@ module _ (t : Capped) (m u : ℕ) (goal : WidePair) (layers : List (List WidePai
     each = λ i j s. a.each i j (omega (arith, a.count)) s;
   }
 
-  -- ---- from nothing forward
+  -- ---- from the empty pair forward
 
-  -- nothing is in the first layer
+  -- the empty pair is in the first frontier
   pub none_first : Contains (get_or layers 0 []) (record { size = 0; error = 0 })
   none_first =
       let r = goal_reached in
@@ -175,7 +161,7 @@ module _ (t : Capped) (m u : ℕ) (goal : WidePair) (layers : List (List WidePai
       let ee : error_of r.0 ≡ goal.error = ap (λ (p : WidePair). p.error) r.2 in
       (r.0, r.1, same_pair (extended (record { size = 0; error = 0 }) r.0) goal (omega arith) (omega arith))
 
-  -- a live pair leads on to a live pair
+  -- a live pair leads to a live pair
   pub live_on : (k : ℕ) (live live_next : List WidePair) (p : WidePair) → k < length t.slices → LeadTo (drop k t.slices) goal (get_or layers k []) live → LeadTo (drop (suc k) t.slices) goal (get_or layers (suc k) []) live_next → Contains live p → LeadsOn (get_or t.slices k []) live_next p
   live_on k live live_next p n a b c =
       let s = a.some p c in
@@ -194,7 +180,7 @@ module _ (t : Capped) (m u : ℕ) (goal : WidePair) (layers : List (List WidePai
 
 -- ---- the walk
 
--- where the walk stands after k slices
+-- the walk after k slices
 pub record Walking (slices : List (List Entry)) (goal : WidePair) (layers : List (List WidePair)) (marks : List (List Bool)) (k : ℕ) (p : WidePair) (chosen : List ℕ) : Type 0 where
   pub taken : List Entry
   pub has : chosen ≡ indices taken
@@ -246,14 +232,14 @@ module _ (slices : List (List Entry)) (goal : WidePair) (layers : List (List Wid
       stays p ([], h, e) = let b = ap (λ (q : WidePair). q.size) e in let b' = ap (λ (q : WidePair). q.error) e in same_pair p goal (omega arith) (omega arith)
       stays p (x ∷ d, h, e) = absurd h
 
--- ---- what the first pair of the last layer tells
+-- ---- what the first pair of the last frontier proves
 
 module _ (t : Capped) (m u : ℕ) (layers : List (List WidePair)) (kept : AreKept t m u layers) where
   ends : (p : WidePair) (back : List WidePair) → get_or layers (length t.slices) [] ≡ p ∷ back → IsFront (λ p. Reaches t.slices p × Stays t m u [] p) (p ∷ back)
   ends p back e = subst (λ l. IsFront (λ p. Reaches t.slices p × Stays t m u [] p) l) e
       (whole t (Stays t m u) (get_or layers (length t.slices) []) (kept_front t m u (length t.slices) (get_or layers (length t.slices) []) (kept.1 (length t.slices) (omega arith))))
 
-  -- it is the goal where its size is within the bound
+  -- it is the goal if its size is within the bound
   pub found_here : pairs_in layers ≤ 2 ^ 25 → (at : ℕ) → at ≡ length t.slices → (p : WidePair) → (back : List WidePair) × (get_or layers at [] ≡ p ∷ back) → p.size ≤ u → AreFound t m u p layers
   found_here few at n p (back, e) l =
       let e' = subst (λ i. get_or layers i [] ≡ p ∷ back) n e in
@@ -264,7 +250,7 @@ module _ (t : Capped) (m u : ℕ) (layers : List (List WidePair)) (kept : AreKep
       let f = o.1.0 in
       record { kept = kept; few = few; some = (c, o.0.1, omega arith, omega arith); first = (back, e') }
 
-  -- and else no choice that meets the cap is within it
+  -- otherwise no choice that meets the cap is within it
   pub none_within : (at : ℕ) → at ≡ length t.slices → (p : WidePair) → (back : List WidePair) × (get_or layers at [] ≡ p ∷ back) → u < p.size → (c : List Entry) → IsChoice t.slices c → Fits t c → u < size_of c
   none_within at n p (back, e) l c i f =
       let e' = subst (λ i. get_or layers i [] ≡ p ∷ back) n e in

@@ -1,4 +1,4 @@
--- Reading pairs and layers one after the other, as a loop does.
+-- Reading pairs and layers one by one, as a loop does.
 use Rattle.std.proofs.Common.{◌≡◌, ℕ, suc, ◌-◌, ◌+◌, ◌≤◌, ◌<◌, List, [], ◌∷◌, ◌++◌, length, Ok, refl, sym, ap, ◌∙◌, subst, arith}
 use Rattle.std.proofs.lemmas.List.{append-nil}
 use Rattle.pw_outside.specs.Reading.{Rest, Read, bind, Fails}

@@ -1,7 +1,8 @@
--- What is said of a table, put together from what was asked of its parts.
+-- A certificate's verdict from the checks of its parts.
 use Rattle.std.proofs.Common.{◌≡◌, ℕ, List, refl, subst, inl, inr, ⊎_elim, Result, Ok, Err}
-use Rattle.std.specs.Prelude.{◌⊎◌, ◌↔◌, OnOk, IfErr}
+use Rattle.std.specs.Prelude.{◌↔◌, OnOk, IfErr}
 use Rattle.std.proofs.lemmas.Result.{on_ok_weaker}
+use Rattle.rate_check.proofs.Judged.{past}
 use Rattle.rate_table.specs.declared.entry.Entry.{Entry}
 use Rattle.rate_cert.specs.Records.{Asks, AsksNothing}
 use Rattle.rate_check.specs.declared.check.Clause.{Clause}
@@ -12,7 +13,7 @@ module _ (slices : List (List Entry)) (cap : ℕ) where
   pub good_fit : (r : Printed) → HasCounts slices r → HasEntries slices r → SumsAreRight slices cap r → AreGood slices cap r → IsGoodFit slices cap r
   good_fit r counts entries sums layers = record { counts = counts; entries = entries; sums = sums; layers = layers }
 
-  -- the clauses on sums, and those on layers behind them
+  -- the clauses on sums, and those on layers after them
   pub sums_fail : (r : Printed) (n : ℕ) → HasCounts slices r → Asks 3 (HasEntries slices r) (Asks 4 (SumsAreRight slices cap r) AsksNothing) n → Asks 1 (HasCounts slices r) (FailsFit slices cap r) n
   sums_fail r n c h = inr (c, ⊎_elim (λ f. inl f) (λ f. inr (f.0, ⊎_elim (λ g. inl g) (λ g. absurd g.1) f.1)) h)
 
@@ -34,11 +35,7 @@ module _ (slices : List (List Entry)) (cap : ℕ) where
 
   -- ---- good, or a clause that fails
 
-  -- a clause that holds leaves it to those behind it
-  past : {N P B : Type 0} → P → (N × (P → ⊥)) ⊎ (P × B) → B
-  past p h = ⊎_elim (λ f. absurd (f.1 p)) (λ f. f.1) h
-
-  -- of what is good no clause fails
+  -- no clause of a good certificate fails
   none_fails_good : (said : Said) (n : ℕ) → IsGood slices cap said → Fails slices cap said n → ⊥
   none_fails_good (fits r) n g h =
       let l = g.layers in
@@ -49,6 +46,6 @@ module _ (slices : List (List Entry)) (cap : ℕ) where
   exactly said (Ok x) good fails = ((λ e. good), (λ g. refl))
   exactly said (Err c) good fails = ((λ e. absurd cc), (λ g. absurd (none_fails_good said c.number g fails)))
 
-  -- what is good is true
+  -- what a good certificate says is true
   pub sound : (said : Said) (res : Result (Unit {0}) Clause) → GoodIsTrue → OnOk res (IsGood slices cap said) → OnOk res (IsTrueOf slices cap said)
   sound said res true_law good = on_ok_weaker res (λ g. true_law slices cap said g) good

@@ -1,7 +1,8 @@
--- The first index list of the last pair, by the pairs of each layer that lead to it.
+-- The first index list of the goal, by the pairs of each frontier that lead to it.
 use Rattle.std.proofs.Common.{◌≡◌, ℕ, suc, ◌<◌, ◌≤◌, List, [], ◌∷◌, ◌++◌, length, get_or, take, drop, sym, ap, ◌∙◌, subst, arith, ⊎_elim}
 use Rattle.std.specs.List.{Contains}
 use Rattle.std.proofs.Math.Seq.{take-suc, drop-cons}
+use Rattle.rate_layers.proofs.Grown.{choice_push}
 use Rattle.rate_table.specs.declared.entry.Entry.{Entry}
 use Rattle.rate_least.specs.declared.outcome.WidePair.{WidePair}
 use Rattle.rate_table.specs.Table.{IsChoice, IndicesRise}
@@ -11,17 +12,17 @@ use Rattle.rate_least.specs.Pairs.{joined}
 use Rattle.rate_least.specs.Layers.{wide_of, IsFront}
 use Rattle.rate_least.proofs.Fronts.{same_pair}
 use Rattle.rate_table.proofs.Lists.{contains_head, contains_cases, contains_none}
-use Rattle.rate_least.proofs.Grown.{choice_push, pair_push}
+use Rattle.rate_least.proofs.Grown.{pair_push}
 use Rattle.rate_least.proofs.Asked.{IsTest, At}
 use Rattle.rate_least.proofs.Firsts.{IsOptimal, prefix_in, extended_cons, greedy_step}
 
--- What lives of a layer: the pairs that lead to the goal.
+-- The live pairs of a frontier: those that lead to the goal.
 pub record AreLive (later : List (List Entry)) (goal : WidePair) (layer live : List WidePair) : Type 0 where
   pub some : (p : WidePair) → Contains live p → Contains layer p × Leads later p goal
   pub all : (p : WidePair) → Contains layer p → Leads later p goal → Contains live p
 
 module _ (t : Capped) (u : ℕ) (Fine : List (List Entry) → WidePair → Type 0) (test : IsTest t u Fine) (goal : WidePair) (opt : IsOptimal t goal) (fits : goal.error ≤ t.cap) (below : goal.size ≤ u) where
-  -- where a pair of a layer goes on to the goal, the next pair stands in the next layer
+  -- if a pair of a frontier leads to the goal, the next pair is in the next frontier
   pub leads_next : (k : ℕ) (layer next : List WidePair) → k < length t.slices → IsFront (At t Fine k) layer → IsFront (At t Fine (suc k)) next → (p : WidePair) → Contains layer p → (x : Entry) → Contains (get_or t.slices k []) x → Leads (drop (suc k) t.slices) (joined p x) goal → Contains next (joined p x)
   leads_next k layer next n f g p c x i l =
       let o = (f.only p c).0 in
@@ -31,7 +32,7 @@ module _ (t : Capped) (u : ℕ) (Fine : List (List Entry) → WidePair → Type 
       subst (λ q. Contains next q) e
       (prefix_in t u Fine test (suc k) next g goal opt fits below (o.0 ++ x ∷ []) l.0 whole l.1 (ap (λ q. extended q l.0) e ∙ l.2))
 
-  -- the live pairs of a layer, from those of the next
+  -- the live pairs of a frontier, from those of the next
   pub live_step : (k : ℕ) (layer next live_next live : List WidePair) → k < length t.slices → IsFront (At t Fine k) layer → IsFront (At t Fine (suc k)) next → AreLive (drop (suc k) t.slices) goal next live_next → ((p : WidePair) → Contains live p → Contains layer p × (x : Entry) × Contains (get_or t.slices k []) x × Contains live_next (joined p x)) → ((p : WidePair) → Contains layer p → (x : Entry) → Contains (get_or t.slices k []) x → Contains live_next (joined p x) → Contains live p) → AreLive (drop k t.slices) goal layer live
   live_step k layer next live_next live n f g a from to =
       let s = get_or t.slices k [] in
@@ -49,7 +50,7 @@ module _ (t : Capped) (u : ℕ) (Fine : List (List Entry) → WidePair → Type 
           let l : Leads (drop (suc k) t.slices) (joined p x) goal = (d, h.1, sym (extended_cons p x d) ∙ e) in
           to p c x h.0 (a.all (joined p x) (leads_next k layer next n f g p c x h.0 l) l)
 
-  -- one entry of the walk: the first entry whose pair lives
+  -- one step of the walk: the first entry whose pair is live
   pub walk_step : (k : ℕ) (layer next live_next : List WidePair) → k < length t.slices → IsFront (At t Fine k) layer → IsFront (At t Fine (suc k)) next → AreLive (drop (suc k) t.slices) goal next live_next → IndicesRise (get_or t.slices k []) → (p : WidePair) → Contains layer p → (x : Entry) → Contains (get_or t.slices k []) x → Contains live_next (joined p x) → ((y : Entry) → Contains (get_or t.slices k []) y → Contains live_next (joined p y) → x.index ≤ y.index) → (d : List Entry) → IsFirstFrom (drop (suc k) t.slices) (joined p x) goal d → IsFirstFrom (drop k t.slices) p goal (x ∷ d)
   walk_step k layer next live_next n f g a rise p c x i lives first d w =
       subst (λ y. IsFirstFrom y p goal (x ∷ d)) (sym (drop-cons t.slices k [] n))
@@ -66,7 +67,7 @@ live_end goal layer c = record {
     stays p ([], h, e) = let a = ap (λ (q : WidePair). q.size) e in let b = ap (λ (q : WidePair). q.error) e in same_pair p goal (omega arith) (omega arith)
     stays p (x ∷ d, h, e) = absurd h
 
--- what the walk from nothing finds
+-- the choice that the walk from the empty pair finds
 pub first_from_none : (slices : List (List Entry)) (goal : WidePair) (c : List Entry) → IsFirstFrom slices (record { size = 0; error = 0 }) goal c → IsFirst slices goal c
 first_from_none slices goal c w = record {
   chosen = w.chosen;

@@ -1,8 +1,9 @@
--- Found layers under a smaller size.
+-- Found frontiers under a smaller size.
 use Rattle.std.proofs.Common.{◌≡◌, ℕ, zero, suc, ◌+◌, ◌-◌, ◌*◌, ◌<◌, ◌≤◌, List, [], ◌∷◌, Vec, Global, Bool, true, cond, length, get_or, set, drop, nat_lt, refl, sym, ap, ◌∙◌, subst, arith, ⊎_elim}
 use Rattle.std.specs.List.{filter}
 use Rattle.std.proofs.lemmas.Bool.{cases_lt, ltb-true, lt-ltb}
 use Rattle.std.proofs.lemmas.List.{length-set, get_or-set_same, get_or-set_other, drop_all}
+use Rattle.rate_table.proofs.Vectors.{items_of, element}
 use Rattle.rate_least.specs.declared.outcome.WidePair.{WidePair}
 use Rattle.rate_table.specs.Table.{size_of, error_of}
 use Rattle.rate_table.specs.Pairs.{rest}
@@ -10,16 +11,16 @@ use Rattle.rate_least.specs.inner.Live.{Capped, AreFound}
 use Rattle.rate_least.proofs.Asked.{IsKept, AreKept}
 use Rattle.rate_least.proofs.Counts.{kept_less}
 use Rattle.rate_least.proofs.Wholes.{kept_same, kept_are_fewer}
-use Rattle.rate_least.proofs.Found.{items_of, element, goal_reached, goal_fits, goal_below}
+use Rattle.rate_least.proofs.Found.{goal_reached, goal_fits, goal_below}
 use Rattle.rate_least.proofs.Onward.{filter_has, has_filter, rises_filter}
 
--- the layers up to k are those of the size v, and those behind are as they were
+-- the frontiers up to k are those of the size v, and those after are unchanged
 pub record Lessened (t : Capped) (m v : ℕ) (before now : List (List WidePair)) (k : ℕ) : Type 0 where
   pub count : length now ≡ length before
   pub done : (i : ℕ) → i ≤ k → IsKept t m v i (get_or now i [])
   pub left : (i : ℕ) → k < i → get_or now i [] ≡ get_or before i []
 
--- what a ceiling keeps of a layer: the pairs whose weight is below it
+-- the pairs of a frontier whose cost is below a ceiling
 abbrev pub keeps : ℕ → ℕ → WidePair → Bool
 keeps multiplier ceiling p = nat_lt (p.error + multiplier * p.size) ceiling
 
@@ -61,7 +62,7 @@ module _ (t : Capped) (m v : ℕ) (before : List (List WidePair)) (count : lengt
     left = λ i l. get_or-set_other now (k + 1) i layer [] (λ e. omega arith) ∙ a.left i (omega arith);
   }
 
--- a vector of the layers, and what the test leaves of it
+-- a vector of the frontiers, and the pairs of it that pass the test
 pub kept_vector : (t : Capped) (m u v k : ℕ) (vs : List (Vec WidePair Global)) (old new : Vec WidePair Global) (multiplier ceiling : ℕ) → v ≤ u → k < length vs → IsKept t m u k (get_or (items_of vs) k []) → old ≡ get_or vs k old
     → new.items ≡ filter (keeps multiplier ceiling) old.items → multiplier ≡ m → ceiling ≡ (t.cap + m * v + 1) - rest m (drop k t.slices) → IsKept t m v k new.items
 kept_vector t m u v k vs old new multiplier ceiling l n h is e em ec =
@@ -80,7 +81,7 @@ filter_first : (test : WidePair → Bool) (p : WidePair) (back : List WidePair) 
 filter_first test p back h = (filter test back, ap (λ b. cond b (p ∷ filter test back) (filter test back)) h)
 
 module _ (t : Capped) (m u : ℕ) (goal : WidePair) (before : List (List WidePair)) (found : AreFound t m u goal before) where
-  -- the layer of its size, told as a filter of the last layer
+  -- the frontier of its size, as a filter of the last frontier
   end_is : (layer : List WidePair) → IsKept t m goal.size (length t.slices) layer → (back : List WidePair) × (layer ≡ goal ∷ back)
   end_is layer h =
       let n = length t.slices in

@@ -1,5 +1,4 @@
 pub mod Orders
-pub mod Vectors
 pub mod Covered
 pub mod Stepped
 pub mod Sound

@@ -14,7 +14,7 @@ use Rattle.rate_least.specs.inner.Live.{StandsAt, LeadsAt, marked, MarkedMore, M
 use Rattle.rate_least.proofs.Fronts.{first_smaller, rises_tail}
 use Rattle.rate_least.proofs.Onward.{rises_at, build_rises}
 
--- ---- which pairs have a mark
+-- ---- which pairs are marked
 
 pub marked_has : (marks : List Bool) (layer : List WidePair) (p : WidePair) → Contains (marked marks layer) p → (i : ℕ) × (i < length layer) × (get_or layer i p ≡ p) × (get_or marks i false ≡ true)
 marked_has [] layer p c = absurd (contains_none p c)
@@ -61,7 +61,7 @@ none_marked (q ∷ back) = none_marked back
 pub marked_first : (p : WidePair) (back : List WidePair) → marked (true ∷ replicate (length back) false) (p ∷ back) ≡ p ∷ []
 marked_first p back = ap (λ l. p ∷ l) (none_marked back)
 
--- ---- the place of a pair
+-- ---- the position of a pair
 
 same_place : (layer : List WidePair) (i j : ℕ) (d : WidePair) → Rises layer → i < length layer → j < length layer → (get_or layer i d).size ≡ (get_or layer j d).size → i ≡ j
 same_place layer i j d h n l e =
@@ -138,7 +138,7 @@ module _ (slice : List Entry) (next : List WidePair) (next_marks : List Bool) (l
   abbrev pub Source : ℕ → WidePair → Type 0
   Source k p = (i : ℕ) × (i < k) × (get_or next_marks i false ≡ true) × (x : Entry) × Contains slice x × ((d : WidePair) → joined p x ≡ get_or next i d)
 
-  -- the sources of the first k pairs have a mark
+  -- the sources of the first k pairs are marked
   pub record MarkedSo (marks : List Bool) (k : ℕ) : Type 0 where
     pub count : length marks ≡ length layer
     pub each : (j : ℕ) (d : WidePair) → j < length layer → (get_or marks j false ≡ true) ↔ Source k (get_or layer j d)

@@ -1,4 +1,4 @@
--- Entries that no pair of the layer can pass with are left out.
+-- Entries that are pruned with every pair of the frontier are left out.
 use Rattle.std.proofs.Common.{ℕ, ◌+◌, ◌<◌, ◌≤◌, List, [], ◌∷◌, ◌++◌, length, get_or, take, sym, subst, arith, ⊎_elim}
 use Rattle.std.specs.List.{Contains}
 use Rattle.std.proofs.lemmas.List.{take_more}
@@ -34,14 +34,14 @@ module _ (b : Bound) (layer : List WidePair) where
   passing_kept slice few k d n t =
       subst (λ y. Passing b layer y (few ++ get_or slice k d ∷ [])) (sym (take_more slice k d n)) (passing_push (take k slice) few (get_or slice k d) t)
 
-  -- With the least weight of the layer's pairs it passes the bound, and so it does with each pair.
+  -- With the least cost of the frontier's pairs it exceeds the bound, and so it does with each pair.
   pub passing_left : (slice few : List Entry) (k least : ℕ) (d : Entry) → k < length slice → IsBelowWeights b.multiplier layer least → b.most < least + b.floor + cost b.multiplier (get_or slice k d) → Passing b layer (take k slice) few → Passing b layer (take (k + 1) slice) few
   passing_left slice few k least d n f l t =
       let x = get_or slice k d in
       subst (λ y. Passing b layer y few) (sym (take_more slice k d n))
       (passing_skip (take k slice) few x (λ p c w. let e : least ≤ weight b.multiplier p = All-contains (λ q. least ≤ weight b.multiplier q) layer p f c in omega (arith, e, l, w)) t)
 
--- what is made of the entries that are left is the next layer
+-- the merge with the remaining entries is the next frontier
 pub next_passing : (b : Bound) (layer : List WidePair) (slice few : List Entry) (next : List WidePair) → Passing b layer slice few → IsNext b layer few next → IsNext b layer slice next
 next_passing b layer slice few next t f = record {
   order = f.order;

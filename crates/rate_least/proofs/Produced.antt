@@ -1,10 +1,12 @@
--- What is said of the smallest choice with its held layers is good.
+-- The outcome with the smallest choice and its held frontiers is good.
 use Rattle.std.proofs.Common.{◌≡◌, ℕ, suc, ◌+◌, ◌*◌, ◌<◌, ◌≤◌, List, [], ◌∷◌, ◌++◌, length, get_or, take, drop, refl, sym, ap, ◌∙◌, subst, arith, ◌⊎◌, inl, inr, ⊎_elim}
 use Rattle.std.specs.List.{Contains, All}
 use Rattle.std.proofs.lemmas.List.{take_all, drop_all, get_or_default}
-use Rattle.std.proofs.lemmas.List.Elements.{Contains-get_or}
 use Rattle.std.proofs.lemmas.Bool.{cases_lt}
 use Rattle.std.proofs.Math.Seq.{take-suc}
+use Rattle.pw_outside.proofs.Lists.{all_from}
+use Rattle.rate_layers.proofs.Firsts.{length_chosen}
+use Rattle.rate_layers.proofs.Grown.{choice_push}
 use Rattle.rate_table.specs.declared.entry.Entry.{Entry}
 use Rattle.rate_table.specs.Table.{IsChoice, IsSliceTable, size_of, error_of, indices}
 use Rattle.rate_table.specs.Pairs.{rest}
@@ -17,28 +19,25 @@ use Rattle.rate_least.specs.Answers.{IsSmallest}
 use Rattle.rate_least.specs.inner.First.{IsFirst}
 use Rattle.rate_least.specs.inner.Live.{Capped}
 use Rattle.rate_least.proofs.Fronts.{front_layer, one_layer}
-use Rattle.rate_least.proofs.Grown.{choice_push, pair_push}
+use Rattle.rate_least.proofs.Grown.{pair_push}
 use Rattle.rate_least.proofs.Asked.{Meets, Within, Fits, IsKept, AreKept, At, Stays, kept_test, layer_none}
 use Rattle.rate_least.proofs.Kept.{kept_front}
 use Rattle.rate_least.proofs.Firsts.{best_first}
 use Rattle.rate_least.proofs.Stepped.{all_by_number}
 
-all_from : {X : Type 0} (P : X → Type 0) (xs : List X) → ((x : X) → Contains xs x → P x) → All P xs
-all_from P xs f k d h = f (get_or xs k d) (Contains-get_or xs k d h)
-
--- what is printed of a choice
+-- the printed record of a choice
 abbrev pub printed_of : List Entry → ℕ → List (List WidePair) → Printed
 printed_of b m layers = record { choice = indices b; size = size_of b; error = error_of b; multiplier = m; layers = layers }
 
 module _ (t : Capped) (m u : ℕ) where
-  -- what comes of a pair: it passes, or a clause says why not
+  -- a pair passes, or a clause says why not
   judged : (later : List (List Entry)) (p : WidePair) → Stays t m u later p ⊎ (Meets t later p → ⊥) ⊎ (Within t m u later p → ⊥)
   judged later p =
       ⊎_elim (λ l. inr (inl (λ h. omega arith)))
       (λ l. ⊎_elim (λ g. inr (inr (λ h. omega arith))) (λ g. inl (l, g)) (cases_lt (t.cap + m * u) (p.error + rest m later + m * p.size)))
       (cases_lt t.cap (p.error + least_error later))
 
-  -- one layer and the next
+  -- one frontier and the next
   steps_at : (r : Printed) → r.multiplier ≡ m → r.size ≡ u → (k : ℕ) (layer next : List WidePair) → k < length t.slices → IsFront (At t (Stays t m u) k) layer → IsFront (At t (Stays t m u) (suc k)) next → Steps t.cap r (get_or t.slices k []) (drop (suc k) t.slices) layer next
   steps_at r em eu k layer next h f g =
       let s = get_or t.slices k [] in
@@ -57,19 +56,13 @@ module _ (t : Capped) (m u : ℕ) where
       covered p c x i (inr (inl other)) = inr (inl other)
       covered p c x i (inr (inr other)) = inr (inr (λ stays. other (subst (λ n. Within t n u (drop (suc k) t.slices) (joined p x)) em (subst (λ n. Within t r.multiplier n (drop (suc k) t.slices) (joined p x)) eu stays))))
 
-pub length_indices : (c : List Entry) (ss : List (List Entry)) → IsChoice ss c → length (indices c) ≡ length ss
-length_indices [] [] h = refl
-length_indices [] (s ∷ ss) h = absurd h
-length_indices (x ∷ c) [] h = absurd h
-length_indices (x ∷ c) (s ∷ ss) h = omega (arith, length_indices c ss h.1)
-
--- the layer after all slices
+-- the frontier after all slices
 pub whole : (t : Capped) (Fine : List (List Entry) → WidePair → Type 0) (layer : List WidePair) → IsFront (At t Fine (length t.slices)) layer → IsFront (λ p. Reaches t.slices p × Fine [] p) layer
 whole t Fine layer f =
     subst (λ l. IsFront (λ p. Reaches l p × Fine [] p) layer) (take_all (length t.slices) t.slices (omega arith))
     (subst (λ l. IsFront (λ p. Reaches (take (length t.slices) t.slices) p × Fine l p) layer) (drop_all (length t.slices) t.slices (omega arith)) f)
 
--- the smallest choice with the layers held under its size
+-- the smallest choice with the frontiers held under its size
 pub produced_kept : (t : Capped) → All IsSliceTable t.slices → (b : List Entry) → IsSmallest t.slices t.cap b → (m : ℕ) (layers : List (List WidePair)) → AreKept t m (size_of b) layers → IsGoodFit t.slices t.cap (printed_of b m layers)
 produced_kept t each b best m layers a =
     let none : WidePair = record { size = 0; error = 0 } in
@@ -82,7 +75,7 @@ produced_kept t each b best m layers a =
     let m0 = front_layer _ (get_or layers 0 []) (front 0 (omega arith)) in
     let fn = whole t (Stays t m u) (get_or layers (length t.slices) []) (front (length t.slices) (omega arith)) in
     record {
-      counts = (length_indices b t.slices best.choice, a.0);
+      counts = (length_chosen t.slices b best.choice, a.0);
       entries = (b, best.choice, refl);
       sums = λ c h e. subst (λ d. (size_of d ≡ size_of b) × (error_of d ≡ error_of b) × (error_of d ≤ t.cap)) (choice_same t.slices each b c best.choice h (sym e)) (refl, refl, best.under);
       layers = record {
@@ -97,7 +90,8 @@ produced_kept t each b best m layers a =
       };
     }
 
--- The first pair of the last held layer is that of the smallest choice, where the size is that of some choice that meets the cap, or more.
+-- The first pair of the last held frontier is that of the smallest choice, if some choice that meets the cap has no
+-- more size than u.
 pub best_kept : (t : Capped) (m u : ℕ) (some : List Entry) (layer back : List WidePair) (p : WidePair) (c : List Entry) → IsChoice t.slices some → Fits t some → size_of some ≤ u → IsKept t m u (length t.slices) layer → layer ≡ p ∷ back → IsFirst t.slices p c → IsSmallest t.slices t.cap c
 best_kept t m u some layer back p c i fits le f e first =
     let g = whole t (Stays t m u) layer (kept_front t m u (length t.slices) layer f) in

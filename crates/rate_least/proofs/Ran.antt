@@ -1,8 +1,8 @@
--- What a run wrote, by how it ended.
-use Rattle.std.proofs.Common.{◌≡◌, ℕ, ◌≤◌, List, [], Result, Ok, refl, sym, subst}
+-- The outputs of a run, by its outcome.
+use Rattle.std.proofs.Common.{◌≡◌, ℕ, ◌≤◌, List, Result, Ok, refl, sym, subst}
 use Rattle.pw_outside.specs.Ports.{last}
 use Rattle.pw_outside.specs.Reading.{Fault}
-use Rattle.pw_outside.specs.Writing.{SinkState, Puts, PutsFront, Extends}
+use Rattle.pw_outside.specs.Writing.{SinkState, Puts, PutsFront}
 use Rattle.pw_outside.proofs.Puts.{puts_none, puts_front}
 use Rattle.rate_table.specs.declared.fault.ProofKind.{ProofKind}
 use Rattle.rate_table.specs.Table.{Table}
@@ -28,10 +28,6 @@ wrote ends.LayersFull Is cert cert' text text' c lines is all e p q = absurd p
 wrote (ends.BadProof kind place) Is cert cert' text text' c lines is all e p q = absurd p
 wrote (ends.Refused clause) Is cert cert' text text' c lines is all e p q = absurd p
 
--- A front of the certificate was written, and no line.
+-- A prefix of the certificate was written, and no line.
 pub wrote_front : (Is : Certificate → Type 0) (cert cert' text : SinkState) (c : Certificate) → Is c → PutsFront cert cert' (cert_bytes c) → text.taken ≤ last → WritesLeast ends.WriteFault Is cert cert' text text
 wrote_front Is cert cert' text c is front h = record { certificate = c; is = is; bytes = front; lines = record { out = 0; front = puts_none text h } }
-
--- nothing was appended
-pub none_extends : (before : SinkState) → before.taken ≤ last → Extends before before
-none_extends before h = ([], puts_none before h)

@@ -1,4 +1,4 @@
--- A certificate that was written is read again.
+-- A certificate that is written is read as that certificate.
 use Rattle.std.proofs.Common.{◌≡◌, ℕ, suc, ◌+◌, ◌^◌, ◌<◌, ◌≤◌, List, [], ◌∷◌, ◌++◌, length, refl, sym, ap, ◌∙◌, arith, length-append, append_assoc}
 use Rattle.std.proofs.lemmas.List.{append-nil}
 use Rattle.std.specs.Int.{w64, to_be_bytes}
@@ -9,10 +9,12 @@ use Rattle.std.proofs.lemmas.List.Elements.{All-head, All-tail}
 use Rattle.std.proofs.lemmas.Bool.{le-ltb, lt-leb}
 use Rattle.rate_table.specs.Table.{Table}
 use Rattle.rate_table.specs.Body.{body_bytes}
-use Rattle.rate_table.proofs.ReadAgain.{body-again}
+use Rattle.rate_table.proofs.ReadAgain.{body-again, indices-again}
 use Rattle.rate_cert.specs.Layers.{most_pairs}
-use Rattle.rate_cert.specs.Files.{in_proof, indices_at}
-use Rattle.rate_cert.proofs.Steps.{bind-step, refuse-step, byte-here, four-here, eight-here, found, same_rest}
+use Rattle.rate_table.specs.Nested.{in_proof}
+use Rattle.rate_table.specs.declared.fault.ProofKind.TheVariants.{ProofShort}
+use Rattle.pw_outside.proofs.Steps.{bind-step, refuse-step, found, same_rest}
+use Rattle.rate_table.proofs.Here.{byte-here, four-here, eight-here}
 use Rattle.rate_least.specs.declared.outcome.WidePair.{WidePair}
 use Rattle.rate_least.specs.Records.{Printed, Said, fits, none, Certificate}
 use Rattle.rate_least.specs.Files.{pair_bytes, layer_bytes, sums_bytes, fit_bytes, said_bytes, cert_bytes, IsPair, IsPrintable, CanBeSaid, HasWidths, AreWide, IsWritten, size_at, pair_at, pairs_at, layer_at, layers_at, fit_at, none_at, verdict_at, said_at, cert_at, certified}
@@ -21,14 +23,14 @@ use Rattle.rate_least.specs.Laws.{CertificateIsReadAgain}
 size-again : (n place : ℕ) (behind : List ℕ) → n < 2 ^ 34 → size_at (record { place = place; bytes = to_be_bytes w64 n ++ behind }) ≡ found n (place + 8) behind
 unfolding size_at
 size-again n place behind small =
-    bind-step _ _ (eight-here n place behind (omega (arith, small)))
+    bind-step _ _ (eight-here ProofShort n place behind (omega (arith, small)))
     ∙ refuse-step _ _ _ _ (lt-leb (2 ^ 34) n small)
 
 pair-again : (p : WidePair) (place : ℕ) (behind : List ℕ) → IsPair p → pair_at (record { place = place; bytes = pair_bytes p ++ behind }) ≡ found p (place + 16) behind
 unfolding pair_at pair_bytes
 pair-again p place behind is =
     bind-step _ _ (size-again p.size place (to_be_bytes w64 p.error ++ behind) is.0)
-    ∙ bind-step _ _ (eight-here p.error (place + 8) behind is.1)
+    ∙ bind-step _ _ (eight-here ProofShort p.error (place + 8) behind is.1)
     ∙ same_rest p _ _ behind (omega arith)
 
 length-pair : (p : WidePair) → length (pair_bytes p) ≡ 16
@@ -53,7 +55,7 @@ layer-again : (held : ℕ) (layer : List WidePair) (place : ℕ) (behind : List 
     → layer_at held (record { place = place; bytes = layer_bytes layer ++ behind }) ≡ found layer (place + length (layer_bytes layer)) behind
 unfolding layer_at layer_bytes
 layer-again held layer place behind few are =
-    bind-step _ _ (four-here (length layer) place (flat_map pair_bytes layer ++ behind) (omega (arith, few)))
+    bind-step _ _ (four-here ProofShort (length layer) place (flat_map pair_bytes layer ++ behind) (omega (arith, few)))
     ∙ refuse-step _ _ _ _ (le-ltb most_pairs (held + length layer) few)
     ∙ pairs-again layer (place + 4) behind are
     ∙ same_rest layer _ _ behind (omega arith)
@@ -73,14 +75,6 @@ layers-again held (l ∷ ls) place behind few are =
     ∙ bind-step _ _ (layers-again (held + length l) ls (place + length (layer_bytes l)) behind (omega (arith, few, sums)) (All-tail (λ layer. All IsPair layer) l ls are))
     ∙ same_rest (l ∷ ls) _ _ behind long
 
-indices-again : (choice : List ℕ) (place : ℕ) (behind : List ℕ) → indices_at (length choice) (record { place = place; bytes = choice ++ behind }) ≡ found choice (place + length choice) behind
-unfolding indices_at
-indices-again [] place behind = same_rest [] _ _ behind (omega arith)
-indices-again (x ∷ xs) place behind =
-    bind-step _ _ (byte-here x place (xs ++ behind))
-    ∙ bind-step _ _ (indices-again xs (place + 1) behind)
-    ∙ same_rest (x ∷ xs) _ _ behind (omega arith)
-
 fit-again : (t : Table) (r : Printed) (place : ℕ) (behind : List ℕ) → IsPrintable t r → HasWidths r
     → fit_at (length t.slices) (record { place = place; bytes = fit_bytes r ++ behind }) ≡ found (fits r) (place + length (fit_bytes r)) behind
 unfolding fit_at fit_bytes
@@ -94,8 +88,8 @@ fit-again t r place behind is wide =
     ∙ ap (λ l. fit_at c (record { place = place; bytes = l })) split
     ∙ bind-step _ _ (indices-again r.choice place (to_be_bytes w64 r.size ++ (to_be_bytes w64 r.error ++ (to_be_bytes w64 r.multiplier ++ (layers ++ behind)))))
     ∙ bind-step _ _ (size-again r.size (place + c) (to_be_bytes w64 r.error ++ (to_be_bytes w64 r.multiplier ++ (layers ++ behind))) wide.size)
-    ∙ bind-step _ _ (eight-here r.error (place + c + 8) (to_be_bytes w64 r.multiplier ++ (layers ++ behind)) wide.error)
-    ∙ bind-step _ _ (eight-here r.multiplier (place + c + 8 + 8) (layers ++ behind) wide.multiplier)
+    ∙ bind-step _ _ (eight-here ProofShort r.error (place + c + 8) (to_be_bytes w64 r.multiplier ++ (layers ++ behind)) wide.error)
+    ∙ bind-step _ _ (eight-here ProofShort r.multiplier (place + c + 8 + 8) (layers ++ behind) wide.multiplier)
     ∙ bind-step _ _ (ap (λ n. layers_at n 0 (record { place = place + c + 8 + 8 + 8; bytes = layers ++ behind })) (ap suc is.counts.0 ∙ sym is.counts.1)
     ∙ layers-again 0 r.layers (place + c + 8 + 8 + 8) behind (omega (arith, is.few)) wide.pairs)
     ∙ same_rest (fits r) _ _ behind (omega (arith, length-append r.choice (sums_bytes r.size r.error r.multiplier ++ layers)))
@@ -104,14 +98,14 @@ said-again : (t : Table) (s : Said) (place : ℕ) (behind : List ℕ) → CanBeS
     → said_at (length t.slices) (record { place = place; bytes = said_bytes s ++ behind }) ≡ found s (place + length (said_bytes s)) behind
 unfolding said_at verdict_at none_at said_bytes
 said-again t (fits p) place behind c wide =
-    bind-step _ _ (byte-here 1 place (fit_bytes p ++ behind))
+    bind-step _ _ (byte-here ProofShort 1 place (fit_bytes p ++ behind))
     ∙ bind-step _ _ refl
     ∙ fit-again t p (place + 1) behind c wide
     ∙ same_rest (fits p) _ _ behind (omega arith)
 said-again t (none n) place behind c wide =
-    bind-step _ _ (byte-here 0 place (to_be_bytes w64 n ++ behind))
+    bind-step _ _ (byte-here ProofShort 0 place (to_be_bytes w64 n ++ behind))
     ∙ bind-step _ _ refl
-    ∙ bind-step _ _ (eight-here n (place + 1) behind wide)
+    ∙ bind-step _ _ (eight-here ProofShort n (place + 1) behind wide)
     ∙ same_rest (none n) _ _ behind (omega arith)
 
 cert-again : (c : Certificate) (place : ℕ) → IsWritten c → cert_at (record { place = place; bytes = cert_bytes c }) ≡ found c (place + length (cert_bytes c)) []
@@ -119,11 +113,11 @@ unfolding cert_at cert_bytes
 cert-again c place is =
     let body = body_bytes c.table in
     let said = said_bytes c.said in
-    bind-step _ _ (four-here 0x50574C43 place (1 ∷ (to_be_bytes w64 c.cap ++ (body ++ said))) (omega arith))
+    bind-step _ _ (four-here ProofShort 0x50574C43 place (1 ∷ (to_be_bytes w64 c.cap ++ (body ++ said))) (omega arith))
     ∙ bind-step _ _ refl
-    ∙ bind-step _ _ (byte-here 1 (place + 4) (to_be_bytes w64 c.cap ++ (body ++ said)))
+    ∙ bind-step _ _ (byte-here ProofShort 1 (place + 4) (to_be_bytes w64 c.cap ++ (body ++ said)))
     ∙ bind-step _ _ refl
-    ∙ bind-step _ _ (eight-here c.cap (place + 4 + 1) (body ++ said) is.cap)
+    ∙ bind-step _ _ (eight-here ProofShort c.cap (place + 4 + 1) (body ++ said) is.cap)
     ∙ bind-step _ _ (ap in_proof (body-again c.table (place + 4 + 1 + 8) said is.table))
     ∙ bind-step _ _ (ap (λ l. said_at (length c.table.slices) (record { place = place + 4 + 1 + 8 + length body; bytes = l })) (sym (append-nil said))
     ∙ said-again c.table c.said (place + 4 + 1 + 8 + length body) [] is.said is.widths)

@@ -1,4 +1,4 @@
--- When layers are too many.
+-- Frontiers with too many pairs.
 use Rattle.std.proofs.Common.{ℕ, ◌^◌, ◌<◌, ◌≤◌, List, arith}
 use Rattle.rate_table.specs.declared.entry.Entry.{Entry}
 use Rattle.rate_table.specs.Table.{IsChoice, size_of, error_of}
@@ -14,7 +14,8 @@ use Rattle.rate_least.proofs.Bends.{bend_choice, bend_meets}
 abbrev pub capped : List (List Entry) → ℕ → Capped
 capped slices cap = record { slices = slices; cap = cap }
 
--- Where the layers of a size are too many that isn't above the bend's, so are those of the bend's size.
+-- If the frontiers of a size up to that of the Lagrangian minimisers are too large, so are those of the minimisers'
+-- size.
 pub passes_by_bend : (slices : List (List Entry)) (cap m v : ℕ) (bend : List Entry) → IsGreatestMultiplier slices cap m → IsBend m slices bend → v ≤ size_of bend → ((layers : List (List WidePair)) → AreHeld slices cap m v layers → 2 ^ 25 < pairs_in layers) → PassesByBend slices cap
 passes_by_bend slices cap m v bend i a l full =
     let some = kept_exist (capped slices cap) m v in
@@ -29,10 +30,10 @@ passes_by_bend slices cap m v bend i a l full =
       passes = omega (arith, full some.0 some.1, kept_are_fewer (capped slices cap) m (size_of bend) v all.0 some.0 l all.1 some.1);
     }
 
--- the bend meets the cap, and its size is within itself
+-- the minimisers meet the cap, and their size is within itself
 pub bend_within : (slices : List (List Entry)) (cap m : ℕ) (bend : List Entry) → IsGreatestMultiplier slices cap m → IsBend m slices bend → IsChoice slices bend × (error_of bend ≤ cap)
 bend_within slices cap m bend i a = (bend_choice m slices bend a, bend_meets slices cap m bend a i.meets)
 
--- Only slices with many sizes have such layers.
+-- Only slices with many sizes have such frontiers.
 pub wide_passes : (slices : List (List Entry)) (cap : ℕ) → PassesByBend slices cap → IsWide slices
 wide_passes slices cap p = omega (arith, p.passes, kept_narrow (capped slices cap) p.multiplier (size_of p.bend) p.layers p.held)

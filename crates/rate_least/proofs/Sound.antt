@@ -1,4 +1,4 @@
--- The clauses of a good certificate imply that no choice of error at most the cap has less size.
+-- No choice of error at most the cap has less size than a good certificate.
 use Rattle.std.proofs.Common.{◌≡◌, ℕ, suc, ◌+◌, ◌*◌, ◌<◌, ◌≤◌, List, [], ◌∷◌, length, get_or, refl, sym, subst, arith, inl, inr, ⊎_elim}
 use Rattle.std.specs.List.{Contains, All}
 use Rattle.std.proofs.lemmas.List.Sums.{sum_by-cons}
@@ -16,7 +16,8 @@ use Rattle.rate_least.specs.Records.{Printed, fits, none, IsCovered, AllStep, Is
 use Rattle.rate_least.specs.Laws.{GoodIsTrue}
 
 module _ (cap : ℕ) (r : Printed) where
-  -- What could go on to a choice of less size that meets the cap is dominated by a pair of the next layer.
+  -- A pair that can be completed to a choice of less size that meets the cap is dominated by a pair of the next
+  -- layer.
   covered : (later : List (List Entry)) (next : List WidePair) (p q : WidePair) (d : List Entry) → IsCovered cap r later next q → Dominates q p → IsChoice later d → p.error + error_of d ≤ cap → p.size + size_of d < r.size → (q' : WidePair) × Contains next q' × Dominates q' p
   covered later next p q d (inl (q', has, below)) dom c meets less = (q', has, (omega arith, omega arith))
   covered later next p q d (inr (inl full)) dom c meets less =
@@ -26,7 +27,8 @@ module _ (cap : ℕ) (r : Printed) where
       let h : m * (q.size + size_of d) ≤ m * r.size = mul-le m (q.size + size_of d) m r.size (omega arith) (omega arith) in
       absurd (passes (omega (arith, rest_below m later d c, h)))
 
-  -- By the slices that are left: p is the pair of a choice of the slices before, and the layer's pair q dominates it.
+  -- By induction over the remaining slices: p is the pair of a choice of the slices before, and the layer's pair q
+  -- dominates it.
   no_less : (slices : List (List Entry)) (layers : List (List WidePair)) (layer : List WidePair) (p q : WidePair) (d : List Entry) → AllStep cap r slices (layer ∷ layers) → length layers ≡ length slices → All (λ p. r.size ≤ p.size) (get_or (layer ∷ layers) (length slices) []) → Contains layer q → Dominates q p → IsChoice slices d → p.error + error_of d ≤ cap → p.size + size_of d < r.size → ⊥
   no_less [] layers layer p q [] steps n last has dom c meets less =
       let h = All-contains (λ (p : WidePair). r.size ≤ p.size) layer q last has in omega arith
@@ -43,7 +45,7 @@ module _ (cap : ℕ) (r : Printed) where
       let g = covered ss next (joined p x) (joined q x) d at_x (omega arith, omega arith) c.1 meets' less' in
       no_less ss layers next (joined p x) g.0 d steps.1 (omega arith) last g.1 g.2 c.1 meets' less'
 
-  -- the whole table, from a first layer of nothing
+  -- the whole table, from the first layer (the empty pair)
   no_less_whole : (slices : List (List Entry)) (layers : List (List WidePair)) (d : List Entry) → length layers ≡ suc (length slices) → get_or layers 0 [] ≡ record { size = 0; error = 0 } ∷ [] → AllStep cap r slices layers → All (λ p. r.size ≤ p.size) (get_or layers (length slices) []) → IsChoice slices d → error_of d ≤ cap → size_of d < r.size → ⊥
   no_less_whole slices [] d n first steps last c meets less = omega arith
   no_less_whole slices (layer ∷ layers) d n first steps last c meets less =

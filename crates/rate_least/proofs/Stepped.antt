@@ -1,11 +1,9 @@
 -- The steps from layer to layer, by the number of the slice.
 use Rattle.std.proofs.Common.{◌≡◌, ℕ, zero, suc, ◌+◌, ◌-◌, ◌*◌, ◌<◌, ◌≤◌, List, [], ◌∷◌, length, get_or, drop, sym, ap, ◌∙◌, subst, arith, inl, inr, ⊎_elim}
 use Rattle.std.specs.Prelude.{◌↔◌}
-use Rattle.std.specs.List.{All, sum_by}
+use Rattle.std.specs.List.{All}
 use Rattle.std.proofs.lemmas.Bool.{cases_lt}
-use Rattle.std.proofs.lemmas.List.{get_or_default}
-use Rattle.std.proofs.lemmas.List.Sums.{sum_by-cons}
-use Rattle.std.proofs.Math.Seq.{drop-cons}
+use Rattle.rate_check.proofs.Stepped.{sum_step}
 use Rattle.rate_table.specs.declared.entry.Entry.{Entry}
 use Rattle.rate_table.specs.Table.{least}
 use Rattle.rate_table.specs.Pairs.{rest, cost}
@@ -16,7 +14,7 @@ use Rattle.rate_least.specs.Records.{Printed, IsCovered, Steps, AllStep}
 use Rattle.rate_least.specs.inner.Covering.{IsBoundOf, Covers, CoversEntry}
 use Rattle.rate_least.specs.inner.Printed.{of_layers}
 
--- what is printed of a multiplier and a size
+-- a printed record with a multiplier and a size
 abbrev pub by : ℕ → ℕ → Printed
 by m size = of_layers [] size 0 m []
 
@@ -27,7 +25,7 @@ StepsAt slices cap m size layers k = Steps cap (by m size) (get_or slices k []) 
 abbrev pub StepsUntil : List (List Entry) → ℕ → ℕ → ℕ → List (List WidePair) → ℕ → Type 0
 StepsUntil slices cap m size layers n = (k : ℕ) → k < n → StepsAt slices cap m size layers k
 
--- a bound tells the same of a pair as the definitions
+-- the bound agrees with the definitions
 pub covers_is : (cap m size : ℕ) (later : List (List Entry)) (b : Bound) → IsBoundOf cap m size later b → (next : List WidePair) (p : WidePair) → Covers b next p ↔ IsCovered cap (by m size) later next p
 covers_is cap m size later b o next p =
     let e : b.multiplier * p.size ≡ m * p.size = ap (λ n. n * p.size) o.multiplier in (
@@ -44,7 +42,7 @@ steps_is cap m size later b o slice layer next = (
 )
 
 module _ (cap : ℕ) (r : Printed) where
-  -- over the slices that are left
+  -- over the remaining slices
   pub all_by_number : (slices : List (List Entry)) (layers : List (List WidePair)) → length layers ≡ suc (length slices)
       → ((k : ℕ) → k < length slices → Steps cap r (get_or slices k []) (drop (suc k) slices) (get_or layers k []) (get_or layers (suc k) [])) → AllStep cap r slices layers
   all_by_number [] layers n h = tt
@@ -60,11 +58,6 @@ module _ (cap : ℕ) (r : Printed) where
   number_of_all (s ∷ ss) (l ∷ m ∷ ls) n h zero lt = h.0
   number_of_all (s ∷ ss) (l ∷ m ∷ ls) n h (suc k) lt = number_of_all ss (m ∷ ls) (omega (arith, n)) h.1 k (omega (arith, lt))
 
--- a sum over the slices to come, with one slice less
-sum_step : (f : List Entry → ℕ) (slices : List (List Entry)) (k : ℕ) (s : List Entry) → k < length slices → s ≡ get_or slices k [] → sum_by f (drop k slices) ≡ f s + sum_by f (drop (suc k) slices)
-sum_step f slices k s n e =
-    ap (λ l. sum_by f l) (drop-cons slices k [] n) ∙ sum_by-cons f (get_or slices k []) (drop (suc k) slices) ∙ ap (λ l. f l + sum_by f (drop (suc k) slices)) (sym e)
-
 -- the numbers of the next bound
 pub errors_next : (slices : List (List Entry)) (k : ℕ) (s : List Entry) → k < length slices → s ≡ get_or slices k [] → (errors x : ℕ) → errors ≡ least_error (drop k slices) → x ≡ least (λ x. x.error) s
     → (x ≤ errors) × (errors - x ≡ least_error (drop (suc k) slices))
@@ -78,7 +71,7 @@ costs_next slices m k s n is costs y e f = let step = sum_step (least (λ x. x.e
 pub until_more : (slices : List (List Entry)) (cap m size : ℕ) (layers : List (List WidePair)) (n : ℕ) → StepsUntil slices cap m size layers n → StepsAt slices cap m size layers n → StepsUntil slices cap m size layers (n + 1)
 until_more slices cap m size layers n far here k lt = ⊎_elim (λ l. far k l) (λ l. let e : n ≡ k = omega (arith, l, lt) in subst (StepsAt slices cap m size layers) e here) (cases_lt k n)
 
--- the step as it is tested
+-- the step as it is checked
 pub step_is : (slices : List (List Entry)) (cap m size k : ℕ) (b : Bound) → IsBoundOf cap m size (drop (suc k) slices) b → (slice : List Entry) (layer next : List WidePair) (layers : List (List WidePair))
     → slice ≡ get_or slices k [] → layer ≡ get_or layers k [] → next ≡ get_or layers (suc k) []
     → All (CoversEntry b layer next) slice ↔ StepsAt slices cap m size layers k
@@ -91,10 +84,6 @@ step_is slices cap m size k b o slice layer next layers e f g =
           (subst (λ x. Steps cap (by m size) (get_or slices k []) (drop (suc k) slices) x next) (sym f)
           (subst (λ x. Steps cap (by m size) (get_or slices k []) (drop (suc k) slices) (get_or layers k []) x) (sym g) a)))),
     )
-
--- the entries of the slice of a number
-pub entries_at : (slices all : List (List Entry)) (k : ℕ) (slice entries : List Entry) → k < length all → all ≡ slices → slice ≡ get_or all k slice → entries ≡ slice → entries ≡ get_or slices k []
-entries_at slices all k slice entries n same is e = e ∙ is ∙ get_or_default all k slice [] n ∙ ap (λ l. get_or l k []) same
 
 pub bound_next : (slices : List (List Entry)) (cap m size k : ℕ) (s : List Entry) → k < length slices → s ≡ get_or slices k [] → (errors costs x y : ℕ)
     → errors ≡ least_error (drop k slices) → costs ≡ rest m (drop k slices) → x ≡ least (λ x. x.error) s → y ≡ least (cost m) s

@@ -1,4 +1,4 @@
--- All kept layers of a table together.
+-- All held frontiers of a table together.
 use Rattle.std.proofs.Common.{◌≡◌, ℕ, zero, suc, ◌+◌, ◌*◌, ◌<◌, ◌≤◌, List, [], ◌∷◌, ◌++◌, length, get_or, take, drop, leb, ◌&&◌, sym, subst, arith, ⊎_elim}
 use Rattle.std.proofs.lemmas.List.{get_or_append_left, get_or_push, length_push}
 use Rattle.std.proofs.lemmas.List.Sums.{sum_by-cons}
@@ -25,13 +25,13 @@ pairs_room (x ∷ xs) b f =
     let more = pairs_room xs b (λ k l. f (suc k) (omega arith)) in
     omega (arith, first, more, sum_by-cons length x xs)
 
--- ---- kept layers
+-- ---- held frontiers
 
 pub kept_same : (t : Capped) (m u k : ℕ) (first second : List WidePair) → IsKept t m u k first → IsKept t m u k second → first ≡ second
 kept_same t m u k first second f g =
     one_layer _ first second (front_layer _ first (kept_front t m u k first f)) (front_layer _ second (kept_front t m u k second g))
 
--- the kept layer after each number of slices
+-- the held frontier after each number of slices
 a_kept : (t : Capped) (m u k : ℕ) → (layer : List WidePair) × IsKept t m u k layer
 a_kept t m u k =
     let later = drop k t.slices in
@@ -41,7 +41,7 @@ a_kept t m u k =
     (f.0, front_kept t m u k f.0 f.1)
 
 module _ (t : Capped) (m u : ℕ) where
-  -- the kept layers of the first slices
+  -- the held frontiers of the first slices
   record Upto (n : ℕ) : Type 0 where
     layers : List (List WidePair)
     count : length layers ≡ n

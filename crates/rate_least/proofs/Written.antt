@@ -26,13 +26,13 @@ unfolding vector_bytes
 by_vectors [] = refl
 by_vectors (x ∷ xs) = ap (λ l. layer_bytes x.items ++ l) (by_vectors xs)
 
--- what stands in front of what is said
+-- the part before the outcome
 pub cert_parts : (c : Certificate) → ((codes "PWLC" ++ (1 ∷ to_be_bytes w64 c.cap)) ++ body_bytes c.table) ++ said_bytes c.said ≡ cert_bytes c
 unfolding cert_bytes
 cert_parts c =
     append_assoc (codes "PWLC" ++ (1 ∷ to_be_bytes w64 c.cap)) (body_bytes c.table) (said_bytes c.said)
 
--- ---- in turn
+-- ---- one by one
 
 pub one_front : {a b : SinkState} (x y text : List ℕ) → text ≡ x ++ y → PutsFront a b x → PutsFront a b text
 one_front {a} {b} x y text e p = subst (PutsFront a b) (sym e) (front_more y p)
@@ -52,7 +52,7 @@ pub layer_item : (xs : List (Vec WidePair Global)) (i : ℕ) (v : Vec WidePair G
 unfolding vector_bytes
 layer_item xs i v layer is e = ap layer_bytes e ∙ ap (λ (w : Vec WidePair Global). layer_bytes w.items) is
 
--- ---- what is said
+-- ---- the outcome
 
 pub fit_text : (r : Printed) (choice sums : List ℕ) (layers : List (List WidePair)) → choice ≡ r.choice → sums ≡ sums_bytes r.size r.error r.multiplier → layers ≡ r.layers
     → 1 ∷ (choice ++ (sums ++ flat_map layer_bytes layers)) ≡ said_bytes (fits r)

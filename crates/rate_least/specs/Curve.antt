@@ -1,14 +1,14 @@
--- All undominated pairs of size and error of a table's choices. Our own definitions.
+-- The Pareto frontier of a table's choices, called its curve. Our own definitions.
 use Rattle.std.specs.Prelude.{◌≡◌, ℕ, suc, ◌<◌, ◌≤◌, ◌^◌, List, [], length, slice_index_or, take}
 use Rattle.rate_table.specs.declared.entry.Entry.{Entry}
 use Rattle.rate_least.specs.declared.outcome.WidePair.{WidePair}
 use Rattle.rate_least.specs.Layers.{Reaches, IsLayer, pairs_in}
 
--- sizes rising, the pairs of all choices of these slices that no other such pair dominates
+-- by rising size, the pairs of choices of these slices that no other one dominates
 abbrev pub IsCurve : List (List Entry) → List WidePair → Type 0
 IsCurve slices points = IsLayer (Reaches slices) points
 
--- the curves of the first k slices, for each k up to their number
+-- the curves of the first k slices, for each k up to the number of slices
 abbrev pub AreCurves : List (List Entry) → List (List WidePair) → Type 0
 AreCurves slices layers = (length layers ≡ suc (length slices)) × ((k : ℕ) → k ≤ length slices → IsCurve (take k slices) (slice_index_or layers k []))
 

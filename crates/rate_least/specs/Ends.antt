@@ -1,4 +1,4 @@
--- How runs end that look for smallest choices. Our own definitions.
+-- Outcomes of the runs for smallest choices. Our own definitions.
 use Rattle.std.specs.Prelude.{◌≡◌, ℕ, Bool, true, false, List, []}
 use Rattle.pw_outside.specs.Writing.{SinkState, Puts, PutsFront}
 use Rattle.rate_table.specs.declared.fault.TableFault.{TableFault}
@@ -20,31 +20,31 @@ abbrev pub is_write_fault : LeastEnd → Bool
 is_write_fault ends.WriteFault = true
 is_write_fault _ = false
 
--- the end with the fields of a fault of a table file or a certificate
+-- the outcome for an error of a table file or a certificate
 abbrev pub fault_end : TableFault → LeastEnd
 fault_end (faults.Bad kind place) = ends.BadProof kind place
 fault_end faults.Failed = ends.ReadFault
 fault_end faults.NoMemory = ends.NoMemory
 
--- the end of a search that answered nothing
+-- the outcome for an error of the search
 abbrev pub best_end : BestFault → LeastEnd
 best_end best_faults.LayersFull = ends.LayersFull
 best_end best_faults.NoMemory = ends.NoMemory
 
--- The answer is this one, unless a port failed or memory ran out.
+-- The outcome is this one, unless a port failed or memory ran out.
 abbrev pub AnswersUnlessOutside : LeastEnd → LeastEnd → Type 0
 AnswersUnlessOutside ends.NoMemory end = Unit {0}
 AnswersUnlessOutside ends.ReadFault end = Unit {0}
 AnswersUnlessOutside ends.WriteFault end = Unit {0}
 AnswersUnlessOutside answer end = answer ≡ end
 
--- A part of a run that only prints ended.
+-- the outcome of a part of a run that only prints
 abbrev pub IsPrintersEnd : LeastEnd → Type 0
 IsPrintersEnd ends.Done = Unit {0}
 IsPrintersEnd ends.WriteFault = Unit {0}
 IsPrintersEnd _ = ⊥
 
--- After Done these bytes were appended, after a fault of writing a front of them, and after every other answer nothing.
+-- After Done, these bytes were appended; after WriteFault, a prefix of them; otherwise nothing.
 abbrev pub PrintsLines : LeastEnd → List ℕ → SinkState → SinkState → Type 0
 PrintsLines ends.Done lines before after = Puts before after lines
 PrintsLines ends.WriteFault lines before after = PutsFront before after lines

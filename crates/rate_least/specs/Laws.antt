@@ -1,4 +1,4 @@
--- Laws of certificates and of curves, over the definitions alone.
+-- Laws of certificates and of curves, independent of any program.
 use Rattle.std.specs.Prelude.{◌≡◌, ℕ, List, Ok}
 use Rattle.rate_table.specs.declared.entry.Entry.{Entry}
 use Rattle.rate_least.specs.declared.outcome.WidePair.{WidePair}
@@ -6,14 +6,15 @@ use Rattle.rate_least.specs.Records.{Said, Certificate, IsGood, IsTrueOf}
 use Rattle.rate_least.specs.Curve.{IsCurve}
 use Rattle.rate_least.specs.Files.{IsWritten, cert_bytes, certified}
 
--- What a good certificate says is true. This is said of every certificate, whoever made it, and whatever multiplier it has.
+-- What a good certificate says is true. This holds for every certificate, whoever made it and whatever its
+-- multiplier.
 abbrev pub GoodIsTrue : Type 0
 GoodIsTrue = (slices : List (List Entry)) (cap : ℕ) (said : Said) → IsGood slices cap said → IsTrueOf slices cap said
 
--- The certificate that was written is read again.
+-- A certificate that is written is read as that certificate.
 abbrev pub CertificateIsReadAgain : Type 0
 CertificateIsReadAgain = (c : Certificate) → IsWritten c → certified (cert_bytes c) ≡ Ok c
 
--- The undominated pairs of some slices are one list.
+-- The Pareto frontier of some slices is unique.
 abbrev pub CurveIsOne : Type 0
 CurveIsOne = (slices : List (List Entry)) (first second : List WidePair) → IsCurve slices first → IsCurve slices second → first ≡ second

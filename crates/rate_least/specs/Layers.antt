@@ -1,4 +1,5 @@
--- Pairs of size and error, layer by layer: of any pairs, those that no other dominates. Our own definitions.
+-- Pareto frontiers of pairs of size and error. A frontier is called a layer here, as in the format. Our own
+-- definitions.
 use Rattle.std.specs.Prelude.{◌≡◌, ℕ, ◌<◌, ◌↔◌, List, [], ◌∷◌, length}
 use Rattle.std.specs.List.{sum_by, Contains}
 use Rattle.rate_table.specs.declared.entry.Entry.{Entry}
@@ -20,16 +21,17 @@ Rises [] = Unit {0}
 Rises (p ∷ []) = Unit {0}
 Rises (p ∷ q ∷ ps) = (p.size < q.size) × Rises (q ∷ ps)
 
--- No other such pair dominates p.
+-- p is one of the pairs, and no other one dominates it.
 abbrev pub IsUndominated : (WidePair → Type 0) → WidePair → Type 0
 IsUndominated Is p = Is p × ((q : WidePair) → Is q → Dominates q p → q ≡ p)
 
--- in rising order of size and each once, the pairs that no other such pair dominates
+-- the Pareto frontier of the pairs: by rising size, those that no other one dominates
 pub record IsLayer (Is : WidePair → Type 0) (layer : List WidePair) : Type 0 where
   pub rises : Rises layer
   pub has : (p : WidePair) → Contains layer p ↔ IsUndominated Is p
 
--- The same, in the form that a merge shows: each pair of the layer is one, and each one is dominated by a pair of the layer.
+-- The same in the form that a merge establishes: each pair of the layer is one of the pairs, and each of the pairs
+-- is dominated by one of the layer.
 pub record IsFront (Is : WidePair → Type 0) (layer : List WidePair) : Type 0 where
   pub order : RisesAndFalls layer
   pub only : (p : WidePair) → Contains layer p → Is p
@@ -39,6 +41,6 @@ pub record IsFront (Is : WidePair → Type 0) (layer : List WidePair) : Type 0 w
 abbrev pub Joins : List WidePair → List Entry → WidePair → Type 0
 Joins layer slice p = (q : WidePair) × (x : Entry) × Contains layer q × Contains slice x × (p ≡ joined q x)
 
--- how many pairs layers have together
+-- the number of pairs of all layers together
 abbrev pub pairs_in : List (List WidePair) → ℕ
 pairs_in layers = sum_by length layers

@@ -1,4 +1,4 @@
--- Choices under a cap on the error. The budget and the fixed bytes of a table aren't asked. Our own definitions.
+-- Choices under a cap on the error. The budget and the fixed bytes of a table don't matter. Our own definitions.
 use Rattle.std.specs.Prelude.{ℕ, ◌≤◌, List}
 use Rattle.rate_table.specs.declared.entry.Entry.{Entry}
 use Rattle.rate_table.specs.Table.{IsChoice, error_of}

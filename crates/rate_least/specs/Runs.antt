@@ -1,4 +1,5 @@
--- What the runs over table files and certificates answer and write, by the bytes that they read. Our own definitions.
+-- The outcomes and the outputs of the runs over table files and certificates, by the bytes that they read. Our own
+-- definitions.
 use Rattle.std.specs.Prelude.{◌≡◌, ℕ, List, [], ◌++◌, length, Result, Ok, Err, codes}
 use Rattle.std.specs.List.{flat_map}
 use Rattle.std.specs.Fmt.{decimal}
@@ -18,7 +19,8 @@ use Rattle.rate_least.specs.Ends.{AnswersUnlessOutside}
 abbrev pub yes_text : List ℕ
 yes_text = codes "yes\n"
 
--- the answer to a certificate, where no port failed and memory lasted: done where it is good, and else the first clause that fails
+-- the outcome for a certificate, unless a port failed or memory ran out: Done if it is good, otherwise the first
+-- clause that fails
 abbrev pub Judges : Certificate → LeastEnd → Type 0
 Judges c ends.Done = IsGood c.table.slices c.cap c.said
 Judges c (ends.Refused clause) = Fails c.table.slices c.cap c.said clause
@@ -27,7 +29,7 @@ Judges c ends.ReadFault = Unit {0}
 Judges c ends.WriteFault = IsGood c.table.slices c.cap c.said
 Judges c _ = ⊥
 
--- the answer to a file: the first fault of a file that is no certificate, and else the answer to its certificate
+-- the outcome for a file: the first error of an invalid file, or the outcome for its certificate
 abbrev pub AnswersCheck : Result Certificate (Fault ProofKind) → LeastEnd → Type 0
 AnswersCheck (Err f) end = AnswersUnlessOutside end (ends.BadProof f.kind f.place)
 AnswersCheck (Ok c) end = Judges c end
@@ -37,18 +39,18 @@ abbrev pub SaysTrue : Result Certificate (Fault ProofKind) → Type 0
 SaysTrue (Err f) = ⊥
 SaysTrue (Ok c) = IsTrueOf c.table.slices c.cap c.said
 
--- ---- all undominated pairs
+-- ---- the Pareto frontier
 
 -- the line of a pair
 abbrev pub point_line : WidePair → List ℕ
 point_line p = codes "point " ++ decimal p.size ++ codes " " ++ decimal p.error ++ codes "\n"
 
--- a line for each pair, and their number
+-- a line for each pair, and one with their number
 abbrev pub curve_text : List WidePair → List ℕ
 curve_text points = flat_map point_line points ++ codes "points " ++ decimal (length points) ++ codes "\n"
 
--- the answer to a table, where no port failed and memory lasted: too full exactly where the curves of the first slices have more
--- than 2^25 points together
+-- the outcome for a table, unless a port failed or memory ran out: LayersFull exactly if the curves of the first
+-- slices have more than 2^25 points together
 abbrev pub AnswersPoints : Table → LeastEnd → Type 0
 AnswersPoints t ends.Done = CurvesPass t.slices → ⊥
 AnswersPoints t ends.LayersFull = CurvesPass t.slices
@@ -66,7 +68,7 @@ abbrev pub IsCurveText : Result Table (Fault ProofKind) → List ℕ → Type 0
 IsCurveText (Err f) text = ⊥
 IsCurveText (Ok t) text = (points : List WidePair) × IsCurve t.slices points × (text ≡ curve_text points)
 
--- After Done lines that are so were appended, after a fault of writing a front of them, and after every other answer nothing.
+-- After Done, such lines were appended; after WriteFault, a prefix of them; otherwise nothing.
 abbrev pub PrintsText : LeastEnd → (List ℕ → Type 0) → SinkState → SinkState → Type 0
 PrintsText ends.Done Is before after = (text : List ℕ) × Is text × Puts before after text
 PrintsText ends.WriteFault Is before after = (text : List ℕ) × Is text × PutsFront before after text

@@ -1,4 +1,4 @@
-//! What the pairs of a layer are compared with.
+//! The bound that prunes the pairs of a layer.
 
 ghost use Rattle.std.specs.Prelude.{◌≡◌, ◌<◌, ◌^◌};
 ghost use Rattle.rate_least.specs.inner.Covering.{weight};
@@ -6,8 +6,8 @@ ghost use Rattle.rate_least.specs.Records.{IsNarrow};
 
 use crate::outcome::WidePair;
 
-/// With some slices to come: a pair can meet the cap where its error and theirs are within it, and it stays within the bound where
-/// its weight and the floor are at most the most.
+/// The bound with some slices still to come: a pair can meet the cap if its error plus `errors` is at most `cap`,
+/// and is not pruned if its Lagrangian cost plus `floor` is at most `most`.
 #[derive(Clone, Copy)]
 pub struct Bound {
     pub errors: u64,
@@ -17,7 +17,7 @@ pub struct Bound {
     pub multiplier: u64,
 }
 
-/// The error of a pair, and the multiplier for each of its bytes.
+/// The Lagrangian cost of a pair: its error plus `multiplier` times its size.
 pub fn weight_of(pair: &WidePair, multiplier: u64) -> u128
     requires { IsNarrow pair.now }
     ensures value { result ≡ weight multiplier pair.now }

@@ -1,4 +1,4 @@
-//! Checking a certificate: which of its clauses fails first.
+//! Checks a certificate: which of its clauses fails first.
 
 ghost use Rattle.std.specs.Prelude.{◌≡◌, ◌<◌, ◌^◌, ◌↔◌, ℕ, suc, List, IsTrue, Ok, OnOk, IfErr, length, map};
 ghost use Rattle.std.specs.List.{All};
@@ -14,7 +14,7 @@ use crate::steps::all_step;
 use rate_check::Clause;
 use rate_table::{FrameTable, indices_tell_choice, total};
 
-/// Where no choice meets the cap: the least error is the printed one, and above the cap.
+/// If no choice meets the cap: the least error is as printed and exceeds the cap.
 fn check_none(table: &FrameTable, cap: u64, printed: u64) -> Result<(), Clause>
     ensures good { OnOk result (SaysNone table.now.slices cap printed) }
     ensures fails { IfErr result (λ c. Asks 2 (SaysNone table.now.slices cap printed) AsksNothing c.number) }
@@ -26,7 +26,7 @@ fn check_none(table: &FrameTable, cap: u64, printed: u64) -> Result<(), Clause>
     }
 }
 
-/// The choice has entries, and its sums are the printed ones and meet the cap.
+/// The choice has entries, and its sums are as printed and meet the cap.
 fn check_sums(
     table: &FrameTable,
     cap: u64,
@@ -34,11 +34,12 @@ fn check_sums(
     size: u64,
     error: u64,
 ) -> Result<(), Clause>
-    ensures good { OnOk result (HasEntries table.now.slices (of_sums choice.now size error) × SumsAreRight table.now.slices cap (of_sums choice.now size error)) }
+    ensures good { OnOk result (HasEntries table.now.slices (of_sums choice.now size error) × SumsAreRight
+        table.now.slices cap (of_sums choice.now size error)) }
     ensures fails { IfErr result (λ c. Asks 3 (HasEntries table.now.slices (of_sums choice.now size error))
         (Asks 4 (SumsAreRight table.now.slices cap (of_sums choice.now size error)) AsksNothing) c.number) }
 {
-    // Of a table within its limits one choice alone has these indices.
+    // The indices of a choice determine it, since the table is within its limits.
     let _slices = table.slices.as_slice();
     indices_tell_choice();
     let Some((bytes, errors)) = total(table, choice) else {
@@ -51,7 +52,8 @@ fn check_sums(
     }
 }
 
-/// The layers begin with the pair of nothing, are in order, cover each step, and end with no less size than is printed.
+/// The first layer is the empty pair, the layers are in order and cover each step, and the last has no less size
+/// than the printed one.
 fn check_layers(
     table: &FrameTable,
     cap: u64,
@@ -62,8 +64,11 @@ fn check_layers(
     requires count { length layers.now ≡ suc (length table.now.slices) }
     requires size { size < 2 ^ 34 }
     requires narrow { All (λ layer. All IsNarrow layer) (map (λ l. l.items) layers.now) }
-    ensures good { (choice : List ℕ) (error : ℕ) → OnOk result (AreGood table.now.slices cap (of_layers choice size error multiplier (map (λ l. l.items) layers.now))) }
-    ensures fails { (choice : List ℕ) (error : ℕ) → IfErr result (λ c. FailsLayers table.now.slices cap (of_layers choice size error multiplier (map (λ l. l.items) layers.now)) c.number) }
+    ensures good { (choice : List ℕ) (error : ℕ) → OnOk result
+        (AreGood table.now.slices cap (of_layers choice size error multiplier (map (λ l. l.items) layers.now))) }
+    ensures fails { (choice : List ℕ) (error : ℕ) → IfErr result
+        (λ c. FailsLayers table.now.slices cap (of_layers choice size error multiplier (map (λ l. l.items) layers.now))
+        c.number) }
 {
     if !is_empty_pair(&layers[0]) {
         return Err(Clause { number: 5 });
@@ -80,15 +85,16 @@ fn check_layers(
     Ok(())
 }
 
-/// Whether there is an index for each slice, and a layer more.
+/// Whether there is one index for each slice, and one layer more than slices.
 fn has_counts(table: &FrameTable, choice: &[u8], layers: &[Vec<WidePair>]) -> bool
-    ensures { IsTrue result ↔ ((length choice.now ≡ length table.now.slices) × (length layers.now ≡ suc (length table.now.slices))) }
+    ensures { IsTrue result ↔ ((length choice.now ≡ length table.now.slices)
+        × (length layers.now ≡ suc (length table.now.slices))) }
 {
     let slices = table.slices.as_slice().len();
     choice.len() == slices && layers.len() == slices + 1
 }
 
-/// Where a choice meets the cap: all that is asked of what is printed of it.
+/// All clauses on a choice that meets the cap.
 fn check_fit(
     table: &FrameTable,
     cap: u64,
@@ -100,7 +106,8 @@ fn check_fit(
 ) -> Result<(), Clause>
     requires size { size < 2 ^ 34 }
     requires narrow { All (λ layer. All IsNarrow layer) (map (λ l. l.items) layers.now) }
-    ensures good { OnOk result (IsGoodFit table.now.slices cap (of_layers choice.now size error multiplier (map (λ l. l.items) layers.now))) }
+    ensures good { OnOk result (IsGoodFit table.now.slices cap
+        (of_layers choice.now size error multiplier (map (λ l. l.items) layers.now))) }
     ensures fails { IfErr result (λ c. Asks 1 (HasCounts table.now.slices (of_layers choice.now size error multiplier (map (λ l. l.items) layers.now)))
         (FailsFit table.now.slices cap (of_layers choice.now size error multiplier (map (λ l. l.items) layers.now))) c.number) }
 {
@@ -129,17 +136,19 @@ fn judge(table: &FrameTable, cap: u64, outcome: &LeastOutcome) -> Result<(), Cla
     }
 }
 
-/// Checks what is said of a table and a cap. The printed size and the sizes of all pairs are below 2^34. No memory is taken.
+/// Checks the outcome for a table and a cap. The printed size and the sizes of all pairs are below 2^34. Takes no
+/// memory.
 ///
-/// The error is the first clause that fails: 1 for the counts of indices and layers, 2 for the least error where no choice meets
-/// the cap, 3 for the choice's entries, 4 for its sums and the cap, 5 for the first layer, 6 for the order in each layer, 7 for the
-/// steps from layer to layer, 8 for the last layer.
+/// The error is the first clause that fails. 1: the counts of indices and layers; 2: the least error if no choice
+/// meets the cap; 3: the choice's entries; 4: its sums and the cap; 5: the first layer; 6: the order in each layer;
+/// 7: the steps from layer to layer; 8: the last layer.
 pub fn check_least(table: &FrameTable, cap: u64, outcome: &LeastOutcome) -> Result<(), Clause>
     requires { AreNarrow (said_by outcome.now) }
-    // The answer is Ok exactly where all clauses hold.
+    // The result is Ok exactly if all clauses hold.
     ensures good { (result ≡ Ok tt) ↔ IsGood table.now.slices cap (said_by outcome.now) }
     ensures fails { IfErr result (λ c. Fails table.now.slices cap (said_by outcome.now) c.number) }
-    // Of whatever is said, whoever said it: the printed choice meets the cap, and none that does has less size; or none does.
+    // For every outcome, whoever made it: the printed choice meets the cap and no choice that does has less size,
+    // or none does.
     ensures sound { OnOk result (IsTrueOf table.now.slices cap (said_by outcome.now)) }
 {
     good_is_true();

@@ -1,28 +1,28 @@
-//! How a run ended.
+//! Outcomes of runs.
 
 use rate_layers::BestFault;
 use rate_table::{ProofKind, TableFault};
 
-/// How a run ended.
+/// The outcome of a run.
 #[derive(Clone, Copy, Debug, PartialEq, Eq)]
 pub enum LeastEnd {
-    /// The whole run was done.
+    /// The run is complete.
     Done,
     /// Memory ran out.
     NoMemory,
-    /// The port that the run reads failed.
+    /// The input port failed.
     ReadFault,
-    /// A port that the run writes failed.
+    /// An output port failed.
     WriteFault,
-    /// The layers of the table have more than 2^25 pairs.
+    /// The Pareto frontiers of the table have more than 2^25 pairs.
     LayersFull,
-    /// The table file or the certificate has this first fault, at this byte.
+    /// The first error of the table file or the certificate, and its offset.
     BadProof { kind: ProofKind, place: u64 },
-    /// This clause of the certificate is the first that fails.
+    /// The first clause of the certificate that fails.
     Refused { clause: u8 },
 }
 
-/// A run that reads a table file or a certificate ends with its fault.
+/// An error of the table file or the certificate is the run's outcome.
 impl From<TableFault> for LeastEnd {
     ghost use Rattle.std.specs.Prelude.{◌≡◌};
     ghost use Rattle.rate_least.specs.Ends.{fault_end};
@@ -38,7 +38,7 @@ impl From<TableFault> for LeastEnd {
     }
 }
 
-/// A search that answered nothing ends the run.
+/// An error of the search is the run's outcome.
 impl From<BestFault> for LeastEnd {
     ghost use Rattle.std.specs.Prelude.{◌≡◌};
     ghost use Rattle.rate_least.specs.Ends.{best_end};

@@ -2,12 +2,13 @@
 
 ghost use Rattle.std.specs.Prelude.{◌≡◌, ◌*◌, ◌<◌, ◌≤◌, ◌^◌, length};
 ghost use Rattle.std.specs.List.{All};
+ghost use Rattle.rate_table.specs.declared.table.TheConstants.{MAX_TABLE_SLICES};
 ghost use Rattle.rate_table.specs.Table.{IsTable, IsSliceTable, IsEntry, least};
 ghost use Rattle.rate_least.specs.Pairs.{least_error};
 
 use rate_table::{Entry, FrameTable, SliceTable};
 
-/// The least error of these entries; there is at least one.
+/// The least error of these entries; there is at least one entry.
 pub fn least_error_of(entries: &[Entry]) -> u64
     requires some { 1 ≤ length entries.now }
     requires limits { All IsEntry entries.now }
@@ -22,7 +23,7 @@ pub fn least_error_of(entries: &[Entry]) -> u64
 }
 
 fn errors_of(slices: &[SliceTable]) -> u64
-    requires few { length slices.now ≤ 131070 }
+    requires few { length slices.now ≤ MAX_TABLE_SLICES }
     requires each { All IsSliceTable slices.now }
     ensures value { result ≡ least_error slices.now }
     ensures small { result ≤ 2 ^ 43 * length slices.now }
@@ -34,7 +35,7 @@ fn errors_of(slices: &[SliceTable]) -> u64
     errors
 }
 
-/// The least errors of a table's slices together, below 2^61. No memory is taken.
+/// The sum of the least errors of a table's slices, below 2^61. Takes no memory.
 pub fn least_errors(table: &FrameTable) -> u64
     ensures value { result ≡ least_error table.now.slices }
     ensures small { result < 2 ^ 61 }

@@ -1,6 +1,6 @@
-//! All layers held under a size.
+//! All Pareto frontiers under a size.
 
-ghost use Rattle.std.specs.Prelude.{◌≡◌, ◌+◌, ◌<◌, ◌≤◌, ◌^◌, ℕ, List, [], ◌∷◌, ◌++◌, OnOk, IfOk, IfErr, length, map};
+ghost use Rattle.std.specs.Prelude.{◌≡◌, ◌+◌, ◌<◌, ◌≤◌, ◌^◌, List, [], ◌∷◌, ◌++◌, OnOk, IfOk, IfErr, length, map};
 ghost use Rattle.rate_layers.specs.declared.fault.BestFault.TheVariants.{LayersFull};
 ghost use Rattle.rate_least.specs.declared.outcome.WidePair.{WidePair};
 ghost use Rattle.rate_least.specs.Layers.{IsFront, pairs_in};
@@ -22,10 +22,10 @@ use rate_layers::BestFault;
 use rate_table::{Entry, FrameTable, least_cost, least_costs};
 use std::alloc::{AllocError, Global};
 
-/// Layers may number so many pairs.
+/// The largest number of pairs of all frontiers together.
 const MOST: usize = 1 << 25;
 
-/// The pair of nothing, where it passes.
+/// The first frontier: the empty pair, if it passes.
 fn first_layer(alloc: Global, bound: &Bound) -> Result<Vec<WidePair>, AllocError>
     requires { IsSmall bound.now }
     ensures { IfOk result (λ v. IsFront (λ p. (p ≡ record { size = 0; error = 0 }) × Passes bound.now p) v.items) }
@@ -37,7 +37,7 @@ fn first_layer(alloc: Global, bound: &Bound) -> Result<Vec<WidePair>, AllocError
     Ok(layer)
 }
 
-/// A copy that takes no more room than its pairs.
+/// A copy without spare capacity.
 fn exact(alloc: Global, layer: &[WidePair]) -> Result<Vec<WidePair>, AllocError>
     ensures { IfOk result (λ v. v.items ≡ layer.now) }
 {
@@ -46,7 +46,7 @@ fn exact(alloc: Global, layer: &[WidePair]) -> Result<Vec<WidePair>, AllocError>
     Ok(copy)
 }
 
-/// Puts a finished layer behind the others, and counts its pairs; not where there are too many.
+/// Appends a finished frontier and counts its pairs, unless there are too many.
 fn put_layer(
     alloc: Global,
     layers: &mut Vec<Vec<WidePair>>,
@@ -54,7 +54,8 @@ fn put_layer(
     next: &[WidePair],
 ) -> Result<(), BestFault>
     requires { pairs.old ≤ 2 ^ 25 }
-    ensures layers { OnOk result (map (λ l. l.items) layers.new.items ≡ map (λ l. l.items) layers.old.items ++ next.now ∷ []) }
+    ensures layers { OnOk result (map (λ l. l.items) layers.new.items ≡ map (λ l. l.items) layers.old.items ++ next.now
+        ∷ []) }
     ensures pairs { OnOk result (pairs.new ≡ pairs.old + length next.now) }
     ensures few { OnOk result (pairs.new ≤ 2 ^ 25) }
     ensures full { IfErr result (λ e. e ≡ LayersFull → 2 ^ 25 < pairs.old + length next.now) }
@@ -67,7 +68,7 @@ fn put_layer(
     Ok(())
 }
 
-/// Makes `next` the next layer. `few` and `spare` are vectors to write in: the entries that can pass, and pairs.
+/// Makes `next` the next frontier. `few` and `spare` are scratch: for the entries that can pass, and for pairs.
 fn next_layer(
     next: &mut Vec<WidePair>,
     spare: &mut Vec<WidePair>,
@@ -88,11 +89,11 @@ fn next_layer(
     Ok(())
 }
 
-/// The layers held under a size: after each number of slices the pairs that no other dominates, of those that can still meet
-/// the cap and stay within the bound by the multiplier, by rising size. They take 16 bytes a pair, and the two vectors of the
-/// layer at work up to 32 bytes for each pair of the longest half-merged layer.
+/// The Pareto frontiers held under a size: after each number of slices, by rising size, the pairs that no other
+/// dominates, of those that can still meet the cap and are not pruned by the bound. They take 16 bytes a pair.
+/// While a frontier is made, two vectors take up to 32 bytes for each pair of the longest half-merged frontier.
 ///
-/// The errors are `LayersFull` where finished layers number more than 2^25 pairs, and `NoMemory`.
+/// The errors are `LayersFull` if the finished frontiers have more than 2^25 pairs, and `NoMemory`.
 pub fn held_layers(
     alloc: Global,
     table: &FrameTable,
@@ -102,8 +103,9 @@ pub fn held_layers(
 ) -> Result<Vec<Vec<WidePair>>, BestFault>
     ensures held { IfOk result (λ v. AreHeld table.now.slices cap multiplier size (map (λ l. l.items) v.items)) }
     ensures few { IfOk result (λ v. pairs_in (map (λ l. l.items) v.items) ≤ 2 ^ 25) }
-    // The error is `LayersFull` only where the held layers number more.
-    ensures full { IfErr result (λ e. e ≡ LayersFull → (layers : List (List WidePair)) → AreHeld table.now.slices cap multiplier size layers → 2 ^ 25 < pairs_in layers) }
+    // The error is `LayersFull` only if the held frontiers have more.
+    ensures full { IfErr result (λ e. e ≡ LayersFull → (layers : List (List WidePair)) → AreHeld table.now.slices cap
+        multiplier size layers → 2 ^ 25 < pairs_in layers) }
 {
     let slices = table.slices.as_slice();
     let mut bound = Bound {

@@ -1,4 +1,4 @@
-//! Laws over the definitions alone.
+//! Laws of the definitions, independent of any program.
 
 ghost use Rattle.rate_least.specs.Laws.{GoodIsTrue, CertificateIsReadAgain, CurveIsOne};
 
@@ -7,12 +7,12 @@ pub fn good_is_true()
     ensures { GoodIsTrue }
 {}
 
-/// The certificate that was written is read again.
+/// A certificate that is written is read as that certificate.
 pub fn certificate_is_read_again()
     ensures { CertificateIsReadAgain }
 {}
 
-/// The undominated pairs of some slices are one list.
+/// The Pareto frontier of some slices is unique.
 pub fn curve_is_one()
     ensures { CurveIsOne }
 {}

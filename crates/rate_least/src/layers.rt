@@ -1,12 +1,12 @@
-//! What is asked of the layers by themselves.
+//! Checks of the layers by themselves.
 
-ghost use Rattle.std.specs.Prelude.{◌≡◌, ◌<◌, ◌≤◌, ◌↔◌, IsTrue, [], ◌∷◌, length, map, slice_index_or};
+ghost use Rattle.std.specs.Prelude.{◌≡◌, ◌<◌, ◌≤◌, ◌↔◌, IsTrue, [], ◌∷◌, map};
 ghost use Rattle.std.specs.List.{All};
 ghost use Rattle.rate_least.specs.Pairs.{RisesAndFalls};
 
 use crate::outcome::WidePair;
 
-/// Whether a layer is the pair of nothing alone.
+/// Whether a layer is the empty pair alone.
 pub fn is_empty_pair(layer: &[WidePair]) -> bool
     ensures { IsTrue result ↔ (layer.now ≡ record { size = 0; error = 0 } ∷ []) }
 {
@@ -38,7 +38,7 @@ pub fn are_in_order(layers: &[Vec<WidePair>]) -> bool
     true
 }
 
-/// Whether no pair has less size.
+/// Whether no pair has less size than `size`.
 pub fn none_is_below(layer: &[WidePair], size: u64) -> bool
     ensures { IsTrue result ↔ All (λ p. size ≤ p.size) layer.now }
 {

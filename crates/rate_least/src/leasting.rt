@@ -1,4 +1,4 @@
-//! The run that looks for the smallest choice under a cap.
+//! The run that finds the smallest choice under a cap.
 
 ghost use Rattle.std.specs.Prelude.{◌≡◌, ◌++◌, OnOk, OnErr, IfOk, is_err};
 ghost use Rattle.std.specs.Bool.{OnTrue};
@@ -22,7 +22,7 @@ use pw_text::{put_decimal, put_words};
 use rate_table::{FrameTable, read_file};
 use std::alloc::Global;
 
-/// Appends the indices, each behind a space.
+/// Appends the indices, each after a space.
 fn put_indices(text: &mut Vec<u8>, choice: &[u8]) -> Result<(), NoMemory>
     ensures { OnOk result (text.new.items ≡ text.old.items ++ spaced choice.now) }
 {
@@ -63,7 +63,7 @@ fn lines_of(alloc: Global, outcome: &LeastOutcome) -> Result<Vec<u8>, NoMemory>
     Ok(text)
 }
 
-/// Writes a certificate, and settles it.
+/// Writes a certificate and flushes it.
 fn certify<K: ByteSink>(
     table: &FrameTable,
     cap: u64,
@@ -71,8 +71,12 @@ fn certify<K: ByteSink>(
     cert: &mut K,
 ) -> Result<(), Failed>
     requires { CanBeSaid table.now (said_by outcome.now) }
-    ensures all { OnOk result (Puts (sink_state (K.held cert.old) (K.taken cert.old)) (sink_state (K.held cert.new) (K.taken cert.new)) (cert_bytes (record { table = table.now; cap = cap; said = said_by outcome.now }))) }
-    ensures front { OnErr result (PutsFront (sink_state (K.held cert.old) (K.taken cert.old)) (sink_state (K.held cert.new) (K.taken cert.new)) (cert_bytes (record { table = table.now; cap = cap; said = said_by outcome.now }))) }
+    ensures all { OnOk result (Puts (sink_state (K.held cert.old) (K.taken cert.old))
+        (sink_state (K.held cert.new) (K.taken cert.new)) (cert_bytes
+        (record { table = table.now; cap = cap; said = said_by outcome.now }))) }
+    ensures front { OnErr result (PutsFront (sink_state (K.held cert.old) (K.taken cert.old))
+        (sink_state (K.held cert.new) (K.taken cert.new)) (cert_bytes
+        (record { table = table.now; cap = cap; said = said_by outcome.now }))) }
     ensures settled { OnOk result (K.settled cert.new ≡ K.taken cert.new) }
     ensures cause { CountsFault (K.faults cert.old) (K.faults cert.new) (is_err result) }
 {
@@ -80,8 +84,8 @@ fn certify<K: ByteSink>(
     cert.flush()
 }
 
-/// Reads a table file to its end, finds the smallest choice of error at most the cap, and writes its certificate to `cert` and its
-/// lines to `text`.
+/// Reads a table file to its end, finds the smallest choice of error at most `cap`, and writes its certificate to
+/// `cert` and its lines to `text`.
 pub fn least_run<S: ByteSource, K: ByteSink>(
     alloc: Global,
     proof: &mut S,
@@ -89,23 +93,27 @@ pub fn least_run<S: ByteSource, K: ByteSink>(
     cert: &mut K,
     text: &mut K,
 ) -> LeastEnd
-    // Where the file's bytes are told, they decide the answer: BadProof comes with their first fault; LayersFull comes where the
-    // layers held under the smallest choice's size number more than 2^25 pairs, and only where those held under the size of the
-    // multiplier's choice do.
+    // If the file's bytes are visible, they determine the outcome: BadProof with their first error; LayersFull if
+    // the frontiers held under the smallest choice's size have more than 2^25 pairs, and only if those held under
+    // the size of the multiplier's choice do.
     ensures answer { Told (S.left proof.old) (λ bytes. AnswersLeast cap (tabled bytes) result) }
-    // After Done the certificate of the smallest choice, or of none, and its lines were appended, whole; after a fault of writing
-    // fronts of them, and after every other answer nothing.
+    // After Done, the certificate of the smallest choice, or of none, and its lines were appended whole; after
+    // WriteFault, a prefix of each; otherwise nothing.
     ensures written { Told (S.left proof.old) (λ bytes. WritesLeast result (IsCertificateOf cap (tabled bytes))
         (sink_state (K.held cert.old) (K.taken cert.old)) (sink_state (K.held cert.new) (K.taken cert.new))
         (sink_state (K.held text.old) (K.taken text.old)) (sink_state (K.held text.new) (K.taken text.new))) }
-    // Whether the file's bytes are told or not, both outputs extend what was held.
-    ensures cert_extends { Extends (sink_state (K.held cert.old) (K.taken cert.old)) (sink_state (K.held cert.new) (K.taken cert.new)) }
-    ensures text_extends { Extends (sink_state (K.held text.old) (K.taken text.old)) (sink_state (K.held text.new) (K.taken text.new)) }
-    ensures settled { OnTrue (is_done result) ((K.settled cert.new ≡ K.taken cert.new) × (K.settled text.new ≡ K.taken text.new)) }
+    // Whether the file's bytes are visible or opaque, both outputs are only appended to.
+    ensures cert_extends { Extends (sink_state (K.held cert.old) (K.taken cert.old))
+        (sink_state (K.held cert.new) (K.taken cert.new)) }
+    ensures text_extends { Extends (sink_state (K.held text.old) (K.taken text.old))
+        (sink_state (K.held text.new) (K.taken text.new)) }
+    ensures settled { OnTrue (is_done result) ((K.settled cert.new ≡ K.taken cert.new)
+        × (K.settled text.new ≡ K.taken text.new)) }
     ensures end { OnTrue (is_done result) (IsAtEnd (S.left proof.new)) }
-    // A fault of a port is answered only where that port's count rose, and every other answer leaves the counts as they were.
+    // A port's fault is the outcome only if that port's count rose; any other outcome leaves the counts unchanged.
     ensures read { CountsFault (S.faults proof.old) (S.faults proof.new) (is_read_fault result) }
-    ensures write { CountsFaults (K.faults cert.old) (K.faults cert.new) (K.faults text.old) (K.faults text.new) (is_write_fault result) }
+    ensures write { CountsFaults (K.faults cert.old) (K.faults cert.new) (K.faults text.old) (K.faults text.new)
+        (is_write_fault result) }
 {
     let table = match read_file(alloc, proof) {
         Ok(table) => table,

@@ -1,4 +1,5 @@
-//! The smallest choice under a cap on the error, certificates that no choice is smaller, and all undominated pairs.
+//! The smallest choice under a cap on the error, certificates that no choice is smaller, and the Pareto frontier of
+//! a table.
 #![tactic(auto)]
 
 mod bound;
@@ -23,8 +24,6 @@ mod reading;
 mod runs;
 mod search;
 mod steps;
-#[cfg(test)]
-mod tests;
 mod texts;
 mod writing;
 

@@ -1,6 +1,6 @@
-//! The walk to the first choice that reaches a pair.
+//! Finds the first choice that has a pair.
 
-ghost use Rattle.std.specs.Prelude.{◌≡◌, ℕ, ◌-◌, ◌<◌, ◌↔◌, IsTrue, IfOk, IfSome, IfNone, List, [], ◌∷◌, ◌++◌, false, true, length, map, replicate};
+ghost use Rattle.std.specs.Prelude.{◌≡◌, ℕ, ◌-◌, ◌<◌, ◌↔◌, IsTrue, IfOk, IfSome, IfNone, List, ◌∷◌, false, true, length, map, replicate};
 ghost use Rattle.std.specs.List.{Contains};
 ghost use Rattle.rate_table.specs.declared.entry.Entry.{Entry};
 ghost use Rattle.rate_least.specs.declared.outcome.WidePair.{WidePair};
@@ -16,7 +16,7 @@ use crate::places::place_of;
 use rate_table::{Entry, FrameTable};
 use std::alloc::{AllocError, Global};
 
-/// Whether the pair joined with the entry is a marked one of these pairs, of rising sizes.
+/// Whether the pair joined with the entry is a marked one of `next`, whose sizes rise.
 fn leads(next: &[WidePair], marks: &[bool], p: WidePair, x: Entry) -> bool
     requires rises { Rises next.now }
     requires count { length marks.now ≡ length next.now }
@@ -29,7 +29,7 @@ fn leads(next: &[WidePair], marks: &[bool], p: WidePair, x: Entry) -> bool
     }
 }
 
-/// The first entry of the slice that leads from the pair to a marked one of these pairs.
+/// The first entry of the slice that leads from the pair to a marked one of `next`.
 fn first_lead(slice: &[Entry], next: &[WidePair], marks: &[bool], p: WidePair) -> Option<Entry>
     requires indices { IndicesRise slice.now }
     requires next { Rises next.now }
@@ -45,7 +45,7 @@ fn first_lead(slice: &[Entry], next: &[WidePair], marks: &[bool], p: WidePair) -
     None
 }
 
-/// So many marks, of which the first alone is set.
+/// Marks of which the first alone is set.
 fn first_marked(alloc: Global, count: usize) -> Result<Vec<bool>, AllocError>
     requires { 0 < count }
     ensures { IfOk result (λ v. v.items ≡ true ∷ replicate (count - 1) false) }
@@ -56,15 +56,18 @@ fn first_marked(alloc: Global, count: usize) -> Result<Vec<bool>, AllocError>
     Ok(marks)
 }
 
-/// For each layer a mark for each pair, the last layer's first: those have one from which a choice leads to the goal.
+/// For each frontier, the last one's first, a mark for each pair: it is set if a choice leads from the pair to the
+/// goal.
 fn marks_of(
     alloc: Global,
     table: &FrameTable,
     layers: &[Vec<WidePair>],
     goal: WidePair,
 ) -> Result<Vec<Vec<bool>>, AllocError>
-    requires { (cap m u : ℕ) × AreFound (record { slices = table.now.slices; cap = cap }) m u goal (map (λ l. l.items) layers.now) }
-    ensures { IfOk result (λ v. AreMarked table.now.slices goal (map (λ l. l.items) layers.now) (map (λ l. l.items) v.items)) }
+    requires { (cap m u : ℕ) × AreFound (record { slices = table.now.slices; cap = cap }) m u goal
+        (map (λ l. l.items) layers.now) }
+    ensures { IfOk result (λ v. AreMarked table.now.slices goal (map (λ l. l.items) layers.now)
+        (map (λ l. l.items) v.items)) }
 {
     let slices = table.slices.as_slice();
     let mut marks = Vec::new(alloc);
@@ -112,15 +115,17 @@ fn walk(
     Ok(choice)
 }
 
-/// The indices of the first choice with the goal's pair, in the order of index lists. The pairs that lead to the
-/// goal are marked from the last layer back; then in each slice the first entry is taken that leads to one of them.
+/// The indices of the first choice with the goal's pair, in lexicographic order. The pairs that lead to the goal
+/// are marked from the last frontier back; then, slice by slice, the first entry that leads to a marked pair is
+/// taken.
 pub fn first_choice(
     alloc: Global,
     table: &FrameTable,
     layers: &[Vec<WidePair>],
     goal: WidePair,
 ) -> Result<Vec<u8>, AllocError>
-    requires { (cap m u : ℕ) × AreFound (record { slices = table.now.slices; cap = cap }) m u goal (map (λ l. l.items) layers.now) }
+    requires { (cap m u : ℕ) × AreFound (record { slices = table.now.slices; cap = cap }) m u goal
+        (map (λ l. l.items) layers.now) }
     ensures { IfOk result (λ v. (c : List Entry) × IsFirst table.now.slices goal c × (v.items ≡ indices c)) }
 {
     let marks = marks_of(alloc, table, layers, goal)?;

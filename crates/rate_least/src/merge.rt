@@ -1,4 +1,4 @@
-//! One slice more: the next layer, from a layer and the entries of the slice.
+//! One slice more: the next Pareto frontier, from a frontier and the entries of the slice.
 
 ghost use Rattle.std.specs.Prelude.{◌≡◌, ◌+◌, ◌<◌, ◌≤◌, ◌^◌, IsTrue, OnOk, []};
 ghost use Rattle.std.specs.List.{All, Contains};
@@ -16,7 +16,7 @@ use rate_table::Entry;
 use std::alloc::AllocError;
 use std::mem;
 
-/// Whether a pair that comes behind a layer has less error than each of its pairs.
+/// Whether a pair that comes after a frontier has less error than each of its pairs.
 fn is_below(layer: &[WidePair], p: WidePair) -> bool
     requires order { RisesAndFalls layer.now }
     requires behind { AreBehind p layer.now }
@@ -29,7 +29,7 @@ fn is_below(layer: &[WidePair], p: WidePair) -> bool
     }
 }
 
-/// Adds a pair to a layer that it comes behind, unless the layer's last pair dominates it.
+/// Appends a pair that comes after a frontier, unless the frontier's last pair dominates it.
 fn offer(out: &mut Vec<WidePair>, p: WidePair) -> Result<(), AllocError>
     requires order { RisesAndFalls out.old.items }
     requires behind { AreBehind p out.old.items }
@@ -41,7 +41,7 @@ fn offer(out: &mut Vec<WidePair>, p: WidePair) -> Result<(), AllocError>
     Ok(())
 }
 
-/// The pair joined with the entry, where it passes.
+/// The pair joined with the entry, if it passes the bound.
 fn joined_if(bound: &Bound, p: WidePair, x: Entry) -> Option<WidePair>
     requires small { IsSmall bound.now }
     requires narrow { IsNarrow p }
@@ -57,7 +57,7 @@ fn joined_if(bound: &Bound, p: WidePair, x: Entry) -> Option<WidePair>
     }
 }
 
-/// Whether the pair comes first, or as much in size with no more error.
+/// Whether `p` has less size, or the same size and no more error.
 fn comes_first(p: WidePair, q: WidePair) -> bool
     ensures yes { IsTrue result → IsBehind q p }
     ensures no { (IsTrue result → ⊥) → IsBehind p q × (p.size ≤ q.size → q.error < p.error) }
@@ -65,8 +65,8 @@ fn comes_first(p: WidePair, q: WidePair) -> bool
     p.size < q.size || p.size == q.size && p.error <= q.error
 }
 
-/// Writes into an empty vector, of the pairs of a front, and of those of a layer joined with one entry that
-/// pass, the undominated ones.
+/// Merges `front` with the pairs of `layer` joined with one entry, as far as they pass the bound, and writes the
+/// undominated pairs into the empty vector `out`.
 fn merge_one(
     out: &mut Vec<WidePair>,
     bound: &Bound,
@@ -103,7 +103,7 @@ fn merge_one(
     Ok(())
 }
 
-/// Makes `next` the next layer, entry by entry. `spare` is a second vector to write in.
+/// Makes `next` the next frontier, entry by entry. `spare` is scratch.
 pub fn merge_all(
     next: &mut Vec<WidePair>,
     spare: &mut Vec<WidePair>,

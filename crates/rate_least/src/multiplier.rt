@@ -1,7 +1,8 @@
-//! The greatest multiplier whose choice meets the cap.
+//! The Lagrangian multiplier under a cap: the greatest one whose choice meets it.
 
 ghost use Rattle.std.specs.Prelude.{◌≡◌, ◌+◌, ◌*◌, ◌<◌, ◌≤◌, ◌^◌, ◌↔◌, IsTrue, ℕ, List, length};
 ghost use Rattle.std.specs.List.{All};
+ghost use Rattle.rate_table.specs.declared.table.TheConstants.{MAX_TABLE_SLICES};
 ghost use Rattle.rate_table.specs.declared.entry.Entry.{Entry};
 ghost use Rattle.rate_table.specs.Table.{IsSliceTable, IsChoice, size_of, error_of};
 ghost use Rattle.rate_table.specs.Pairs.{cost};
@@ -10,10 +11,10 @@ ghost use Rattle.rate_least.specs.inner.Bent.{Wins};
 
 use rate_table::{Entry, FrameTable, SliceTable, cost_of};
 
-/// Multipliers go up to this.
+/// The greatest multiplier that is tried.
 const GREATEST: u64 = 1 << 43;
 
-/// Whether one entry is taken rather than another, or is the other; these are their costs.
+/// Whether `a` is preferred to `b` or is it; `first` and `second` are their costs.
 fn is_better(a: &Entry, first: u128, b: &Entry, second: u128) -> bool
     ensures yes { (m : ℕ) → first ≡ cost m a.now → second ≡ cost m b.now → IsTrue result → Wins m a.now b.now }
     ensures no { (m : ℕ) → first ≡ cost m a.now → second ≡ cost m b.now → (IsTrue result → ⊥) → Wins m b.now a.now }
@@ -22,7 +23,7 @@ fn is_better(a: &Entry, first: u128, b: &Entry, second: u128) -> bool
         || first == second && (a.error < b.error || a.error == b.error && a.index <= b.index)
 }
 
-/// The entry of least cost, then of least error, then of least index.
+/// The Lagrangian minimiser of a slice: the entry of least cost, then of least error, then of least index.
 fn bent(entries: &[Entry], multiplier: u64) -> Entry
     requires { 0 < length entries.now }
     ensures { IsBent multiplier entries.now result }
@@ -39,12 +40,13 @@ fn bent(entries: &[Entry], multiplier: u64) -> Entry
     best
 }
 
-/// Size and error of the choice by this multiplier: in each slice the entry of least cost, then of least error, then of least
-/// index.
+/// Size and error of the Lagrangian minimisers: in each slice the entry of least cost, then of least error, then of
+/// least index.
 fn sums_of(slices: &[SliceTable], multiplier: u64) -> (u64, u64)
-    requires few { length slices.now ≤ 131070 }
+    requires few { length slices.now ≤ MAX_TABLE_SLICES }
     requires each { All IsSliceTable slices.now }
-    ensures bend { (c : List Entry) × IsBend multiplier slices.now c × (result.0 ≡ size_of c) × (result.1 ≡ error_of c) }
+    ensures bend { (c : List Entry) × IsBend multiplier slices.now c × (result.0 ≡ size_of c)
+        × (result.1 ≡ error_of c) }
     ensures size { result.0 < 2 ^ 34 }
     ensures error { result.1 < 2 ^ 61 }
 {
@@ -58,7 +60,7 @@ fn sums_of(slices: &[SliceTable], multiplier: u64) -> (u64, u64)
     (size, error)
 }
 
-/// The size of the choice by this multiplier. No memory is taken.
+/// The size of the Lagrangian minimisers. Takes no memory.
 pub fn bend_size(table: &FrameTable, multiplier: u64) -> u64
     ensures bend { (c : List Entry) × IsBend multiplier table.now.slices c × (result ≡ size_of c) }
     ensures small { result < 2 ^ 34 }
@@ -66,16 +68,17 @@ pub fn bend_size(table: &FrameTable, multiplier: u64) -> u64
     sums_of(table.slices.as_slice(), multiplier).0
 }
 
-/// Whether the choice by this multiplier meets the cap.
+/// Whether the Lagrangian minimisers meet the cap.
 fn bend_meets(slices: &[SliceTable], multiplier: u64, cap: u64) -> bool
-    requires few { length slices.now ≤ 131070 }
+    requires few { length slices.now ≤ MAX_TABLE_SLICES }
     requires each { All IsSliceTable slices.now }
     ensures { IsTrue result ↔ BendMeets slices.now cap multiplier }
 {
     sums_of(slices, multiplier).1 <= cap
 }
 
-/// The greatest multiplier up to 2^43 whose choice meets the cap, of a table where some choice does. No memory is taken.
+/// The greatest multiplier up to 2^43 whose minimisers meet the cap, of a table with a choice that does. Takes no
+/// memory.
 pub fn greatest_multiplier(table: &FrameTable, cap: u64) -> u64
     requires meets { (c : List Entry) × IsChoice table.now.slices c × (error_of c ≤ cap) }
     ensures { IsGreatestMultiplier table.now.slices cap result }

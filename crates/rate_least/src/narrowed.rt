@@ -1,4 +1,4 @@
-//! Layers under a smaller size.
+//! Frontiers under a smaller size.
 
 ghost use Rattle.std.specs.Prelude.{◌≡◌, ◌+◌, ◌*◌, ◌<◌, ◌↔◌, IsTrue, ℕ, map, nat_lt};
 ghost use Rattle.std.specs.List.{filter};
@@ -7,14 +7,14 @@ ghost use Rattle.rate_least.specs.inner.Live.{AreFound};
 use crate::outcome::WidePair;
 use rate_table::{FrameTable, least_cost, least_costs};
 
-/// Whether a pair weighs less than the ceiling.
+/// Whether a pair's Lagrangian cost is less than the ceiling.
 fn is_within(pair: &WidePair, multiplier: u64, ceiling: u128) -> bool
     ensures { IsTrue result ↔ (pair.now.error + multiplier * pair.now.size < ceiling) }
 {
     u128::from(pair.error) + u128::from(multiplier) * u128::from(pair.size) < ceiling
 }
 
-/// Leaves the pairs of a layer that weigh less than the ceiling, and gives back the room of the others.
+/// Removes the pairs of a frontier whose cost is not less than the ceiling, and the spare capacity.
 fn keep_within(layer: &mut Vec<WidePair>, multiplier: u64, ceiling: u128)
     ensures { layer.new.items ≡ filter (λ p. nat_lt (p.error + multiplier * p.size) ceiling) layer.old.items }
 {
@@ -22,7 +22,7 @@ fn keep_within(layer: &mut Vec<WidePair>, multiplier: u64, ceiling: u128)
     layer.shrink_to_fit();
 }
 
-/// Leaves the pairs of found layers that are held under the goal's own size. The goal stays. No memory is taken.
+/// Removes the pairs that are not held under the goal's own size. The goal stays. Takes no memory.
 pub fn narrow(
     table: &FrameTable,
     cap: u64,
@@ -30,8 +30,10 @@ pub fn narrow(
     goal: WidePair,
     layers: &mut Vec<Vec<WidePair>>,
 )
-    requires { (u : ℕ) × AreFound (record { slices = table.now.slices; cap = cap }) multiplier u goal (map (λ l. l.items) layers.old.items) }
-    ensures { AreFound (record { slices = table.now.slices; cap = cap }) multiplier goal.size goal (map (λ l. l.items) layers.new.items) }
+    requires { (u : ℕ) × AreFound (record { slices = table.now.slices; cap = cap }) multiplier u goal
+        (map (λ l. l.items) layers.old.items) }
+    ensures { AreFound (record { slices = table.now.slices; cap = cap }) multiplier goal.size goal
+        (map (λ l. l.items) layers.new.items) }
 {
     let slices = table.slices.as_slice();
     let most = u128::from(cap) + u128::from(multiplier) * u128::from(goal.size) + 1;

@@ -1,18 +1,19 @@
-//! Pairs of any size, and what is said of a table and a cap.
+//! Pairs of any size, and outcomes for a table and a cap.
 
 use rate_table::FrameTable;
 use std::marker::Model;
 
-/// The size and the error of several slices together.
+/// Total size and error of several slices.
 #[derive(Clone, Copy, Debug, PartialEq, Eq)]
 pub struct WidePair {
-    /// The sizes together, in bytes. They may pass 2^32.
+    /// The total size, in bytes. It may exceed 2^32.
     pub size: u64,
-    /// The errors together.
+    /// The total error.
     pub error: u64,
 }
 
-/// The smallest choice under a cap on the error with layers that show that it is, or the least error where none meets the cap.
+/// The smallest choice under a cap on the error with the Pareto frontiers that prove it, or the least error if none
+/// meets the cap.
 #[derive(Debug, Drop)]
 pub enum LeastOutcome {
     /// A choice meets the cap.
@@ -23,22 +24,23 @@ pub enum LeastOutcome {
         size: u64,
         /// Its error.
         error: u64,
-        /// After each number of slices, pairs that no other dominates, by rising size. There is one layer more than slices.
+        /// After each number of slices, by rising size, pairs that no other dominates. There is one layer more than
+        /// slices.
         layers: Vec<Vec<WidePair>>,
-        /// What each byte counts for in the bound of a pair.
+        /// The Lagrangian multiplier of the bound.
         multiplier: u64,
     },
     /// No choice meets the cap.
     None {
-        /// The slices' least errors together, above the cap.
+        /// The sum of the slices' least errors, above the cap.
         least_error: u64,
     },
 }
 
-/// A certificate: a table, a cap, and what is said of them.
+/// A certificate: a table, a cap, and the outcome for them.
 #[derive(Drop)]
 pub struct LeastProof {
-    /// What each slice costs at each of its indices. Its budget and its fixed bytes aren't asked.
+    /// The rate-distortion table. Its budget and its fixed bytes don't matter.
     pub table: FrameTable,
     /// The greatest error that a choice may have.
     pub cap: u64,

@@ -1,4 +1,4 @@
-//! The entries of a slice that some pair of a layer can pass with.
+//! The entries of a slice that the bound does not prune with every pair of a frontier.
 
 ghost use Rattle.std.specs.Prelude.{OnOk};
 ghost use Rattle.std.specs.List.{All};
@@ -13,8 +13,8 @@ use crate::outcome::WidePair;
 use rate_table::{Entry, cost_of};
 use std::alloc::AllocError;
 
-/// Writes the entries whose own cost, with the least weight of the layer's pairs, stays within the bound. With each of the others
-/// every pair of the layer passes the bound.
+/// Writes the entries whose own cost plus the least cost of the frontier's pairs stays within the bound. Each other
+/// entry is pruned with every pair of the frontier.
 pub fn passing(
     few: &mut Vec<Entry>,
     bound: &Bound,

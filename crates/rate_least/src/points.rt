@@ -1,4 +1,4 @@
-//! All undominated pairs of a table's choices.
+//! The Pareto frontier of a table's choices.
 
 ghost use Rattle.std.specs.Prelude.{◌≡◌, IfOk, IfErr, IsErr};
 ghost use Rattle.rate_layers.specs.declared.fault.BestFault.TheVariants.{LayersFull};
@@ -12,10 +12,10 @@ use rate_table::FrameTable;
 use std::alloc::Global;
 use std::mem;
 
-/// The curves of the first slices may have so many points together.
+/// The largest number of points of the frontiers of the first slices, over all numbers of them.
 const MOST: usize = 1 << 25;
 
-/// A bound that each pair of a table stays within.
+/// A bound that prunes no pair of a table.
 const EVERY: Bound = Bound {
     errors: 0,
     cap: u64::MAX,
@@ -24,15 +24,16 @@ const EVERY: Bound = Bound {
     multiplier: 0,
 };
 
-/// All pairs of size and error of a table's choices that no other such pair dominates, sizes rising. The budget and the fixed
-/// bytes aren't asked. While it searches it holds the points of the first slices, with two vectors for those of one slice more, of
-/// 16 bytes a pair.
+/// The Pareto frontier of a table's choices, by rising size. The budget and the fixed bytes don't matter. During
+/// the search the call holds the points of the first slices and two vectors for those of one slice more, of 16
+/// bytes a pair.
 ///
-/// The errors are `LayersFull` where the undominated pairs of the first slices, over all numbers of them, number more than 2^25,
-/// and `NoMemory`.
+/// The errors are `LayersFull` if the frontiers of the first slices, over all numbers of them, have more than 2^25
+/// points together, and `NoMemory`.
 pub fn curve(alloc: Global, table: &FrameTable) -> Result<Vec<WidePair>, BestFault>
     ensures points { IfOk result (λ v. IsCurve table.now.slices v.items) }
-    // `LayersFull` comes exactly where the curves of the first slices have more than 2^25 points together.
+    // `LayersFull` is returned exactly if the frontiers of the first slices have more than 2^25 points together
+    // (unless memory runs out first).
     ensures full_only { IfErr result (λ e. e ≡ LayersFull → CurvesPass table.now.slices) }
     ensures full_always { CurvesPass table.now.slices → IsErr result }
 {

@@ -21,12 +21,13 @@ use pw_outside::{ByteSink, ByteSource, put_all};
 use rate_table::read_file;
 use std::alloc::Global;
 
-/// Writes all of the lines, and settles them.
+/// Writes the lines and flushes them.
 pub(crate) fn print<K: ByteSink>(sink: &mut K, lines: &[u8]) -> LeastEnd
     ensures answer { AnswersUnlessOutside result ends.Done }
     ensures reads { is_read_fault result ≡ false }
     ensures end { IsPrintersEnd result }
-    ensures text { PrintsLines result lines.now (sink_state (K.held sink.old) (K.taken sink.old)) (sink_state (K.held sink.new) (K.taken sink.new)) }
+    ensures text { PrintsLines result lines.now (sink_state (K.held sink.old) (K.taken sink.old))
+        (sink_state (K.held sink.new) (K.taken sink.new)) }
     ensures settled { OnTrue (is_done result) (K.settled sink.new ≡ K.taken sink.new) }
     ensures cause { CountsFault (K.faults sink.old) (K.faults sink.new) (is_write_fault result) }
 {
@@ -45,17 +46,19 @@ pub fn checkleast_run<S: ByteSource, K: ByteSink>(
     proof: &mut S,
     text: &mut K,
 ) -> LeastEnd
-    // Where the certificate's bytes are told, they decide the answer: BadProof comes with their first fault, and Refused with the
-    // first clause that fails.
+    // If the certificate's bytes are visible, they determine the outcome: BadProof with their first error, and
+    // Refused with the first clause that fails.
     ensures answer { Told (S.left proof.old) (λ bytes. AnswersCheck (certified bytes) result) }
-    // After Done what the certificate says is true: no choice that meets the cap has less size, or none meets it.
+    // After Done, what the certificate says is true: no choice that meets the cap has less size, or none meets it.
     ensures sound { Told (S.left proof.old) (λ bytes. OnTrue (is_done result) (SaysTrue (certified bytes))) }
-    // After Done the line was appended, whole; after a fault of writing a front of it, and after every other answer nothing.
-    ensures text { PrintsLines result yes_text (sink_state (K.held text.old) (K.taken text.old)) (sink_state (K.held text.new) (K.taken text.new)) }
-    ensures extends { Extends (sink_state (K.held text.old) (K.taken text.old)) (sink_state (K.held text.new) (K.taken text.new)) }
+    // After Done, the line was appended whole; after WriteFault, a prefix of it; otherwise nothing.
+    ensures text { PrintsLines result yes_text (sink_state (K.held text.old) (K.taken text.old))
+        (sink_state (K.held text.new) (K.taken text.new)) }
+    ensures extends { Extends (sink_state (K.held text.old) (K.taken text.old))
+        (sink_state (K.held text.new) (K.taken text.new)) }
     ensures settled { OnTrue (is_done result) (K.settled text.new ≡ K.taken text.new) }
     ensures end { OnTrue (is_done result) (IsAtEnd (S.left proof.new)) }
-    // A fault of a port is answered only where that port's count rose, and every other answer leaves both counts as they were.
+    // A port's fault is the outcome only if that port's count rose; any other outcome leaves both counts unchanged.
     ensures read { CountsFault (S.faults proof.old) (S.faults proof.new) (is_read_fault result) }
     ensures write { CountsFault (K.faults text.old) (K.faults text.new) (is_write_fault result) }
 {
@@ -71,18 +74,20 @@ pub fn checkleast_run<S: ByteSource, K: ByteSink>(
     }
 }
 
-/// Reads a table file to its end, and prints all undominated pairs of size and error of its choices.
+/// Reads a table file to its end, and prints the Pareto frontier of its choices.
 pub fn curve_run<S: ByteSource, K: ByteSink>(alloc: Global, proof: &mut S, text: &mut K) -> LeastEnd
-    // Where the file's bytes are told, they decide the answer: BadProof comes with their first fault, and LayersFull exactly where
-    // the curves of the first slices have more than 2^25 points together.
+    // If the file's bytes are visible, they determine the outcome: BadProof with their first error, and LayersFull
+    // exactly if the frontiers of the first slices have more than 2^25 points together.
     ensures answer { Told (S.left proof.old) (λ bytes. AnswersCurve (tabled bytes) result) }
-    // After Done the lines of all undominated pairs were appended, whole; after a fault of writing a front of them, and after every
-    // other answer nothing.
-    ensures text { Told (S.left proof.old) (λ bytes. PrintsText result (IsCurveText (tabled bytes)) (sink_state (K.held text.old) (K.taken text.old)) (sink_state (K.held text.new) (K.taken text.new))) }
-    ensures extends { Extends (sink_state (K.held text.old) (K.taken text.old)) (sink_state (K.held text.new) (K.taken text.new)) }
+    // After Done, the lines of the Pareto frontier were appended whole; after WriteFault, a prefix of them;
+    // otherwise nothing.
+    ensures text { Told (S.left proof.old) (λ bytes. PrintsText result (IsCurveText (tabled bytes))
+        (sink_state (K.held text.old) (K.taken text.old)) (sink_state (K.held text.new) (K.taken text.new))) }
+    ensures extends { Extends (sink_state (K.held text.old) (K.taken text.old))
+        (sink_state (K.held text.new) (K.taken text.new)) }
     ensures settled { OnTrue (is_done result) (K.settled text.new ≡ K.taken text.new) }
     ensures end { OnTrue (is_done result) (IsAtEnd (S.left proof.new)) }
-    // A fault of a port is answered only where that port's count rose, and every other answer leaves both counts as they were.
+    // A port's fault is the outcome only if that port's count rose; any other outcome leaves both counts unchanged.
     ensures read { CountsFault (S.faults proof.old) (S.faults proof.new) (is_read_fault result) }
     ensures write { CountsFault (K.faults text.old) (K.faults text.new) (is_write_fault result) }
 {

@@ -1,6 +1,6 @@
 //! The smallest choice under a cap.
 
-ghost use Rattle.std.specs.Prelude.{◌≡◌, ◌-◌, ◌+◌, ◌*◌, ◌<◌, ◌≤◌, ◌^◌, ℕ, List, [], ◌∷◌, IfOk, IfErr, IfSome, IfNone, IsErr, length, map, slice_index_or};
+ghost use Rattle.std.specs.Prelude.{◌≡◌, ◌-◌, ◌+◌, ◌<◌, ◌≤◌, ◌^◌, ℕ, List, [], ◌∷◌, IfOk, IfErr, IfSome, IfNone, IsErr, length, map, slice_index_or};
 ghost use Rattle.rate_table.specs.declared.entry.Entry.{Entry};
 ghost use Rattle.rate_table.specs.Table.{IsTable, IsChoice, size_of, error_of};
 ghost use Rattle.rate_layers.specs.declared.fault.BestFault.TheVariants.{LayersFull};
@@ -22,14 +22,14 @@ use rate_layers::BestFault;
 use rate_table::{FrameTable, least_costs};
 use std::alloc::Global;
 
-/// Layers, and the pair of the smallest choice, which is the first one of the last layer.
+/// Frontiers, and the pair of the smallest choice, which is the first one of the last frontier.
 #[derive(Drop)]
 struct Found {
     layers: Vec<Vec<WidePair>>,
     goal: WidePair,
 }
 
-/// The first pair of a layer.
+/// The first pair of a frontier.
 fn first_of(layer: &[WidePair]) -> Option<WidePair>
     ensures some { IfSome result (λ p. (back : List WidePair) × (layer.now ≡ p ∷ back)) }
     ensures none { IfNone result (layer.now ≡ []) }
@@ -41,9 +41,10 @@ fn first_of(layer: &[WidePair]) -> Option<WidePair>
     }
 }
 
-/// The first pair of the last layer.
+/// The first pair of the last frontier.
 fn first_pair(layers: &[Vec<WidePair>]) -> Option<WidePair>
-    ensures some { IfSome result (λ p. (back : List WidePair) × (slice_index_or (map (λ l. l.items) layers.now) (length layers.now - 1) [] ≡ p ∷ back)) }
+    ensures some { IfSome result (λ p. (back : List WidePair)
+        × (slice_index_or (map (λ l. l.items) layers.now) (length layers.now - 1) [] ≡ p ∷ back)) }
     ensures none { IfNone result (slice_index_or (map (λ l. l.items) layers.now) (length layers.now - 1) [] ≡ []) }
 {
     match layers.last() {
@@ -52,7 +53,7 @@ fn first_pair(layers: &[Vec<WidePair>]) -> Option<WidePair>
     }
 }
 
-/// The layers held under this size, if a choice that meets the cap has no more.
+/// The frontiers held under this size, if a choice that meets the cap has no more size.
 fn found_within(
     alloc: Global,
     table: &FrameTable,
@@ -60,9 +61,12 @@ fn found_within(
     multiplier: u64,
     size: u64,
 ) -> Result<Option<Found>, BestFault>
-    ensures some { IfOk result (λ o. IfSome o (λ f. AreFound (record { slices = table.now.slices; cap = cap }) multiplier size f.goal (map (λ l. l.items) f.layers.items))) }
-    ensures none { IfOk result (λ o. IfNone o ((c : List Entry) → IsChoice table.now.slices c → error_of c ≤ cap → size < size_of c)) }
-    ensures full { IfErr result (λ e. e ≡ LayersFull → (layers : List (List WidePair)) → AreHeld table.now.slices cap multiplier size layers → 2 ^ 25 < pairs_in layers) }
+    ensures some { IfOk result (λ o. IfSome o (λ f. AreFound (record { slices = table.now.slices; cap = cap })
+        multiplier size f.goal (map (λ l. l.items) f.layers.items))) }
+    ensures none { IfOk result (λ o. IfNone o ((c : List Entry) → IsChoice table.now.slices c → error_of c ≤ cap → size
+        < size_of c)) }
+    ensures full { IfErr result (λ e. e ≡ LayersFull → (layers : List (List WidePair)) → AreHeld table.now.slices cap
+        multiplier size layers → 2 ^ 25 < pairs_in layers) }
 {
     let layers = held_layers(alloc, table, cap, multiplier, size)?;
     match first_pair(&layers) {
@@ -71,14 +75,14 @@ fn found_within(
     }
 }
 
-/// No choice that meets the cap is smaller, where the multiplier isn't 0: by what each byte counts for, the least costs are no
-/// more than the cap and its size.
+/// If the multiplier isn't 0, a lower bound of the size of a choice that meets the cap: the least Lagrangian costs
+/// are at most the cap plus `multiplier` times the size.
 fn lower_bound(table: &FrameTable, cap: u64, multiplier: u64) -> u128 {
     let costs = least_costs(table, multiplier).saturating_sub(u128::from(cap));
     costs.div_ceil(u128::from(multiplier.max(1)))
 }
 
-/// The size one part of the way from the lower to the greater.
+/// The size at one `part`-th of the way from `low` to `most`.
 fn between(low: u64, most: u64, part: u64) -> u64
     requires order { low ≤ most }
     requires part { 1 ≤ part }
@@ -88,12 +92,13 @@ fn between(low: u64, most: u64, part: u64) -> u64
     low + (most - low) / part
 }
 
-/// The layers held under some size that a choice that meets the cap has. Small sizes are tried first: from a lower bound of all
-/// sizes a 4,096th of the way to the size of the multiplier's choice, then four times as far, up to that size, which that choice
-/// has. None is tried twice.
+/// The frontiers held under some size of a choice that meets the cap. Small sizes are tried first: a 4,096th of the
+/// way from the lower bound of all sizes to the size of the Lagrangian minimisers, then four times as far each, up
+/// to the minimisers' size, which a choice that meets the cap has. No size is tried twice.
 fn find(alloc: Global, table: &FrameTable, cap: u64, multiplier: u64) -> Result<Found, BestFault>
     requires { IsGreatestMultiplier table.now.slices cap multiplier }
-    ensures found { IfOk result (λ f. (u : ℕ) × AreFound (record { slices = table.now.slices; cap = cap }) multiplier u f.goal (map (λ l. l.items) f.layers.items)) }
+    ensures found { IfOk result (λ f. (u : ℕ) × AreFound (record { slices = table.now.slices; cap = cap }) multiplier u
+        f.goal (map (λ l. l.items) f.layers.items)) }
     ensures full { IfErr result (λ e. e ≡ LayersFull → PassesByBend table.now.slices cap) }
 {
     let most = bend_size(table, multiplier);
@@ -115,7 +120,7 @@ fn find(alloc: Global, table: &FrameTable, cap: u64, multiplier: u64) -> Result<
     }
 }
 
-/// The smallest choice of a table where one meets the cap.
+/// The smallest choice of a table with a choice that meets the cap.
 fn smallest_fit(alloc: Global, table: &FrameTable, cap: u64) -> Result<LeastOutcome, BestFault>
     requires table { IsTable table.now }
     requires some { (c : List Entry) × IsChoice table.now.slices c × (error_of c ≤ cap) }
@@ -139,22 +144,23 @@ fn smallest_fit(alloc: Global, table: &FrameTable, cap: u64) -> Result<LeastOutc
     })
 }
 
-/// The smallest choice of error at most the cap: of least size, then of least error, then the first in the order of index lists;
-/// with the layers and the multiplier that show that none is smaller. `None` where no choice meets the cap. The table's budget and
-/// fixed bytes aren't asked.
+/// The smallest choice of error at most `cap`: of least size, then of least error, then the first in lexicographic
+/// order of its indices; with the Pareto frontiers and the Lagrangian multiplier that prove that none is smaller.
+/// `None` if no choice meets the cap. The table's budget and fixed bytes don't matter.
 ///
-/// The errors are `LayersFull` where the layers number more than 2^25 pairs, and `NoMemory`.
+/// The errors are `LayersFull` if the frontiers have more than 2^25 pairs, and `NoMemory`.
 pub fn smallest(alloc: Global, table: &FrameTable, cap: u64) -> Result<LeastOutcome, BestFault>
     ensures answer { IfOk result (λ o. IsAnswer table.now.slices cap (said_by o)) }
-    // What is answered passes all clauses of a certificate, and can be written as one.
+    // The outcome passes all clauses of a certificate, and can be written as one.
     ensures good { IfOk result (λ o. IsGood table.now.slices cap (said_by o)) }
     ensures said { IfOk result (λ o. CanBeSaid table.now (said_by o)) }
     ensures widths { IfOk result (λ o. AreWide (said_by o)) }
-    // `LayersFull` comes only where the layers held under the size of the multiplier's choice number more than 2^25 pairs.
+    // `LayersFull` is returned only if the frontiers held under the size of the Lagrangian minimisers have more
+    // than 2^25 pairs.
     ensures full_only { IfErr result (λ e. e ≡ LayersFull → PassesByBend table.now.slices cap) }
-    // Where those held under the smallest choice's own size do, there is no other answer than `LayersFull` and `NoMemory`.
+    // If those held under the smallest choice's own size do, the result is `LayersFull` or `NoMemory`.
     ensures full_always { PassesBySmallest table.now.slices cap → IsErr result }
-    // With few sizes and slices it never comes.
+    // It is never returned if there are few sizes and slices.
     ensures full_wide { IfErr result (λ e. e ≡ LayersFull → IsWide table.now.slices) }
 {
     let least_error = least_errors(table);

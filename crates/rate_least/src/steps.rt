@@ -12,8 +12,8 @@ use crate::errors::{least_error_of, least_errors};
 use crate::outcome::WidePair;
 use rate_table::{FrameTable, least_cost, least_costs};
 
-/// Whether each pair of each layer joined with each entry of its slice is dominated by a pair of the next layer, can't
-/// meet the cap with the slices to come, or passes the bound by the multiplier and the size.
+/// Whether each pair of each layer, joined with each entry of its slice, is dominated by a pair of the next layer,
+/// cannot meet the cap with the slices still to come, or is pruned by the bound of the multiplier and the size.
 pub fn all_step(
     table: &FrameTable,
     cap: u64,
@@ -25,7 +25,9 @@ pub fn all_step(
     requires size { size < 2 ^ 34 }
     requires order { All RisesAndFalls (map (λ l. l.items) layers.now) }
     requires narrow { All (λ layer. All IsNarrow layer) (map (λ l. l.items) layers.now) }
-    ensures { (choice : List ℕ) (error : ℕ) → IsTrue result ↔ AllStep cap (of_layers choice size error multiplier (map (λ l. l.items) layers.now)) table.now.slices (map (λ l. l.items) layers.now) }
+    ensures { (choice : List ℕ) (error : ℕ) → IsTrue result ↔ AllStep cap
+        (of_layers choice size error multiplier (map (λ l. l.items) layers.now)) table.now.slices
+        (map (λ l. l.items) layers.now) }
 {
     let slices = table.slices.as_slice();
     let most = u128::from(cap) + u128::from(multiplier) * u128::from(size);

@@ -1,8 +1,7 @@
-//! The lines of all undominated pairs.
+//! The lines of a Pareto frontier.
 
 ghost use Rattle.std.specs.Prelude.{◌≡◌, ◌++◌, OnOk, IfOk};
 ghost use Rattle.std.specs.List.{flat_map};
-ghost use Rattle.std.specs.Fmt.{decimal};
 ghost use Rattle.rate_least.specs.Runs.{point_line, curve_text};
 
 use crate::outcome::WidePair;
@@ -31,7 +30,7 @@ fn put_points(text: &mut Vec<u8>, points: &[WidePair]) -> Result<(), NoMemory>
     Ok(())
 }
 
-/// A line for each pair, and their number.
+/// A line for each pair, and one with their number.
 pub(crate) fn lines_of_curve(alloc: Global, points: &[WidePair]) -> Result<Vec<u8>, NoMemory>
     ensures { IfOk result (λ text. text.items ≡ curve_text points.now) }
 {

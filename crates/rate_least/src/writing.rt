@@ -1,8 +1,8 @@
-//! Certificates, written. No memory is taken.
+//! Writes certificates. Takes no memory.
 
 ghost use Rattle.std.specs.Prelude.{◌≡◌, ◌++◌, ◌∷◌, ◌≤◌, OnOk, OnErr, is_err, length, map, codes};
 ghost use Rattle.std.specs.Int.{w64, to_be_bytes};
-ghost use Rattle.std.specs.List.{flat_map, All, sum_by};
+ghost use Rattle.std.specs.List.{flat_map, sum_by};
 ghost use Rattle.pw_outside.specs.Ports.{CountsFault};
 ghost use Rattle.pw_outside.specs.Writing.{sink_state, Puts, PutsFront};
 ghost use Rattle.rate_table.specs.Body.{body_bytes};
@@ -27,7 +27,7 @@ fn bytes_of_pair(pair: WidePair) -> [u8; 16]
     ]
 }
 
-/// The bytes of the sums of a choice, and of its multiplier.
+/// The bytes of a choice's size, error and multiplier.
 fn bytes_of_sums(size: u64, error: u64, multiplier: u64) -> [u8; 24]
     ensures { result ≡ sums_bytes size error multiplier }
 {
@@ -41,7 +41,7 @@ fn bytes_of_sums(size: u64, error: u64, multiplier: u64) -> [u8; 24]
     ]
 }
 
-/// The bytes in front of the table: the letters, the version and the cap.
+/// The bytes before the table: the magic number, the version and the cap.
 fn bytes_of_start(cap: u64) -> [u8; 13]
     ensures { result ≡ codes "PWLC" ++ (1 ∷ to_be_bytes w64 cap) }
 {
@@ -52,8 +52,10 @@ fn bytes_of_start(cap: u64) -> [u8; 13]
 }
 
 fn write_pairs<K: ByteSink>(pairs: &[WidePair], sink: &mut K) -> Result<(), Failed>
-    ensures all { OnOk result (Puts (sink_state (K.held sink.old) (K.taken sink.old)) (sink_state (K.held sink.new) (K.taken sink.new)) (flat_map pair_bytes pairs.now)) }
-    ensures front { OnErr result (PutsFront (sink_state (K.held sink.old) (K.taken sink.old)) (sink_state (K.held sink.new) (K.taken sink.new)) (flat_map pair_bytes pairs.now)) }
+    ensures all { OnOk result (Puts (sink_state (K.held sink.old) (K.taken sink.old))
+        (sink_state (K.held sink.new) (K.taken sink.new)) (flat_map pair_bytes pairs.now)) }
+    ensures front { OnErr result (PutsFront (sink_state (K.held sink.old) (K.taken sink.old))
+        (sink_state (K.held sink.new) (K.taken sink.new)) (flat_map pair_bytes pairs.now)) }
     ensures settled { K.settled sink.old ≤ K.settled sink.new }
     ensures cause { CountsFault (K.faults sink.old) (K.faults sink.new) (is_err result) }
 {
@@ -65,8 +67,10 @@ fn write_pairs<K: ByteSink>(pairs: &[WidePair], sink: &mut K) -> Result<(), Fail
 
 fn write_layer<K: ByteSink>(layer: &[WidePair], sink: &mut K) -> Result<(), Failed>
     requires { length layer.now ≤ most_pairs }
-    ensures all { OnOk result (Puts (sink_state (K.held sink.old) (K.taken sink.old)) (sink_state (K.held sink.new) (K.taken sink.new)) (layer_bytes layer.now)) }
-    ensures front { OnErr result (PutsFront (sink_state (K.held sink.old) (K.taken sink.old)) (sink_state (K.held sink.new) (K.taken sink.new)) (layer_bytes layer.now)) }
+    ensures all { OnOk result (Puts (sink_state (K.held sink.old) (K.taken sink.old))
+        (sink_state (K.held sink.new) (K.taken sink.new)) (layer_bytes layer.now)) }
+    ensures front { OnErr result (PutsFront (sink_state (K.held sink.old) (K.taken sink.old))
+        (sink_state (K.held sink.new) (K.taken sink.new)) (layer_bytes layer.now)) }
     ensures settled { K.settled sink.old ≤ K.settled sink.new }
     ensures cause { CountsFault (K.faults sink.old) (K.faults sink.new) (is_err result) }
 {
@@ -77,8 +81,10 @@ fn write_layer<K: ByteSink>(layer: &[WidePair], sink: &mut K) -> Result<(), Fail
 
 fn write_layers<K: ByteSink>(layers: &[Vec<WidePair>], sink: &mut K) -> Result<(), Failed>
     requires { sum_by length (map (λ l. l.items) layers.now) ≤ most_pairs }
-    ensures all { OnOk result (Puts (sink_state (K.held sink.old) (K.taken sink.old)) (sink_state (K.held sink.new) (K.taken sink.new)) (flat_map layer_bytes (map (λ l. l.items) layers.now))) }
-    ensures front { OnErr result (PutsFront (sink_state (K.held sink.old) (K.taken sink.old)) (sink_state (K.held sink.new) (K.taken sink.new)) (flat_map layer_bytes (map (λ l. l.items) layers.now))) }
+    ensures all { OnOk result (Puts (sink_state (K.held sink.old) (K.taken sink.old))
+        (sink_state (K.held sink.new) (K.taken sink.new)) (flat_map layer_bytes (map (λ l. l.items) layers.now))) }
+    ensures front { OnErr result (PutsFront (sink_state (K.held sink.old) (K.taken sink.old))
+        (sink_state (K.held sink.new) (K.taken sink.new)) (flat_map layer_bytes (map (λ l. l.items) layers.now))) }
     ensures settled { K.settled sink.old ≤ K.settled sink.new }
     ensures cause { CountsFault (K.faults sink.old) (K.faults sink.new) (is_err result) }
 {
@@ -88,7 +94,7 @@ fn write_layers<K: ByteSink>(layers: &[Vec<WidePair>], sink: &mut K) -> Result<(
     Ok(())
 }
 
-/// Writes what is printed behind the verdict where a choice meets the cap.
+/// Writes the part after the verdict if a choice meets the cap.
 fn write_fit<K: ByteSink>(
     choice: &[u8],
     sums: &[u8; 24],
@@ -96,8 +102,12 @@ fn write_fit<K: ByteSink>(
     sink: &mut K,
 ) -> Result<(), Failed>
     requires { sum_by length (map (λ l. l.items) layers.now) ≤ most_pairs }
-    ensures all { OnOk result (Puts (sink_state (K.held sink.old) (K.taken sink.old)) (sink_state (K.held sink.new) (K.taken sink.new)) (1 ∷ (choice.now ++ (sums.now ++ flat_map layer_bytes (map (λ l. l.items) layers.now))))) }
-    ensures front { OnErr result (PutsFront (sink_state (K.held sink.old) (K.taken sink.old)) (sink_state (K.held sink.new) (K.taken sink.new)) (1 ∷ (choice.now ++ (sums.now ++ flat_map layer_bytes (map (λ l. l.items) layers.now))))) }
+    ensures all { OnOk result (Puts (sink_state (K.held sink.old) (K.taken sink.old))
+        (sink_state (K.held sink.new) (K.taken sink.new)) (1
+        ∷ (choice.now ++ (sums.now ++ flat_map layer_bytes (map (λ l. l.items) layers.now))))) }
+    ensures front { OnErr result (PutsFront (sink_state (K.held sink.old) (K.taken sink.old))
+        (sink_state (K.held sink.new) (K.taken sink.new)) (1
+        ∷ (choice.now ++ (sums.now ++ flat_map layer_bytes (map (λ l. l.items) layers.now))))) }
     ensures settled { K.settled sink.old ≤ K.settled sink.new }
     ensures cause { CountsFault (K.faults sink.old) (K.faults sink.new) (is_err result) }
 {
@@ -109,8 +119,10 @@ fn write_fit<K: ByteSink>(
 
 /// Writes that no choice meets the cap, and the least error.
 fn write_none<K: ByteSink>(least_error: u64, sink: &mut K) -> Result<(), Failed>
-    ensures all { OnOk result (Puts (sink_state (K.held sink.old) (K.taken sink.old)) (sink_state (K.held sink.new) (K.taken sink.new)) (0 ∷ to_be_bytes w64 least_error)) }
-    ensures front { OnErr result (PutsFront (sink_state (K.held sink.old) (K.taken sink.old)) (sink_state (K.held sink.new) (K.taken sink.new)) (0 ∷ to_be_bytes w64 least_error)) }
+    ensures all { OnOk result (Puts (sink_state (K.held sink.old) (K.taken sink.old))
+        (sink_state (K.held sink.new) (K.taken sink.new)) (0 ∷ to_be_bytes w64 least_error)) }
+    ensures front { OnErr result (PutsFront (sink_state (K.held sink.old) (K.taken sink.old))
+        (sink_state (K.held sink.new) (K.taken sink.new)) (0 ∷ to_be_bytes w64 least_error)) }
     ensures settled { K.settled sink.old ≤ K.settled sink.new }
     ensures cause { CountsFault (K.faults sink.old) (K.faults sink.new) (is_err result) }
 {
@@ -118,15 +130,17 @@ fn write_none<K: ByteSink>(least_error: u64, sink: &mut K) -> Result<(), Failed>
     put_all(sink, &least_error.to_be_bytes())
 }
 
-/// Writes what stands behind the table.
+/// Writes the part after the table.
 fn write_said<K: ByteSink>(
     table: &FrameTable,
     outcome: &LeastOutcome,
     sink: &mut K,
 ) -> Result<(), Failed>
     requires { CanBeSaid table.now (said_by outcome.now) }
-    ensures all { OnOk result (Puts (sink_state (K.held sink.old) (K.taken sink.old)) (sink_state (K.held sink.new) (K.taken sink.new)) (said_bytes (said_by outcome.now))) }
-    ensures front { OnErr result (PutsFront (sink_state (K.held sink.old) (K.taken sink.old)) (sink_state (K.held sink.new) (K.taken sink.new)) (said_bytes (said_by outcome.now))) }
+    ensures all { OnOk result (Puts (sink_state (K.held sink.old) (K.taken sink.old))
+        (sink_state (K.held sink.new) (K.taken sink.new)) (said_bytes (said_by outcome.now))) }
+    ensures front { OnErr result (PutsFront (sink_state (K.held sink.old) (K.taken sink.old))
+        (sink_state (K.held sink.new) (K.taken sink.new)) (said_bytes (said_by outcome.now))) }
     ensures settled { K.settled sink.old ≤ K.settled sink.new }
     ensures cause { CountsFault (K.faults sink.old) (K.faults sink.new) (is_err result) }
 {
@@ -146,10 +160,14 @@ fn write_said<K: ByteSink>(
     }
 }
 
-/// Writes the letters, the version and the cap, and the table.
+/// Writes the magic number, the version, the cap and the table.
 fn write_front<K: ByteSink>(table: &FrameTable, cap: u64, sink: &mut K) -> Result<(), Failed>
-    ensures all { OnOk result (Puts (sink_state (K.held sink.old) (K.taken sink.old)) (sink_state (K.held sink.new) (K.taken sink.new)) ((codes "PWLC" ++ (1 ∷ to_be_bytes w64 cap)) ++ body_bytes table.now)) }
-    ensures front { OnErr result (PutsFront (sink_state (K.held sink.old) (K.taken sink.old)) (sink_state (K.held sink.new) (K.taken sink.new)) ((codes "PWLC" ++ (1 ∷ to_be_bytes w64 cap)) ++ body_bytes table.now)) }
+    ensures all { OnOk result (Puts (sink_state (K.held sink.old) (K.taken sink.old))
+        (sink_state (K.held sink.new) (K.taken sink.new)) ((codes "PWLC" ++ (1 ∷ to_be_bytes w64 cap)) ++ body_bytes
+        table.now)) }
+    ensures front { OnErr result (PutsFront (sink_state (K.held sink.old) (K.taken sink.old))
+        (sink_state (K.held sink.new) (K.taken sink.new)) ((codes "PWLC" ++ (1 ∷ to_be_bytes w64 cap)) ++ body_bytes
+        table.now)) }
     ensures settled { K.settled sink.old ≤ K.settled sink.new }
     ensures cause { CountsFault (K.faults sink.old) (K.faults sink.new) (is_err result) }
 {
@@ -157,10 +175,11 @@ fn write_front<K: ByteSink>(table: &FrameTable, cap: u64, sink: &mut K) -> Resul
     write_body(table, sink)
 }
 
-/// Writes a certificate: the letters `PWLC`, the version 1, the cap, the table, and what is said of them. Where a choice meets the
-/// cap there is one index for each slice, one layer more than slices, and at most 2^25 pairs. No memory is taken.
+/// Writes a certificate: the magic number `PWLC`, the version 1, the cap, the table, and the outcome for them. If a
+/// choice meets the cap, there is one index for each slice, one layer more than slices, and at most 2^25 pairs.
+/// Takes no memory.
 ///
-/// `Failed` where a call of the sink failed; it then has taken a front of the certificate.
+/// The error is `Failed` if a call of the sink failed; the sink then has a prefix of the certificate.
 pub fn write_least<K: ByteSink>(
     table: &FrameTable,
     cap: u64,
@@ -168,9 +187,13 @@ pub fn write_least<K: ByteSink>(
     sink: &mut K,
 ) -> Result<(), Failed>
     requires { CanBeSaid table.now (said_by outcome.now) }
-    // The sink took the certificate; where a call of it failed, a front of it.
-    ensures all { OnOk result (Puts (sink_state (K.held sink.old) (K.taken sink.old)) (sink_state (K.held sink.new) (K.taken sink.new)) (cert_bytes (record { table = table.now; cap = cap; said = said_by outcome.now }))) }
-    ensures front { OnErr result (PutsFront (sink_state (K.held sink.old) (K.taken sink.old)) (sink_state (K.held sink.new) (K.taken sink.new)) (cert_bytes (record { table = table.now; cap = cap; said = said_by outcome.now }))) }
+    // The sink takes the certificate, or a prefix of it if a call of the sink failed.
+    ensures all { OnOk result (Puts (sink_state (K.held sink.old) (K.taken sink.old))
+        (sink_state (K.held sink.new) (K.taken sink.new)) (cert_bytes
+        (record { table = table.now; cap = cap; said = said_by outcome.now }))) }
+    ensures front { OnErr result (PutsFront (sink_state (K.held sink.old) (K.taken sink.old))
+        (sink_state (K.held sink.new) (K.taken sink.new)) (cert_bytes
+        (record { table = table.now; cap = cap; said = said_by outcome.now }))) }
     ensures settled { K.settled sink.old ≤ K.settled sink.new }
     ensures cause { CountsFault (K.faults sink.old) (K.faults sink.new) (is_err result) }
 {

@@ -1,4 +1,4 @@
--- One entry more behind the entries of a slice.
+-- One entry more after the entries of a slice.
 use Rattle.std.proofs.Common.{◌≡◌, ◌+◌, ◌<◌, ◌≤◌, List, [], ◌∷◌, ◌++◌, length, refl, arith, length-append}
 use Rattle.std.specs.List.{All}
 use Rattle.std.proofs.lemmas.List.Elements.{All-head, All-tail, All-push}
@@ -6,7 +6,7 @@ use Rattle.rate_table.specs.declared.entry.Entry.{Entry}
 use Rattle.rate_table.specs.Table.{IsEntry, IndicesRise, IsSliceTable}
 use Rattle.rate_table.specs.Body.{last_index}
 
--- indices that rise from the first up to the last are no more than the numbers between them
+-- indices that rise from the first to the last are no more than the numbers between them
 rise-room : (x : Entry) (xs : List Entry) → IndicesRise (x ∷ xs) → x.index + length xs ≤ last_index (x ∷ xs)
 rise-room x [] h = omega arith
 rise-room x (y ∷ xs) h = let more = rise-room y xs h.1 in let first = h.0 in omega arith
@@ -38,7 +38,7 @@ rise-behind [] e h below = tt
 rise-behind (x ∷ []) e h below = (below, tt)
 rise-behind (x ∷ y ∷ xs) e h below = (h.0, rise-behind (y ∷ xs) e h.1 below)
 
--- the index of the last entry is that of the one that was put behind
+-- the index of the last entry is that of the appended one
 pub last_index-behind : (entries : List Entry) (e : Entry) → last_index (entries ++ e ∷ []) ≡ e.index
 last_index-behind [] e = refl
 last_index-behind (x ∷ []) e = refl

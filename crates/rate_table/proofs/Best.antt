@@ -1,4 +1,4 @@
--- There is a best choice where one fits, and it is one; none fits exactly below the least sizes.
+-- If a choice fits there is a best one, and it is unique; none fits exactly if the least sizes exceed the budget.
 use Rattle.std.proofs.Common.{◌≡◌, ℕ, ◌<◌, List, [], ◌∷◌, Option, None, Some, refl, sym, arith, ⊎_elim}
 use Rattle.std.proofs.lemmas.Bool.{cases_lt}
 use Rattle.rate_table.specs.declared.entry.Entry.{Entry}

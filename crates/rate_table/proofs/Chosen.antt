@@ -1,4 +1,4 @@
--- Choices as a loop over the slices finds them, and least sizes as it keeps them.
+-- Choices and least sizes as a loop over the slices builds them.
 use Rattle.std.proofs.Common.{◌≡◌, ℕ, zero, suc, ◌+◌, ◌<◌, ◌≤◌, min, List, [], ◌∷◌, ◌++◌, length, get_or, take, refl, sym, ap, ◌∙◌, arith, add-one}
 use Rattle.std.specs.List.{Contains}
 use Rattle.std.proofs.lemmas.List.{map-append, take_more}
@@ -6,7 +6,7 @@ use Rattle.std.proofs.lemmas.List.Sums.{sum_by_push}
 use Rattle.rate_table.specs.declared.entry.Entry.{Entry}
 use Rattle.rate_table.specs.Table.{IsChoice, HasSums, HasNoChoice, indices, least}
 
--- a list of another length has no choice
+-- an index list of another length has no choice
 pub no_choice-length : (slices : List (List Entry)) (chosen : List ℕ) → (length slices ≡ length chosen → ⊥) → HasNoChoice slices chosen
 no_choice-length [] chosen other [] h e = other (ap length e)
 no_choice-length [] chosen other (x ∷ c) h e = h
@@ -16,7 +16,7 @@ no_choice-length (s ∷ slices) (i ∷ chosen) other (x ∷ c) h e =
     let more : indices c ≡ chosen = cc in
     no_choice-length slices chosen (λ same. other (ap suc same)) c h.1 more
 
--- a list with an index that has no entry has no choice
+-- an index list with an index that has no entry has no choice
 pub no_choice-entry : (slices : List (List Entry)) (chosen : List ℕ) (k : ℕ) → k < length slices → ((e : Entry) → Contains (get_or slices k []) e → e.index ≡ get_or chosen k 0 → ⊥) → HasNoChoice slices chosen
 no_choice-entry [] chosen k lt none c h e = omega arith
 no_choice-entry (s ∷ slices) chosen k lt none [] h e = h
@@ -51,7 +51,7 @@ least_from-min : (f : Entry → ℕ) (m : ℕ) (x : Entry) (xs : List Entry) →
 least_from-min f m x [] = refl
 least_from-min f m x (y ∷ xs) = omega (arith, least_from-min f (min m (f x)) y xs)
 
--- from the value of the first entry on, it is the least of all
+-- starting with the value of the first entry, it is the least of all
 pub least_from-first : (f : Entry → ℕ) (x : Entry) (xs : List Entry) → 1 ≤ length xs → least_from f (f (get_or xs 0 x)) xs ≡ least f xs
 least_from-first f d [] h = absurd (omega arith)
 least_from-first f d (x ∷ []) h = omega arith

@@ -1,4 +1,4 @@
--- Least costs of slices, and costs of choices.
+-- Least Lagrangian costs of slices, and costs of choices.
 use Rattle.std.proofs.Common.{◌≡◌, ℕ, ◌+◌, ◌*◌, ◌≤◌, List, [], ◌∷◌, ap, arith}
 use Rattle.std.specs.List.{Contains, sum_by}
 use Rattle.std.proofs.lemmas.List.Sums.{sum_by-cons}
@@ -20,7 +20,7 @@ cost_split m (x ∷ c) =
     let b = ap (λ n. m * n) a in
     omega (arith, sum_by-cons f x c, sum_by-cons (λ x. x.error) x c, b, cost_split m c)
 
--- the least costs together are at most what a choice costs
+-- the sum of the least costs is at most the cost of a choice
 pub rest_below : (m : ℕ) (slices : List (List Entry)) (c : List Entry) → IsChoice slices c → rest m slices ≤ error_of c + m * size_of c
 rest_below m slices c h =
     omega (arith, least_below (λ x. x.error + m * x.size) slices c h, cost_split m c)

@@ -19,7 +19,7 @@ pub rest_rises : (x : Entry) (xs : List Entry) → IndicesRise (x ∷ xs) → In
 rest_rises x [] h = tt
 rest_rises x (y ∷ xs) h = h.1
 
--- entries of one index are one
+-- entries with the same index are equal
 pub index_same : (xs : List Entry) (x y : Entry) → IndicesRise xs → Contains xs x → Contains xs y → x.index ≡ y.index → x ≡ y
 index_same [] x y r c d e = absurd (contains_none x c)
 index_same (z ∷ xs) x y r c d e =
@@ -28,7 +28,7 @@ index_same (z ∷ xs) x y r c d e =
     (λ i. ⊎_elim (λ b. let b' = ap (λ (w : Entry). w.index) b in absurd (omega (arith, index_after z xs x r i))) (λ j. index_same xs x y (rest_rises z xs r) i j e) (contains_cases z xs y d))
     (contains_cases z xs x c)
 
--- choices of one index list are one
+-- choices with the same indices are equal
 pub choice_same : (slices : List (List Entry)) → All IsSliceTable slices → (c d : List Entry) → IsChoice slices c → IsChoice slices d → indices c ≡ indices d → c ≡ d
 choice_same [] a [] [] h i e = refl
 choice_same [] a [] (y ∷ d) h i e = absurd i
@@ -46,7 +46,7 @@ choice_same (s ∷ ss) a (x ∷ c) (y ∷ d) h i e =
 -- ---- least sizes
 
 -- some entry has the least value
-least_attained : (f : Entry → ℕ) (x : Entry) (xs : List Entry) → (y : Entry) × Contains (x ∷ xs) y × (f y ≡ least f (x ∷ xs))
+pub least_attained : (f : Entry → ℕ) (x : Entry) (xs : List Entry) → (y : Entry) × Contains (x ∷ xs) y × (f y ≡ least f (x ∷ xs))
 least_attained f x [] = (x, contains_head x [], refl)
 least_attained f x (z ∷ xs) =
     let r = least_attained f z xs in
@@ -69,7 +69,7 @@ least_at f (y ∷ []) (suc k) x h e = omega arith
 least_at f (y ∷ z ∷ xs) zero x h e = let e' = ap f e in omega arith
 least_at f (y ∷ z ∷ xs) (suc k) x h e = let ih = least_at f (z ∷ xs) k x (omega arith) e in omega arith
 
--- the least values together are at most what a choice has
+-- the sum of the least values is at most that of a choice
 pub least_below : (f : Entry → ℕ) (slices : List (List Entry)) (c : List Entry) → IsChoice slices c → sum_by (least f) slices ≤ sum_by f c
 least_below f [] [] h = omega arith
 least_below f [] (x ∷ c) h = absurd h

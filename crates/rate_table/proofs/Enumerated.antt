@@ -1,4 +1,5 @@
--- The list of all choices: it has the choices, in the order of their index lists, and the best of it is the best choice.
+-- The list of all choices: it has exactly the choices, in the order of their index lists, and its best element is
+-- the best choice.
 use Rattle.std.proofs.Common.{◌≡◌, ℕ, ◌<◌, ◌≤◌, true, false, ◌&&◌, List, [], ◌∷◌, ◌++◌, map, length, None, Some, refl, sym, ap, ◌∙◌, subst, arith, ◌⊎◌, inl, inr, ⊎_elim}
 use Rattle.std.specs.List.{Contains, flat_map, All}
 use Rattle.std.proofs.lemmas.List.Elements.{All-head, All-tail, Contains-append_cases}
@@ -9,7 +10,7 @@ use Rattle.rate_table.specs.Choices.{all_choices, width, fits, beats, better, be
 use Rattle.rate_table.proofs.Lists.{contains_cases, contains_head, contains_tail, contains_none, contains_map, map_contains, contains_flat, flat_contains, length-flat}
 use Rattle.rate_table.proofs.Entries.{index_after, rest_rises}
 
--- ---- what the list has
+-- ---- its elements
 
 abbrev with_entries : List Entry → List (List Entry) → List (List Entry)
 with_entries slice choices = flat_map (λ x. map (λ choice. x ∷ choice) choices) slice
@@ -52,7 +53,7 @@ comes_first-then (x ∷ xs) (y ∷ ys) (z ∷ zs) a b =
     ⊎_elim (λ l. ⊎_elim (λ k. inl (omega arith)) (λ k. inl (omega (arith, k.0))) b)
     (λ l. ⊎_elim (λ k. inl (omega (arith, l.0))) (λ k. inr (l.0 ∙ k.0, comes_first-then xs ys zs l.1 k.1)) b) a
 
--- each choice comes before those behind it
+-- each choice comes before those after it
 abbrev pub InOrder : List (List Entry) → Type 0
 InOrder [] = Unit {0}
 InOrder (c ∷ cs) = ((d : List Entry) → Contains cs d → ComesFirst (indices c) (indices d)) × InOrder cs
@@ -84,9 +85,9 @@ pub all_in_order : (slices : List (List Entry)) → All IsSliceTable slices → 
 all_in_order [] a = (λ d c. absurd (contains_none d c), tt)
 all_in_order (s ∷ ss) a = order-entries s (all_choices ss) (All-head IsSliceTable s ss a).rises (all_in_order ss (All-tail IsSliceTable s ss a))
 
--- ---- the best of it
+-- ---- its best element
 
--- b is no worse than a fitting choice c, and comes before it where they have one pair
+-- b is no worse than a fitting choice c, and comes before it if they have the same pair
 record Leads (b c : List Entry) : Type 0 where
   error : error_of b ≤ error_of c
   size : error_of c ≡ error_of b → size_of b ≤ size_of c
@@ -142,7 +143,7 @@ beaten-then b held c h before l =
           comes_first-then (indices b) (indices held) (indices c) (l.first (λ i. record { size = m i; error = n i })) before;
     }
 
--- a choice is taken, or passed
+-- a choice is taken or skipped
 best-taken : (t : Table) (held c b : List Entry) (cs : List (List Entry)) → (fits t c && beats c held) ≡ true → Best t b (c ∷ cs) → Best t b (held ∷ c ∷ cs)
 best-taken t held c b cs h r =
     let parts = and_parts _ _ h in
@@ -169,7 +170,7 @@ best-passed t held c b cs h f before r =
           (contains_cases held (c ∷ cs) d i);
     }
 
--- where one choice is held, that and the choices behind it
+-- with a best choice so far: it and the choices after it
 best_of-held : (t : Table) (held b : List Entry) (cs : List (List Entry)) → Fits t held → InOrder (held ∷ cs) → best_of t (Some held) cs ≡ Some b → Best t b (held ∷ cs)
 best_of-held t held b [] f order e =
     let same : held ≡ b = cc in
@@ -194,7 +195,7 @@ best-unfit t c b cs h r = record {
   leads = λ d i g. ⊎_elim (λ e. absurd (both_ways _ h (le-leb _ _ (subst (λ w. Fits t w) (sym e) g)))) (λ j. r.leads d j g) (contains_cases c cs d i);
 }
 
--- where none is held
+-- with no best choice so far
 best_of-choices : (t : Table) (b : List Entry) (cs : List (List Entry)) → InOrder cs → best_of t None cs ≡ Some b → Best t b cs
 best_of-choices t b [] order e = absurd (cc)
 best_of-choices t b (c ∷ cs) order e =
@@ -217,7 +218,7 @@ none_fits t (d ∷ cs) e c i g =
     ⊎_elim (λ h. held_stays t d cs (subst (λ w. best_of t w cs ≡ None) (cond-true (fits t d) (Some d) None h) e))
     (λ h. ⊎_elim (λ same. both_ways _ h (le-leb _ _ (subst (λ w. Fits t w) (sym same) g))) (λ j. none_fits t cs (subst (λ w. best_of t w cs ≡ None) (cond-false (fits t d) (Some d) None h) e) c j g) (contains_cases d cs c i)) (cases_Bool (fits t d))
 
--- The best of all choices, by the test `beats` from the first on, is the best choice.
+-- The best of all choices by the test `beats`, from the first on, is the best choice.
 pub best_of-is_best : (t : Table) (b : List Entry) → IsTable t → best_of t None (all_choices t.slices) ≡ Some b → IsBest t b
 best_of-is_best t b ok e =
     let r = best_of-choices t b (all_choices t.slices) (all_in_order t.slices ok.each) e in
@@ -229,6 +230,6 @@ best_of-is_best t b ok e =
       first = λ other h same. let m = ap (λ p. p.size) same in (r.leads other (choices_are_all t.slices other h) (omega (arith, r.fits))).first same;
     }
 
--- Where there is none, no choice fits.
+-- If there is none, no choice fits.
 pub best_of-none : (t : Table) → best_of t None (all_choices t.slices) ≡ None → HasNoFit t
 best_of-none t e c h g = none_fits t (all_choices t.slices) e c (choices_are_all t.slices c h) g

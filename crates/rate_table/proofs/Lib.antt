@@ -1,6 +1,8 @@
 pub mod InTurn
+pub mod Here
 pub mod Chosen
 pub mod Lists
+pub mod Vectors
 pub mod Entries
 pub mod Enumerated
 pub mod Best

@@ -1,4 +1,4 @@
--- Elements of lists that are made of others.
+-- Elements of lists that are built from others.
 use Rattle.std.proofs.Common.{◌≡◌, ℕ, zero, suc, ◌*◌, List, [], ◌∷◌, map, length, refl, sym, subst, arith, ◌⊎◌, inl, inr, ⊎_elim}
 use Rattle.std.specs.List.{Contains, flat_map}
 use Rattle.std.proofs.Math.Nat.{suc-mul}
@@ -38,7 +38,7 @@ flat_contains f [] x y c d = absurd (contains_none x c)
 flat_contains f (z ∷ xs) x y c d =
     ⊎_elim (λ e. Contains-append_left (f z) (flat_map f xs) y (subst (λ w. Contains (f w) y) (sym e) d)) (λ i. Contains-append_right (f z) (flat_map f xs) y (flat_contains f xs x y i d)) (contains_cases z xs x c)
 
--- as many pieces as elements, each of one length
+-- one piece for each element, all of the same length
 pub length-flat : {X Y : Type 0} (f : X → List Y) (n : ℕ) (xs : List X) → ((x : X) → length (f x) ≡ n) → length (flat_map f xs) ≡ length xs * n
 length-flat f n [] each = omega arith
 length-flat f n (x ∷ xs) each = omega (arith, length-append (f x) (flat_map f xs), each x, length-flat f n xs each, suc-mul (length xs) n)

@@ -8,15 +8,16 @@ use Rattle.std.proofs.lemmas.List.Sums.{sum_by-cons}
 use Rattle.std.proofs.Math.Nat.{mul_assoc, mul-pos, add-div_right, add-mod_right, div-eq_of_lt, mod-eq_of_lt, le-mul_of_pos_right, mul-div_cancel_left}
 use Rattle.std.proofs.lemmas.Nat.{div_below}
 use Rattle.rate_table.specs.declared.entry.Entry.{Entry}
+use Rattle.rate_table.specs.declared.table.TheConstants.{MAX_TABLE_SLICES}
 use Rattle.rate_table.specs.Table.{IsEntry, IsSliceTable, size_of, error_of, indices}
 use Rattle.rate_table.specs.Choices.{all_choices, width}
 use Rattle.rate_table.proofs.Enumerated.{count_is_width}
 use Rattle.rate_table.specs.declared.small.Sums.{Sums}
 use Rattle.rate_table.specs.Small.{sums_of, all_sums, plus, choice_at}
 
--- ---- how many choices there are
+-- ---- the number of choices
 
--- the rest of a list of slices behind one of them
+-- the rest of a list of slices after one of them
 pub rest_of_slices : (slices : List (List Entry)) (i : ℕ) → i < length slices → All IsSliceTable (drop i slices) → All IsSliceTable (drop (i + 1) slices)
 rest_of_slices slices i lt each = All-tail IsSliceTable (get_or slices i []) (drop (i + 1) slices) (subst (λ l. All IsSliceTable l) (drop_more slices i [] lt) each)
 
@@ -84,12 +85,12 @@ sums-below : (slices : List (List Entry)) → All IsSliceTable slices → All (A
 sums-below [] h = All-cons (AreBelow 0) (record { size = 0; error = 0 }) [] (omega arith, omega arith) (All-nil (AreBelow 0))
 sums-below (s ∷ slices) h = rw (all_sums-cons s slices) (below-block (length slices) s (all_sums slices) (All-head IsSliceTable s slices h).limits (sums-below slices (All-tail IsSliceTable s slices h)))
 
-pub sums-small : (slices : List (List Entry)) → All IsSliceTable slices → length slices ≤ 131070 → All (λ s. (s.size ≤ 2 ^ 40) × (s.error ≤ 2 ^ 62)) (all_sums slices)
+pub sums-small : (slices : List (List Entry)) → All IsSliceTable slices → length slices ≤ MAX_TABLE_SLICES → All (λ s. (s.size ≤ 2 ^ 40) × (s.error ≤ 2 ^ 62)) (all_sums slices)
 sums-small slices h few = λ k d lt. let below = sums-below slices h k d lt in (omega (arith, below.0, few), omega (arith, below.1, few))
 
--- ---- the choice of a number
+-- ---- the choice with a number
 
--- the sums at a place are those of the choice of that number
+-- the sums at a position are those of the choice with that number
 pub sums_at : (slices : List (List Entry)) (all : List Sums) (i : ℕ) → all ≡ all_sums slices → i < length all → get_or all i (record { size = 0; error = 0 }) ≡ sums_of (choice_at slices i)
 sums_at slices all i e lt =
     let fits : i < length (all_choices slices) = omega (arith, ap length e, length-map (all_choices slices) sums_of, lt) in
@@ -137,7 +138,7 @@ choice_at-more slices i rest s d lt e each below =
     let here : rest < length s * width (drop (i + 1) slices) = subst (λ (l : List (List Entry)). rest < width l) front below in
     ap (λ (l : List (List Entry)). indices (choice_at l rest)) front ∙ ap (λ (c : List Entry). indices c) (choice_at-cons s (drop (i + 1) slices) rest d (rest_of_slices slices i lt each) here)
 
--- sums that were read at a place are those of the choice of that number
+-- sums that were read at a position are those of the choice with that number
 pub sums_read : (slices : List (List Entry)) (all : List Sums) (i : ℕ) (s : Sums) → all ≡ all_sums slices → i < length all → s ≡ get_or all i s → s ≡ sums_of (choice_at slices i)
 sums_read slices all i s e lt read =
     let fits : i < length (all_choices slices) = omega (arith, ap length e, length-map (all_choices slices) sums_of, lt) in

@@ -1,4 +1,4 @@
--- What was written of a list of things, one after the other, as a loop does.
+-- Writing a list item by item, as a loop does.
 use Rattle.std.proofs.Common.{◌≡◌, ℕ, ◌+◌, ◌<◌, List, [], ◌∷◌, ◌++◌, length, take, drop, get_or, sym, ap, ◌∙◌, subst, append_assoc}
 use Rattle.std.specs.Int.{w32, to_be_bytes}
 use Rattle.std.specs.List.{flat_map}
@@ -12,7 +12,7 @@ use Rattle.rate_table.specs.Body.{entry_bytes, slice_bytes, body_bytes}
 use Rattle.pw_outside.proofs.Puts.{puts_then, then_front, front_more}
 
 module _ {X : Type 0} (f : X → List ℕ) (xs : List X) (i : ℕ) (d : X) (within : i < length xs) where
-  -- the part of one thing more
+  -- one item more
   parts-next : flat_map f (take (i + 1) xs) ≡ flat_map f (take i xs) ++ f (get_or xs i d)
   parts-next = ap (flat_map f) (take_at_read xs i d within).1 ∙ flat_map-append f (take i xs) (get_or xs i d ∷ []) ∙ ap (λ l. flat_map f (take i xs) ++ l) (append-nil (f (get_or xs i d)))
 
@@ -25,7 +25,7 @@ module _ {X : Type 0} (f : X → List ℕ) (xs : List X) (i : ℕ) (d : X) (with
   pub parts-end : {a b c : SinkState} → Puts a b (flat_map f (take i xs)) → PutsFront b c (f (get_or xs i d)) → PutsFront a c (flat_map f xs)
   parts-end {a} {b} {c} p q = subst (PutsFront a c) (sym parts-all) (front_more (flat_map f (drop (i + 1) xs)) (then_front p q))
 
--- ---- a slice: the number of its entries, and then the entries
+-- ---- a slice: the number of its entries, then the entries
 
 pub slice-number : {a b : SinkState} (entries slice : List Entry) → entries ≡ slice → PutsFront a b (length entries ∷ []) → PutsFront a b (slice_bytes slice)
 slice-number {a} {b} entries slice e p = subst (λ s. PutsFront a b (slice_bytes s)) e (front_more (flat_map entry_bytes entries) p)
@@ -33,7 +33,7 @@ slice-number {a} {b} entries slice e p = subst (λ s. PutsFront a b (slice_bytes
 pub slice-entries : {a b c : SinkState} (entries slice : List Entry) → entries ≡ slice → Puts a b (length entries ∷ []) → PutsFront b c (flat_map entry_bytes entries) → PutsFront a c (slice_bytes slice)
 slice-entries {a} {b} {c} entries slice e p q = subst (λ s. PutsFront a c (slice_bytes s)) e (then_front p q)
 
--- ---- the body: what stands in front of the slices, and then the slices
+-- ---- the body: its head, then the slices
 
 start : Table → List ℕ
 start t = to_be_bytes w32 t.budget ++ (to_be_bytes w32 t.fixed ++ to_be_bytes w32 (length t.slices))

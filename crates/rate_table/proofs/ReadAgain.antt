@@ -1,18 +1,20 @@
--- A table's body that was written is read again.
-use Rattle.std.proofs.Common.{◌≡◌, ℕ, ◌+◌, ◌^◌, ◌<◌, List, [], ◌∷◌, ◌++◌, length, Ok, refl, ap, ◌∙◌, arith, length-append, append_assoc}
-use Rattle.std.specs.Int.{w8, w16, w32, w64, to_be_bytes}
+-- The body that is written for a table is read as that table, and the indices of a choice as those indices.
+use Rattle.std.proofs.Common.{◌≡◌, ℕ, ◌+◌, ◌^◌, ◌<◌, List, [], ◌∷◌, ◌++◌, length, Ok, ap, ◌∙◌, arith, length-append, append_assoc}
+use Rattle.std.specs.Int.{w16, w32, w64, to_be_bytes}
 use Rattle.std.specs.List.{flat_map, All}
 use Rattle.std.proofs.lemmas.List.Concat.{flat_map-cons}
 use Rattle.std.proofs.lemmas.List.Elements.{All-head, All-tail}
-use Rattle.std.proofs.lemmas.Nat.{from_be_bytes-to_be_bytes_2, from_be_bytes-to_be_bytes_4, from_be_bytes-to_be_bytes_8}
 use Rattle.std.proofs.lemmas.Bool.{le-ltb, lt-leb, ne_eqb}
-use Rattle.pw_outside.specs.Reading.{Rest, number_at}
-use Rattle.pw_outside.proofs.Steps.{bind-step, refuse-step, number-here, same_rest}
+use Rattle.pw_outside.specs.Reading.{Rest}
+use Rattle.pw_outside.proofs.Steps.{bind-step, refuse-step, found, same_rest}
 use Rattle.rate_table.specs.declared.entry.Entry.{Entry}
-use Rattle.rate_table.specs.declared.fault.ProofKind.TheVariants.{TableShort}
+use Rattle.rate_table.specs.declared.fault.ProofKind.TheVariants.{TableShort, ProofShort}
+use Rattle.rate_table.specs.declared.table.TheConstants.{MAX_TABLE_SLICES}
 use Rattle.rate_table.specs.Table.{IsEntry, IndicesRise, IsSliceTable}
 use Rattle.rate_table.specs.Reading.{entry_at, entries_at, slice_at, slices_at, body_at}
 use Rattle.rate_table.specs.Body.{entry_bytes, slice_bytes, body_bytes, BodyIsReadAgain}
+use Rattle.rate_table.specs.Nested.{indices_at}
+use Rattle.rate_table.proofs.Here.{byte-here, two-here, four-here, eight-here}
 use Rattle.rate_table.proofs.Behind.{few-entries}
 use Rattle.rate_table.proofs.Entries.{rest_rises}
 
@@ -21,30 +23,18 @@ use Rattle.rate_table.proofs.Entries.{rest_rises}
 at : ℕ → List ℕ → Rest
 at place bytes = record { place = place; bytes = bytes }
 
-byte-here : (n place : ℕ) (behind : List ℕ) → number_at TableShort w8 (record { place = place; bytes = n ∷ behind }) ≡ Ok (n, record { place = place + 1; bytes = behind })
-byte-here n place behind = number-here TableShort w8 n place (n ∷ []) behind refl (omega arith)
-
-two-here : (n place : ℕ) (behind : List ℕ) → n < 2 ^ 16 → number_at TableShort w16 (record { place = place; bytes = to_be_bytes w16 n ++ behind }) ≡ Ok (n, record { place = place + 2; bytes = behind })
-two-here n place behind small = number-here TableShort w16 n place (to_be_bytes w16 n) behind refl (from_be_bytes-to_be_bytes_2 n small)
-
-four-here : (n place : ℕ) (behind : List ℕ) → n < 2 ^ 32 → number_at TableShort w32 (record { place = place; bytes = to_be_bytes w32 n ++ behind }) ≡ Ok (n, record { place = place + 4; bytes = behind })
-four-here n place behind small = number-here TableShort w32 n place (to_be_bytes w32 n) behind refl (from_be_bytes-to_be_bytes_4 n small)
-
-eight-here : (n place : ℕ) (behind : List ℕ) → n < 2 ^ 64 → number_at TableShort w64 (record { place = place; bytes = to_be_bytes w64 n ++ behind }) ≡ Ok (n, record { place = place + 8; bytes = behind })
-eight-here n place behind small = number-here TableShort w64 n place (to_be_bytes w64 n) behind refl (from_be_bytes-to_be_bytes_8 n small)
-
 -- ---- entries
 
 entry-again : (e : Entry) (low place : ℕ) (behind : List ℕ) → IsEntry e → low < e.index
     → entry_at low (record { place = place; bytes = entry_bytes e ++ behind }) ≡ Ok (e, record { place = place + 11; bytes = behind })
 unfolding entry_at
 entry-again e low place behind is above =
-    bind-step _ _ (byte-here e.index place ((to_be_bytes w16 e.size ++ to_be_bytes w64 e.error) ++ behind))
+    bind-step _ _ (byte-here TableShort e.index place ((to_be_bytes w16 e.size ++ to_be_bytes w64 e.error) ++ behind))
     ∙ refuse-step _ _ _ _ (ne_eqb e.index 0 (λ z. omega (arith, is.index_from)))
     ∙ refuse-step _ _ _ _ (le-ltb 224 e.index is.index_to)
     ∙ refuse-step _ _ _ _ (lt-leb e.index low above)
-    ∙ bind-step _ _ (two-here e.size (place + 1) (to_be_bytes w64 e.error ++ behind) is.size)
-    ∙ bind-step _ _ (eight-here e.error (place + 1 + 2) behind (omega (arith, is.error)))
+    ∙ bind-step _ _ (two-here TableShort e.size (place + 1) (to_be_bytes w64 e.error ++ behind) is.size)
+    ∙ bind-step _ _ (eight-here TableShort e.error (place + 1 + 2) behind (omega (arith, is.error)))
     ∙ refuse-step _ _ _ _ (lt-leb (2 ^ 43) e.error is.error)
     ∙ same_rest e _ _ behind (omega arith)
 
@@ -82,7 +72,7 @@ slice-again : (slice : List Entry) (place : ℕ) (behind : List ℕ) → IsSlice
     → slice_at (record { place = place; bytes = slice_bytes slice ++ behind }) ≡ Ok (slice, record { place = place + length (slice_bytes slice); bytes = behind })
 unfolding slice_at
 slice-again slice place behind is =
-    bind-step _ _ (byte-here (length slice) place (flat_map entry_bytes slice ++ behind))
+    bind-step _ _ (byte-here TableShort (length slice) place (flat_map entry_bytes slice ++ behind))
     ∙ refuse-step _ _ _ _ (ne_eqb (length slice) 0 (λ z. omega (arith, is.some)))
     ∙ refuse-step _ _ _ _ (le-ltb 224 (length slice) (few-entries slice is))
     ∙ entries-again slice 0 (place + 1) behind is.limits is.rises (from-one slice is.limits)
@@ -109,13 +99,24 @@ pub body-again : BodyIsReadAgain
 unfolding body_at body_bytes
 body-again t place behind is =
     let slices = flat_map slice_bytes t.slices in
-    bind-step _ _ (four-here t.budget place (to_be_bytes w32 t.fixed ++ (to_be_bytes w32 (length t.slices) ++ (slices ++ behind))) (omega (arith, is.budget_limit)))
+    bind-step _ _ (four-here TableShort t.budget place (to_be_bytes w32 t.fixed ++ (to_be_bytes w32 (length t.slices) ++ (slices ++ behind))) (omega (arith, is.budget_limit)))
     ∙ refuse-step _ _ _ _ (ne_eqb t.budget 0 (λ z. omega (arith, is.some_budget)))
     ∙ refuse-step _ _ _ _ (lt-leb (2 ^ 31) t.budget is.budget_limit)
-    ∙ bind-step _ _ (four-here t.fixed (place + 4) (to_be_bytes w32 (length t.slices) ++ (slices ++ behind)) (omega (arith, is.fixed_limit)))
+    ∙ bind-step _ _ (four-here TableShort t.fixed (place + 4) (to_be_bytes w32 (length t.slices) ++ (slices ++ behind)) (omega (arith, is.fixed_limit)))
     ∙ refuse-step _ _ _ _ (lt-leb (2 ^ 31) t.fixed is.fixed_limit)
-    ∙ bind-step _ _ (four-here (length t.slices) (place + 4 + 4) (slices ++ behind) (omega (arith, is.few)))
+    ∙ bind-step _ _ (four-here TableShort (length t.slices) (place + 4 + 4) (slices ++ behind) (omega (arith, is.few)))
     ∙ refuse-step _ _ _ _ (ne_eqb (length t.slices) 0 (λ z. omega (arith, is.some)))
-    ∙ refuse-step _ _ _ _ (le-ltb 131070 (length t.slices) is.few)
+    ∙ refuse-step _ _ _ _ (le-ltb MAX_TABLE_SLICES (length t.slices) is.few)
     ∙ bind-step _ _ (slices-again t.slices (place + 4 + 4 + 4) behind is.each)
     ∙ same_rest t _ _ behind (omega arith)
+
+-- ---- the indices of a choice
+
+pub indices-again : (choice : List ℕ) (place : ℕ) (behind : List ℕ)
+    → indices_at (length choice) (record { place = place; bytes = choice ++ behind }) ≡ found choice (place + length choice) behind
+unfolding indices_at
+indices-again [] place behind = same_rest [] _ _ behind (omega arith)
+indices-again (x ∷ xs) place behind =
+    bind-step _ _ (byte-here ProofShort x place (xs ++ behind))
+    ∙ bind-step _ _ (indices-again xs (place + 1) behind)
+    ∙ same_rest (x ∷ xs) _ _ behind (omega arith)

@@ -1,4 +1,4 @@
--- The clauses of a good record imply that no fitting choice has less error.
+-- No fitting choice has less error than a good record.
 use Rattle.std.proofs.Common.{◌≡◌, ℕ, suc, ◌+◌, ◌*◌, ◌<◌, ◌≤◌, List, [], ◌∷◌, length, get_or, refl, sym, subst, arith, inl, inr, ⊎_elim}
 use Rattle.std.specs.List.{Contains, All}
 use Rattle.std.proofs.lemmas.List.Sums.{sum_by-cons}
@@ -14,7 +14,7 @@ use Rattle.rate_table.proofs.Entries.{least_below}
 use Rattle.rate_table.proofs.Costs.{rest_below}
 
 module _ (t : Table) (r : Printed) where
-  -- What could go on to a fitting choice of less error is dominated by a pair of the next layer.
+  -- A pair that can be completed to a fitting choice of less error is dominated by a pair of the next layer.
   covered : (later : List (List Entry)) (next : List Pair) (p q : Pair) (d : List Entry) → IsCovered t r later next q → Dominates q p → IsChoice later d → t.fixed + (p.size + size_of d) ≤ t.budget → p.error + error_of d < r.error → (q' : Pair) × Contains next q' × Dominates q' p
   covered later next p q d (inl (q', has, below)) dom c fits less = (q', has, (omega arith, omega arith))
   covered later next p q d (inr (inl full)) dom c fits less =
@@ -24,7 +24,8 @@ module _ (t : Table) (r : Printed) where
       let h : m * (t.fixed + (q.size + size_of d)) ≤ m * t.budget = mul-le m (t.fixed + (q.size + size_of d)) m t.budget (omega arith) (omega arith) in
       absurd (passes (omega (arith, rest_below m later d c, h)))
 
-  -- By the slices that are left: p is the pair of a choice of the slices before, and the layer's pair q dominates it.
+  -- By induction over the remaining slices: p is the pair of a choice of the slices before, and the layer's pair q
+  -- dominates it.
   no_less : (slices : List (List Entry)) (layers : List (List Pair)) (layer : List Pair) (p q : Pair) (d : List Entry) → AllStep t r slices (layer ∷ layers) → length layers ≡ length slices → All (λ p. r.error ≤ p.error) (get_or (layer ∷ layers) (length slices) []) → Contains layer q → Dominates q p → IsChoice slices d → t.fixed + (p.size + size_of d) ≤ t.budget → p.error + error_of d < r.error → ⊥
   no_less [] layers layer p q [] steps n last has dom c fits less =
       let h = All-contains (λ (p : Pair). r.error ≤ p.error) layer q last has in omega arith
@@ -42,7 +43,7 @@ module _ (t : Table) (r : Printed) where
       no_less ss layers next (joined p x) g.0 d steps.1 (omega arith) last g.1 g.2 c.1 fits' less'
 
 module _ (t : Table) (r : Printed) where
-  -- the whole table, from a first layer of nothing
+  -- the whole table, from the first layer (the empty pair)
   no_less_whole : (layers : List (List Pair)) (d : List Entry) → length layers ≡ suc (length t.slices) → get_or layers 0 [] ≡ record { size = 0; error = 0 } ∷ [] → AllStep t r t.slices layers → All (λ p. r.error ≤ p.error) (get_or layers (length t.slices) []) → IsChoice t.slices d → Fits t d → error_of d < r.error → ⊥
   no_less_whole [] d n first steps last c fits less = omega arith
   no_less_whole (layer ∷ layers) d n first steps last c fits less =

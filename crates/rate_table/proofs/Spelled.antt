@@ -1,4 +1,4 @@
--- A table's body that was read is spelled so.
+-- The bytes of a table's body that was read are those that are written for it.
 use Rattle.std.proofs.Common.{◌≡◌, ℕ, zero, suc, ◌^◌, ◌<◌, ◌≤◌, List, [], ◌∷◌, ◌++◌, length, Ok, refl, sym, subst, arith}
 use Rattle.std.specs.Int.{w8, w16, w32, w64, to_be_bytes}
 use Rattle.std.specs.List.{flat_map, All}
@@ -9,6 +9,7 @@ use Rattle.pw_outside.specs.Reading.{Rest, number_at, AreBytes, Took}
 use Rattle.pw_outside.proofs.Steps.{bind-ok, refuse-passed, then_took, took_none}
 use Rattle.rate_table.specs.declared.entry.Entry.{Entry}
 use Rattle.rate_table.specs.declared.fault.ProofKind.TheVariants.{TableShort}
+use Rattle.rate_table.specs.declared.table.TheConstants.{MAX_TABLE_SLICES}
 use Rattle.rate_table.specs.Table.{Table, IsEntry, IndicesRise, IsSliceTable, IsTable}
 use Rattle.rate_table.specs.Reading.{entry_at, entries_at, slice_at, slices_at, body_at}
 use Rattle.rate_table.specs.Body.{entry_bytes, slice_bytes, body_bytes}
@@ -53,7 +54,7 @@ rise-front : (x : Entry) (xs : List Entry) → StartsAbove x.index xs → Indice
 rise-front x [] a h = tt
 rise-front x (y ∷ xs) a h = (a, h)
 
--- what entries that were read are
+-- the bytes of entries that were read
 record AreEntries (n low : ℕ) (s : Rest) (entries : List Entry) (rest : Rest) : Type 0 where
   count : length entries ≡ n
   each : All IsEntry entries
@@ -144,7 +145,7 @@ body_at_spelled s x fits e =
     let some : c.0 ≡ 0 → ⊥ = eqb-false c.0 0 r4.0 in
     let low : b.0 < 2 ^ 31 = leb-false (2 ^ 31) b.0 r2.0 in
     let low' : f.0 < 2 ^ 31 = leb-false (2 ^ 31) f.0 r3.0 in
-    let few : c.0 ≤ 131070 = ltb-false 131070 c.0 r5.0 in
+    let few : c.0 ≤ MAX_TABLE_SLICES = ltb-false MAX_TABLE_SLICES c.0 r5.0 in
     let parts : Took s (to_be_bytes w32 b.0 ++ (to_be_bytes w32 f.0 ++ (to_be_bytes w32 c.0 ++ text))) l.1 =
     then_took t1.0 (then_took t2.0 (then_took t3.0 t4.2)) in
     subst (λ (y : Table × Rest). IsTable y.0 × Took s (body_bytes y.0) y.1) (ok_is (t, l.1) x b4.2) (

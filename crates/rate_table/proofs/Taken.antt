@@ -1,4 +1,4 @@
--- What a number was read from, and the rest behind it.
+-- The bytes that a number was read from, and the rest after them.
 use Rattle.std.proofs.Common.{◌≡◌, ℕ, zero, suc, ◌+◌, ◌^◌, ◌<◌, ◌≤◌, Bool, true, false, nat_lt, List, [], ◌∷◌, ◌++◌, length, take, drop, Result, Ok, refl, sym, ap, ◌∙◌, subst, arith}
 use Rattle.std.specs.Prelude.{if◌then◌else◌}
 use Rattle.std.specs.Int.{Width, byte_len, w8, w16, w32, w64, to_be_bytes, from_be_bytes}
@@ -19,7 +19,7 @@ read_ok : {K A : Type 0} (short : K) (b : Bool) (place : ℕ) (x y : A) → (if 
 read_ok short true place x y e = absurd cc
 read_ok short false place x y e = (refl, ok_is x y e)
 
--- numbers of a width are below the limit, and their bytes are those that they were read from
+-- a number of a width is below its limit, and its bytes are those that it was read from
 pub record IsWide (w : Width) (limit : ℕ) : Type 0 where
   pub len : (n : ℕ) → length (to_be_bytes w n) ≡ byte_len w
   pub back : (bytes : List ℕ) → length bytes ≡ byte_len w → AreBytes bytes → to_be_bytes w (from_be_bytes w bytes) ≡ bytes
@@ -34,7 +34,7 @@ wide32 = record { len = λ n. refl; back = λ bytes len fits. be_bytes_4 bytes _
 pub wide64 : IsWide w64 (2 ^ 64)
 wide64 = record { len = λ n. refl; back = λ bytes len fits. be_bytes_8 bytes _ len fits refl; below = λ bytes fits. omega (arith, fits 0, fits 1, fits 2, fits 3, fits 4, fits 5, fits 6, fits 7) }
 
--- what a number was read from
+-- the bytes that a number was read from
 pub number_took : {K : Type 0} (short : K) (w : Width) (limit : ℕ) → IsWide w limit → (s : Rest) (x : ℕ × Rest) → AreBytes s.bytes → number_at short w s ≡ Ok x → Took s (to_be_bytes w x.0) x.1 × (x.0 < limit)
 number_took short w limit wide s x fits e =
     let g = read_ok short (nat_lt (length s.bytes) (byte_len w)) s.place (from_be_bytes w (take (byte_len w) s.bytes), record { place = s.place + byte_len w; bytes = drop (byte_len w) s.bytes }) x e in
@@ -63,7 +63,7 @@ byte_at short place (b ∷ bs) x fits e =
 pub byte_took : {K : Type 0} (short : K) (s : Rest) (x : ℕ × Rest) → AreBytes s.bytes → number_at short w8 s ≡ Ok x → Took s (x.0 ∷ []) x.1 × (x.0 < 256)
 byte_took short s x fits e = byte_at short s.place s.bytes x fits e
 
--- a number that isn't 0 is at least 1
+-- a number other than 0 is at least 1
 pub positive : (n : ℕ) → (n ≡ 0 → ⊥) → 1 ≤ n
 positive zero h = absurd (h refl)
 positive (suc n) h = omega arith

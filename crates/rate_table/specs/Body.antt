@@ -1,4 +1,4 @@
--- The bytes of a table's body, our own format: what is written.
+-- The bytes of a table's body, our own format, for the writer.
 use Rattle.std.specs.Prelude.{◌≡◌, ℕ, ◌+◌, List, [], ◌∷◌, ◌++◌, length, Ok}
 use Rattle.std.specs.Int.{w16, w32, w64, to_be_bytes}
 use Rattle.std.specs.List.{flat_map}
@@ -24,7 +24,7 @@ slice_bytes slice = length slice ∷ flat_map entry_bytes slice
 unfoldable pub body_bytes : Table → List ℕ
 body_bytes t = to_be_bytes w32 t.budget ++ (to_be_bytes w32 t.fixed ++ (to_be_bytes w32 (length t.slices) ++ flat_map slice_bytes t.slices))
 
--- The body that was written is read again, whatever stands behind it.
+-- The body that is written for a table is read as that table, whatever follows it.
 abbrev pub BodyIsReadAgain : Type 0
 BodyIsReadAgain = (t : Table) (place : ℕ) (behind : List ℕ) → IsTable t
     → body_at (record { place = place; bytes = body_bytes t ++ behind }) ≡ Ok (t, record { place = place + length (body_bytes t); bytes = behind })

@@ -1,4 +1,4 @@
--- All choices of a table, one after the other, and the best of them.
+-- The list of all choices of a table, and the best of them.
 use Rattle.std.specs.Prelude.{ℕ, ◌+◌, ◌*◌, Bool, ◌&&◌, ◌||◌, ◌==◌, nat_le, nat_lt, if◌then◌else◌, List, [], ◌∷◌, length, map, Option, None, Some}
 use Rattle.std.specs.List.{flat_map}
 use Rattle.rate_table.specs.declared.entry.Entry.{Entry}
@@ -18,16 +18,16 @@ width (slice ∷ slices) = length slice * width slices
 abbrev pub fits : Table → List Entry → Bool
 fits t choice = nat_le (t.fixed + size_of choice) t.budget
 
--- whether a choice has less error than another, or as much and less size
+-- whether a choice has less error than another, or the same error and less size
 abbrev pub beats : List Entry → List Entry → Bool
 beats choice other = nat_lt (error_of choice) (error_of other) || (error_of choice == error_of other && nat_lt (size_of choice) (size_of other))
 
--- the better of what is held and one choice more, which is taken only where it fits and beats what is held
+-- the better of the best so far and the next choice, which replaces it only if it fits and beats it
 abbrev pub better : Table → Option (List Entry) → List Entry → Option (List Entry)
 better t None choice = if fits t choice then Some choice else None
 better t (Some best) choice = if fits t choice && beats choice best then Some choice else Some best
 
--- the best of what is held and these choices, of equals the one that stands first
+-- the best of the best so far and these choices; the first of equals
 abbrev pub best_of : Table → Option (List Entry) → List (List Entry) → Option (List Entry)
 best_of t held [] = held
 best_of t held (choice ∷ choices) = best_of t (better t held choice) choices

@@ -1,15 +1,16 @@
--- The table file, our own format: the table that bytes stand for, or their first fault and its place.
+-- The table file, our own format: the table that bytes stand for, or their first error and its offset.
 use Rattle.std.specs.Prelude.{ℕ, zero, suc, ◌^◌, Bool, true, false, not, List, [], ◌∷◌, length, Option, None, Some, Result, Ok, Err, nat_lt, nat_le, ◌==◌}
 use Rattle.std.specs.Int.{w8, w16, w32, w64}
 use Rattle.pw_outside.specs.Reading.{Fault, Rest, Read, ◌>>=◌, refuse, number_at}
 use Rattle.rate_table.specs.Table.{Table}
+use Rattle.rate_table.specs.declared.table.TheConstants.{MAX_TABLE_SLICES}
 use Rattle.rate_table.specs.declared.entry.Entry.{Entry}
 use Rattle.rate_table.specs.declared.fault.ProofKind.{ProofKind}
 use Rattle.rate_table.specs.declared.fault.ProofKind.TheVariants.{TableMagic, TableEmpty, TableLimit, TableOrder, TableShort, TableTrailing}
 use Rattle.rate_table.specs.declared.fault.TableFault.{TableFault}
 use Rattle.rate_table.specs.declared.fault.TableFault.TheVariants as faults
 
--- an entry whose index is above `low`: index, size, error
+-- an entry with an index above `low`: index, size, error
 unfoldable pub entry_at : ℕ → Rest → Read ProofKind Entry
 entry_at low s = do
   index ← number_at TableShort w8 s
@@ -21,7 +22,7 @@ entry_at low s = do
   _ ← refuse (nat_le (2 ^ 43) error.0) TableLimit size.1.place
   Ok (record { index = index.0; size = size.0; error = error.0 }, error.1)
 
--- that many entries, their indices rising from above `low`
+-- n entries with rising indices, the first above `low`
 unfoldable pub entries_at : ℕ → ℕ → Rest → Read ProofKind (List Entry)
 entries_at zero low s = Ok ([], s)
 entries_at (suc n) low s = do
@@ -37,7 +38,7 @@ slice_at s = do
   _ ← refuse (nat_lt 224 count.0) TableLimit s.place
   entries_at count.0 0 count.1
 
--- that many slices
+-- n slices
 unfoldable pub slices_at : ℕ → Rest → Read ProofKind (List (List Entry))
 slices_at zero s = Ok ([], s)
 slices_at (suc n) s = do
@@ -55,7 +56,7 @@ body_at s = do
   _ ← refuse (nat_le (2 ^ 31) fixed.0) TableLimit budget.1.place
   count ← number_at TableShort w32 fixed.1
   _ ← refuse (count.0 == 0) TableEmpty fixed.1.place
-  _ ← refuse (nat_lt 131070 count.0) TableLimit fixed.1.place
+  _ ← refuse (nat_lt MAX_TABLE_SLICES count.0) TableLimit fixed.1.place
   slices ← slices_at count.0 count.1
   Ok (record { budget = budget.0; fixed = fixed.0; slices = slices.0 }, slices.1)
 
@@ -68,14 +69,14 @@ table_at s = do
   _ ← refuse (not (version.0 == 1)) TableMagic magic.1.place
   body_at version.1
 
--- the table of a file, with its end behind the body; or the first fault
+-- the table of a whole file, or the first error; the file ends after the body
 unfoldable pub tabled : List ℕ → Result Table (Fault ProofKind)
 tabled bytes = do
   table ← table_at (record { place = 0; bytes = bytes })
   _ ← refuse (not (length table.1.bytes == 0)) TableTrailing table.1.place
   Ok table.0
 
--- the fault that an error of reading tells
+-- the error of the bytes that an error value reports
 abbrev pub told_fault : TableFault → Option (Fault ProofKind)
 told_fault (faults.Bad kind place) = Some (record { kind = kind; place = place })
 told_fault faults.Failed = None

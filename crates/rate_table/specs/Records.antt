@@ -1,4 +1,5 @@
--- What a checker asks of the printed record of a table. Of all the table's choices it speaks of the printed one alone.
+-- What a checker requires of the printed record of a table. It considers no choice of the table but the printed
+-- one.
 use Rattle.std.specs.Prelude.{◌≡◌, ℕ, suc, ◌<◌, ◌≤◌, ◌⊎◌, List, [], ◌∷◌, length, slice_index_or}
 use Rattle.std.specs.List.{All, Contains}
 use Rattle.rate_table.specs.declared.entry.Entry.{Entry}
@@ -6,7 +7,8 @@ use Rattle.rate_table.specs.declared.entry.Pair.{Pair}
 use Rattle.rate_table.specs.Table.{Table, IsChoice, Fits, size_of, error_of, indices, least_bytes}
 use Rattle.rate_table.specs.Pairs.{Dominates, joined, RisesAndFalls, CanFit, StaysWithin}
 
--- what is printed where a choice fits: its indices, its size without the fixed bytes, its error, a multiplier, and layers of pairs
+-- the record of a choice: its indices, its size without the fixed bytes, its error, a Lagrangian multiplier, and
+-- Pareto frontiers (layers of pairs)
 pub record Printed : Type 0 where
   pub choice : List ℕ
   pub size : ℕ
@@ -18,13 +20,13 @@ pub record Printed : Type 0 where
 abbrev pub HasCounts : Table → Printed → Type 0
 HasCounts t r = (length r.choice ≡ length t.slices) × (length r.layers ≡ suc (length t.slices))
 
--- ---- where no choice fits
+-- ---- no choice fits
 
--- The fixed bytes and the least sizes pass the budget, and together they are what is printed.
+-- The fixed bytes plus the least sizes exceed the budget, and are what is printed.
 abbrev pub SaysNone : Table → ℕ → Type 0
 SaysNone t printed = (t.budget < least_bytes t) × (printed ≡ least_bytes t)
 
--- ---- where a choice fits
+-- ---- a choice fits
 
 -- Each printed index has an entry.
 abbrev pub HasEntries : Table → Printed → Type 0
@@ -34,7 +36,7 @@ HasEntries t r = (choice : List Entry) × IsChoice t.slices choice × (indices c
 abbrev pub SumsAreRight : Table → Printed → Type 0
 SumsAreRight t r = (choice : List Entry) → IsChoice t.slices choice → indices choice ≡ r.choice → (size_of choice ≡ r.size) × (error_of choice ≡ r.error) × Fits t choice
 
--- The first layer is the pair of nothing alone.
+-- The first layer is the empty pair alone.
 abbrev pub BeginsEmpty : Printed → Type 0
 BeginsEmpty r = slice_index_or r.layers 0 [] ≡ record { size = 0; error = 0 } ∷ []
 
@@ -42,27 +44,28 @@ BeginsEmpty r = slice_index_or r.layers 0 [] ≡ record { size = 0; error = 0 } 
 abbrev pub InOrder : Printed → Type 0
 InOrder r = All RisesAndFalls r.layers
 
--- With these slices to come, a pair is dominated by one of the next layer, or it can't fit, or its bound passes the printed error.
+-- With the slices `later` still to come, a pair is dominated by one of the next layer, or cannot fit, or is pruned
+-- by the bound.
 abbrev pub IsCovered : Table → Printed → List (List Entry) → List Pair → Pair → Type 0
 IsCovered t r later next p =
     ((q : Pair) × Contains next q × Dominates q p) ⊎ (CanFit t later p → ⊥) ⊎ (StaysWithin t r.multiplier r.error later p → ⊥)
 
--- each pair of a layer joined with each entry of its slice
+-- Each pair of a layer, joined with each entry of its slice, is covered.
 abbrev pub Steps : Table → Printed → List Entry → List (List Entry) → List Pair → List Pair → Type 0
 Steps t r slice later layer next = All (λ p. All (λ x. IsCovered t r later next (joined p x)) slice) layer
 
--- from layer to layer, over the slices that are left
+-- from layer to layer, over the remaining slices
 abbrev pub AllStep : Table → Printed → List (List Entry) → List (List Pair) → Type 0
 AllStep t r [] layers = Unit {0}
 AllStep t r (slice ∷ later) [] = Unit {0}
 AllStep t r (slice ∷ later) (layer ∷ []) = Unit {0}
 AllStep t r (slice ∷ later) (layer ∷ next ∷ layers) = Steps t r slice later layer next × AllStep t r later (next ∷ layers)
 
--- No pair of the last layer has less error than is printed.
+-- No pair of the last layer has less error than the printed one.
 abbrev pub EndsAbove : Table → Printed → Type 0
 EndsAbove t r = All (λ p. r.error ≤ p.error) (slice_index_or r.layers (length t.slices) [])
 
--- a good record of a table, in the order in which its clauses are asked
+-- a good record of a table, with the clauses in the order in which they are checked
 pub record IsGoodFit (t : Table) (r : Printed) : Type 0 where
   pub counts : HasCounts t r
   pub entries : HasEntries t r
@@ -72,7 +75,7 @@ pub record IsGoodFit (t : Table) (r : Printed) : Type 0 where
   pub steps : AllStep t r t.slices r.layers
   pub last : EndsAbove t r
 
--- ---- what follows
+-- ---- what a good record proves
 
 -- The printed choice is a fitting choice with the printed sums, and no fitting choice has less error.
 pub record TellsLeast (t : Table) (r : Printed) : Type 0 where

@@ -3,6 +3,7 @@ use Rattle.std.specs.Prelude.{◌≡◌, ℕ, ◌+◌, ◌<◌, ◌≤◌, ◌^�
 use Rattle.std.specs.List.{sum_by, flat_map, All, AllZip, Contains}
 use Rattle.rate_table.specs.declared.entry.Entry.{Entry}
 use Rattle.rate_table.specs.declared.entry.Pair.{Pair}
+use Rattle.rate_table.specs.declared.table.TheConstants.{MAX_TABLE_SLICES}
 
 -- ---- tables
 
@@ -25,7 +26,7 @@ pub record IsSliceTable (slice : List Entry) : Type 0 where
   pub rises : IndicesRise slice
   pub limits : All IsEntry slice
 
--- a budget in bytes, bytes that are always there, and for each slice the entries that it may take
+-- a budget in bytes, the fixed bytes, and the entries of each slice
 pub record Table : Type 0 where
   pub budget : ℕ
   pub fixed : ℕ
@@ -37,10 +38,10 @@ pub record IsTable (t : Table) : Type 0 where
   pub budget_limit : t.budget < 2 ^ 31
   pub fixed_limit : t.fixed < 2 ^ 31
   pub some : 1 ≤ length t.slices
-  pub few : length t.slices ≤ 131070
+  pub few : length t.slices ≤ MAX_TABLE_SLICES
   pub each : All IsSliceTable t.slices
 
--- the table of several frames together: budgets and fixed bytes add up, and slices follow each other
+-- the joined table of several frames: budgets and fixed bytes are added, slices are concatenated
 abbrev pub group_table : List Table → Table
 group_table tables = record { budget = sum_by (λ t. t.budget) tables; fixed = sum_by (λ t. t.fixed) tables; slices = flat_map (λ t. t.slices) tables }
 
@@ -77,13 +78,13 @@ Fits t choice = t.fixed + size_of choice ≤ t.budget
 abbrev pub HasNoFit : Table → Type 0
 HasNoFit t = (choice : List Entry) → IsChoice t.slices choice → Fits t choice → ⊥
 
--- xs comes before ys in the order of lists, or is ys
+-- xs is not after ys in lexicographic order (a proper prefix is first)
 abbrev pub ComesFirst : List ℕ → List ℕ → Type 0
 ComesFirst [] ys = Unit {0}
 ComesFirst (x ∷ xs) [] = ⊥
 ComesFirst (x ∷ xs) (y ∷ ys) = (x < y) ⊎ ((x ≡ y) × ComesFirst xs ys)
 
--- the fitting choice of least error, then of least size, then the first in the order of index lists
+-- the fitting choice of least error, then of least size, then the first in lexicographic order of its indices
 pub record IsBest (t : Table) (best : List Entry) : Type 0 where
   pub choice : IsChoice t.slices best
   pub fits : Fits t best
@@ -101,16 +102,16 @@ pub record IsBestWith (t : Table) (chosen : List ℕ) (bytes loss : ℕ) : Type 
 
 -- ---- least sizes
 
--- the least value that f has at these entries
+-- the least value of f at these entries
 abbrev pub least : (Entry → ℕ) → List Entry → ℕ
 least f [] = 0
 least f (x ∷ []) = f x
 least f (x ∷ y ∷ xs) = min (f x) (least f (y ∷ xs))
 
--- the least sizes of these slices together
+-- the sum of the least sizes of these slices
 abbrev pub least_sizes : List (List Entry) → ℕ
 least_sizes slices = sum_by (least (λ x. x.size)) slices
 
--- the fixed bytes and each slice's least size
+-- the fixed bytes plus each slice's least size
 abbrev pub least_bytes : Table → ℕ
 least_bytes t = t.fixed + least_sizes t.slices

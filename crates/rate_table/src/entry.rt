@@ -1,4 +1,4 @@
-//! What a slice costs at an index.
+//! Sizes and errors of slices.
 
 /// The size and the error of one slice at one quantisation index.
 #[derive(Clone, Copy, Debug, Default, PartialEq, Eq)]
@@ -11,11 +11,11 @@ pub struct Entry {
     pub error: u64,
 }
 
-/// The size and the error of several slices together.
+/// Total size and error of several slices.
 #[derive(Clone, Copy, Debug, PartialEq, Eq)]
 pub struct Pair {
-    /// The sizes together, in bytes.
+    /// The total size, in bytes.
     pub size: u32,
-    /// The errors together.
+    /// The total error.
     pub error: u64,
 }

@@ -1,4 +1,4 @@
-//! Why a table or a proof could not be read.
+//! Errors of reading a table or a proof.
 
 ghost use Rattle.std.specs.Prelude.{◌≡◌};
 ghost use Rattle.rate_table.specs.declared.fault.TableFault.TheVariants as faults;
@@ -7,35 +7,35 @@ use pw_outside::Failed;
 use std::alloc::{AllocError, AllocFailed};
 use thiserror::Error;
 
-/// What is wrong with the bytes of a table or of a proof.
+/// What is wrong with the bytes of a table or a proof.
 #[derive(Clone, Copy, Debug, PartialEq, Eq)]
 pub enum ProofKind {
-    /// The letters or the version of a table file are others.
+    /// Wrong magic number or version of a table file.
     TableMagic,
     /// A table without slices, or a slice without entries.
     TableEmpty,
-    /// A number of a table is outside its limits.
+    /// A number of a table is out of range.
     TableLimit,
-    /// An index isn't above the one before.
+    /// An index is not greater than the one before.
     TableOrder,
-    /// Bytes of a field of a table are wanting.
+    /// The input ends within a field of a table.
     TableShort,
-    /// Bytes stand behind a table.
+    /// There are bytes after a table.
     TableTrailing,
-    /// The letters or the version of a proof file are others.
+    /// Wrong magic number or version of a proof file.
     ProofMagic,
-    /// A field of a proof is outside what it may be.
+    /// A field of a proof is out of range.
     ProofShape,
-    /// Bytes of a field of a proof are wanting.
+    /// The input ends within a field of a proof.
     ProofShort,
-    /// Bytes stand behind a proof.
+    /// There are bytes after a proof.
     ProofTrailing,
 }
 
-/// Why a call has no table or proof to give.
+/// The error of a call that reads a table or a proof.
 #[derive(Debug, Drop, Error)]
 pub enum TableFault {
-    /// The bytes are none; `place` counts from the first byte of the file.
+    /// The bytes are invalid; `place` is an offset from the start of the file.
     #[error("Bad")]
     Bad { kind: ProofKind, place: u64 },
     /// A call of the port failed.
@@ -46,7 +46,7 @@ pub enum TableFault {
     NoMemory,
 }
 
-/// The fault of this kind at this place.
+/// The error of this kind at this offset.
 pub fn bad(kind: ProofKind, place: u64) -> TableFault
     ensures { result ≡ faults.Bad kind place }
 {

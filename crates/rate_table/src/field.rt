@@ -1,7 +1,7 @@
-//! One field of a file: a number of one, two, four or eight bytes, the most significant byte first.
+//! One field of a file: a big-endian number of one, two, four or eight bytes.
 //!
-//! Each call reads the number that begins at `place` of its file, and moves `place` behind it. The error is `Bad` with
-//! the kind `short` at the number's place where bytes of it are wanting, or `Failed` where a call of the source failed.
+//! Each call reads the number at offset `place` of its file and advances `place` past it. The error is `Bad` with
+//! the kind `short` at the number's offset if the input ends within it, or `Failed` if a call of the source failed.
 
 ghost use Rattle.std.specs.Prelude.{◌≡◌, ◌+◌, ◌<◌, ◌≤◌, ◌^◌, false};
 ghost use Rattle.std.specs.Int.{w8, w16, w32, w64};
@@ -19,7 +19,8 @@ fn field<S: ByteSource, const N: usize>(
     short: ProofKind,
 ) -> Result<[u8; N], TableFault>
     requires { place.old + N < 2 ^ 64 }
-    ensures bytes { Gives told_fault (λ x. x) (S.left source.old) (S.left source.new) place.old place.new result (bytes_at short N) }
+    ensures bytes { Gives told_fault (λ x. x) (S.left source.old) (S.left source.new) place.old place.new result
+        (bytes_at short N) }
     ensures place { place.new ≤ place.old + N }
     ensures becomes { GoesOn S.becomes source.old source.new }
     ensures cause { CountsFault (S.faults source.old) (S.faults source.new) (is_failed result) }
@@ -41,11 +42,12 @@ pub fn read_u8<S: ByteSource>(
     short: ProofKind,
 ) -> Result<u8, TableFault>
     requires { place.old + 1 < 2 ^ 64 }
-    ensures bytes { Gives told_fault (λ x. x) (S.left source.old) (S.left source.new) place.old place.new result (number_at short w8) }
+    ensures bytes { Gives told_fault (λ x. x) (S.left source.old) (S.left source.new) place.old place.new result
+        (number_at short w8) }
     ensures place { place.new ≤ place.old + 1 }
     ensures becomes { GoesOn S.becomes source.old source.new }
     ensures cause { CountsFault (S.faults source.old) (S.faults source.new) (is_failed result) }
-    // No memory is taken.
+    // Takes no memory.
     ensures memory { is_out_of_memory result ≡ false }
 {
     let piece = field::<S, 1>(source, place, short)?;
@@ -59,11 +61,12 @@ pub fn read_u16<S: ByteSource>(
     short: ProofKind,
 ) -> Result<u16, TableFault>
     requires { place.old + 2 < 2 ^ 64 }
-    ensures bytes { Gives told_fault (λ x. x) (S.left source.old) (S.left source.new) place.old place.new result (number_at short w16) }
+    ensures bytes { Gives told_fault (λ x. x) (S.left source.old) (S.left source.new) place.old place.new result
+        (number_at short w16) }
     ensures place { place.new ≤ place.old + 2 }
     ensures becomes { GoesOn S.becomes source.old source.new }
     ensures cause { CountsFault (S.faults source.old) (S.faults source.new) (is_failed result) }
-    // No memory is taken.
+    // Takes no memory.
     ensures memory { is_out_of_memory result ≡ false }
 {
     let piece = field::<S, 2>(source, place, short)?;
@@ -77,11 +80,12 @@ pub fn read_u32<S: ByteSource>(
     short: ProofKind,
 ) -> Result<u32, TableFault>
     requires { place.old + 4 < 2 ^ 64 }
-    ensures bytes { Gives told_fault (λ x. x) (S.left source.old) (S.left source.new) place.old place.new result (number_at short w32) }
+    ensures bytes { Gives told_fault (λ x. x) (S.left source.old) (S.left source.new) place.old place.new result
+        (number_at short w32) }
     ensures place { place.new ≤ place.old + 4 }
     ensures becomes { GoesOn S.becomes source.old source.new }
     ensures cause { CountsFault (S.faults source.old) (S.faults source.new) (is_failed result) }
-    // No memory is taken.
+    // Takes no memory.
     ensures memory { is_out_of_memory result ≡ false }
 {
     let piece = field::<S, 4>(source, place, short)?;
@@ -95,11 +99,12 @@ pub fn read_u64<S: ByteSource>(
     short: ProofKind,
 ) -> Result<u64, TableFault>
     requires { place.old + 8 < 2 ^ 64 }
-    ensures bytes { Gives told_fault (λ x. x) (S.left source.old) (S.left source.new) place.old place.new result (number_at short w64) }
+    ensures bytes { Gives told_fault (λ x. x) (S.left source.old) (S.left source.new) place.old place.new result
+        (number_at short w64) }
     ensures place { place.new ≤ place.old + 8 }
     ensures becomes { GoesOn S.becomes source.old source.new }
     ensures cause { CountsFault (S.faults source.old) (S.faults source.new) (is_failed result) }
-    // No memory is taken.
+    // Takes no memory.
     ensures memory { is_out_of_memory result ≡ false }
 {
     let piece = field::<S, 8>(source, place, short)?;

@@ -7,8 +7,8 @@ use crate::table::{FrameTable, Slices};
 use pw_outside::NoMemory;
 use std::alloc::Global;
 
-/// The tables of several frames as one: budgets and fixed bytes add up, and slices follow each other. There is at least
-/// one table, and the sums are within the limits of a table.
+/// Joins the tables of several frames: budgets and fixed bytes are added, slices are concatenated. There is at
+/// least one table, and the sums are within the limits of a table.
 ///
 /// The error says that memory ran out.
 pub fn join(alloc: Global, tables: Vec<FrameTable>) -> Result<FrameTable, NoMemory>

@@ -1,20 +1,20 @@
-//! Laws over the definitions alone.
+//! Laws of the definitions, independent of any program.
 
 ghost use Rattle.rate_table.specs.Laws.{BestExists, BestIsOne, NoneFitsBelowLeast, AllChoicesAreChoices, AllChoicesCount, IndicesTellChoice, GoodIsLeast, GoodNoneFits};
 ghost use Rattle.rate_table.specs.Body.{BodyIsReadAgain};
 ghost use Rattle.rate_table.specs.Spelled.{BodyIsSpelled};
 
-/// Where a choice fits there is a best one.
+/// If a choice fits, there is a best one.
 pub fn best_exists()
     ensures { BestExists }
 {}
 
-/// There is one best choice at most.
+/// The best choice is unique.
 pub fn best_is_one()
     ensures { BestIsOne }
 {}
 
-/// No choice fits exactly where the fixed bytes and the least sizes pass the budget.
+/// No choice fits if and only if the fixed bytes plus the least sizes exceed the budget.
 pub fn none_fits_below_least()
     ensures { NoneFitsBelowLeast }
 {}
@@ -24,33 +24,33 @@ pub fn all_choices_are_choices()
     ensures { AllChoicesAreChoices }
 {}
 
-/// It has as many as the product of the numbers of entries.
+/// Its length is the product of the numbers of entries.
 pub fn all_choices_count()
     ensures { AllChoicesCount }
 {}
 
-/// Of a table's choices one alone has these indices.
+/// The indices of a choice determine it.
 pub fn indices_tell_choice()
     ensures { IndicesTellChoice }
 {}
 
-/// The choice of a good record fits, has the printed sums, and no fitting choice has less error.
+/// The choice of a good record fits and has the printed sums, and no fitting choice has less error.
 pub fn good_is_least()
     ensures { GoodIsLeast }
 {}
 
-/// Where a good record says that no choice fits, none does.
+/// If a good record says that no choice fits, none does.
 pub fn good_none_fits()
     ensures { GoodNoneFits }
 {}
 
-/// The body of a table that was written is read again, whatever stands behind it.
+/// The body that is written for a table is read as that table, whatever follows it.
 pub fn body_is_read_again()
     ensures { BodyIsReadAgain }
 {}
 
-/// Where bytes stand for a table, it is within the limits, they are the body that is written of it, and the rest begins
-/// behind that.
+/// A table that is read is within the limits. The bytes that were read are the body that is written for it; the
+/// rest follows.
 pub fn body_is_spelled()
     ensures { BodyIsSpelled }
 {}

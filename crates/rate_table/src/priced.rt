@@ -1,14 +1,15 @@
-//! Least sizes and least costs of slices.
+//! Least sizes and least Lagrangian costs of slices.
 
 ghost use Rattle.std.specs.Prelude.{◌≡◌, ◌+◌, ◌*◌, ◌<◌, ◌≤◌, ◌^◌, length};
 ghost use Rattle.std.specs.List.{All};
-ghost use Rattle.rate_table.specs.Table.{IsSliceTable, IsEntry, least};
+ghost use Rattle.rate_table.specs.declared.table.TheConstants.{MAX_TABLE_SLICES};
+ghost use Rattle.rate_table.specs.Table.{IsSliceTable, least};
 ghost use Rattle.rate_table.specs.Pairs.{cost, rest};
 
 use crate::entry::Entry;
 use crate::table::{FrameTable, SliceTable};
 
-/// What an entry costs: its error, and the multiplier for each byte. Below 2^81.
+/// The Lagrangian cost of an entry: its error plus `multiplier` times its size. Below 2^81.
 pub fn cost_of(entry: &Entry, multiplier: u64) -> u128
     ensures value { result ≡ cost multiplier entry.now }
     ensures small { result < 2 ^ 81 }
@@ -16,7 +17,7 @@ pub fn cost_of(entry: &Entry, multiplier: u64) -> u128
     u128::from(entry.error) + u128::from(multiplier) * u128::from(entry.size)
 }
 
-/// The least size of these entries, in bytes; there is at least one.
+/// The least size of these entries, in bytes; there is at least one entry.
 pub fn least_size(entries: &[Entry]) -> u16
     requires { 1 ≤ length entries.now }
     ensures { result ≡ least (λ x. x.size) entries.now }
@@ -28,7 +29,7 @@ pub fn least_size(entries: &[Entry]) -> u16
     least
 }
 
-/// The least cost of these entries, of which there is at least one. Below 2^81.
+/// The least Lagrangian cost of these entries; there is at least one entry. Below 2^81.
 pub fn least_cost(entries: &[Entry], multiplier: u64) -> u128
     requires { 1 ≤ length entries.now }
     ensures value { result ≡ least (cost multiplier) entries.now }
@@ -42,7 +43,7 @@ pub fn least_cost(entries: &[Entry], multiplier: u64) -> u128
 }
 
 fn costs_of(slices: &[SliceTable], multiplier: u64) -> u128
-    requires few { length slices.now ≤ 131070 }
+    requires few { length slices.now ≤ MAX_TABLE_SLICES }
     requires each { All IsSliceTable slices.now }
     ensures value { result ≡ rest multiplier slices.now }
     ensures small { result ≤ 2 ^ 81 * length slices.now }
@@ -54,7 +55,7 @@ fn costs_of(slices: &[SliceTable], multiplier: u64) -> u128
     costs
 }
 
-/// The least costs of a table's slices together, by this multiplier. Below 2^98. No memory is taken.
+/// The sum of the least Lagrangian costs of a table's slices. Below 2^98. Takes no memory.
 pub fn least_costs(table: &FrameTable, multiplier: u64) -> u128
     ensures value { result ≡ rest multiplier table.now.slices }
     ensures small { result < 2 ^ 98 }

@@ -1,17 +1,18 @@
-//! Tables from the bytes of a source.
+//! Reads tables from a source.
 
 ghost use Rattle.std.specs.Prelude.{◌≡◌, ◌+◌, ◌<◌, ◌≤◌, ◌^◌, length, IfOk, OnOk};
 ghost use Rattle.std.specs.List.{All};
 ghost use Rattle.std.specs.Io.KnownBytes.{IsAtEnd};
 ghost use Rattle.pw_outside.specs.Ports.{CountsFault, GoesOn};
 ghost use Rattle.pw_outside.specs.Reading.{Gives, GivesValue, Answers, Told};
+ghost use Rattle.rate_table.specs.declared.table.TheConstants.{MAX_TABLE_SLICES, MAX_TABLE_BYTES};
 ghost use Rattle.rate_table.specs.Reading.{told_fault, entry_at, entries_at, slice_at, slices_at, body_at, table_at, tabled, is_failed};
 ghost use Rattle.rate_table.specs.Table.{IsEntry, IndicesRise, IsSliceTable, IsTable};
 
 use crate::entry::Entry;
 use crate::fault::{ProofKind, TableFault, bad};
 use crate::field::{read_u8, read_u16, read_u32, read_u64};
-use crate::table::{FrameTable, SliceTable, Slices};
+use crate::table::{FrameTable, MAX_TABLE_SLICES, SliceTable, Slices};
 use arrayvec::ArrayVec;
 use pw_outside::{ByteSource, fill};
 use std::alloc::Global;
@@ -19,14 +20,15 @@ use std::alloc::Global;
 // `PWTB`
 const MAGIC: u32 = 0x5057_5442;
 
-// the fault of a field of a table whose bytes are wanting
+// The error if the input ends within a field of a table.
 const SHORT: ProofKind = ProofKind::TableShort;
 
-/// The next entry, whose index is above `low`.
+/// Reads the next entry; its index must be above `low`.
 #[tactic(auto, unfolding(crate::specs::Reading::entry_at, pw_outside::specs::Reading::bind))]
 fn entry_of<S: ByteSource>(source: &mut S, place: &mut u64, low: u8) -> Result<Entry, TableFault>
     requires { place.old + 11 < 2 ^ 64 }
-    ensures bytes { Gives told_fault (λ x. x) (S.left source.old) (S.left source.new) place.old place.new result (entry_at low) }
+    ensures bytes { Gives told_fault (λ x. x) (S.left source.old) (S.left source.new) place.old place.new result
+        (entry_at low) }
     ensures above { IfOk result (λ e. low < e.index) }
     ensures entry { IfOk result IsEntry }
     ensures place { place.new ≤ place.old + 11 }
@@ -58,7 +60,8 @@ fn entries_of<S: ByteSource>(
 ) -> Result<ArrayVec<Entry, 224>, TableFault>
     requires few { count ≤ 224 }
     requires room { place.old + 2464 < 2 ^ 64 }
-    ensures bytes { Gives told_fault (λ v. v.items) (S.left source.old) (S.left source.new) place.old place.new result (entries_at count 0) }
+    ensures bytes { Gives told_fault (λ v. v.items) (S.left source.old) (S.left source.new) place.old place.new result
+        (entries_at count 0) }
     ensures count { IfOk result (λ v. length v.items ≡ count) }
     ensures rises { IfOk result (λ v. IndicesRise v.items) }
     ensures limits { IfOk result (λ v. All IsEntry v.items) }
@@ -79,7 +82,8 @@ fn entries_of<S: ByteSource>(
 #[tactic(auto, unfolding(crate::specs::Reading::slice_at, pw_outside::specs::Reading::bind))]
 fn slice_of<S: ByteSource>(source: &mut S, place: &mut u64) -> Result<SliceTable, TableFault>
     requires { place.old + 2465 < 2 ^ 64 }
-    ensures bytes { Gives told_fault (λ t. t) (S.left source.old) (S.left source.new) place.old place.new result slice_at }
+    ensures bytes { Gives told_fault (λ t. t) (S.left source.old) (S.left source.new) place.old place.new result
+        slice_at }
     ensures slice { IfOk result IsSliceTable }
     ensures place { place.new ≤ place.old + 2465 }
     ensures becomes { GoesOn S.becomes source.old source.new }
@@ -104,9 +108,10 @@ fn slices_of<S: ByteSource>(
     place: &mut u64,
     count: u32,
 ) -> Result<Vec<SliceTable>, TableFault>
-    requires few { count ≤ 131070 }
+    requires few { count ≤ MAX_TABLE_SLICES }
     requires room { place.old < 2 ^ 63 + 100 }
-    ensures bytes { Gives told_fault (λ v. v.items) (S.left source.old) (S.left source.new) place.old place.new result (slices_at count) }
+    ensures bytes { Gives told_fault (λ v. v.items) (S.left source.old) (S.left source.new) place.old place.new result
+        (slices_at count) }
     ensures count { IfOk result (λ v. length v.items ≡ count) }
     ensures each { IfOk result (λ v. All IsSliceTable v.items) }
     ensures place { place.new ≤ place.old + 323087550 }
@@ -121,9 +126,9 @@ fn slices_of<S: ByteSource>(
     Ok(slices)
 }
 
-/// Reads the body of a table, which begins at `place` of its file, and moves `place` behind it.
+/// Reads the body of a table at offset `place` of its file and advances `place` past it.
 ///
-/// The errors are those of [`read_body`]. A body has at most 323,087,562 bytes.
+/// The errors are those of [`read_body`]. A body has at most [`MAX_TABLE_BYTES`](crate::MAX_TABLE_BYTES) bytes.
 #[tactic(auto, unfolding(crate::specs::Reading::body_at, pw_outside::specs::Reading::bind))]
 pub fn read_body_on<S: ByteSource>(
     alloc: Global,
@@ -131,12 +136,13 @@ pub fn read_body_on<S: ByteSource>(
     place: &mut u64,
 ) -> Result<FrameTable, TableFault>
     requires { place.old < 2 ^ 63 + 50 }
-    // Where the source tells its bytes, the answer is the body that stands there, or its first fault.
-    ensures bytes { Gives told_fault (λ t. t) (S.left source.old) (S.left source.new) place.old place.new result body_at }
+    // If the source's bytes are visible, the result is the body that they begin with, or their first error.
+    ensures bytes { Gives told_fault (λ t. t) (S.left source.old) (S.left source.new) place.old place.new result
+        body_at }
     ensures table { IfOk result IsTable }
-    ensures place { place.new ≤ place.old + 323087562 }
+    ensures place { place.new ≤ place.old + MAX_TABLE_BYTES }
     ensures becomes { GoesOn S.becomes source.old source.new }
-    // The error is `Failed` only where a call of the source failed, and each such call is answered by it.
+    // The error is `Failed` exactly if a call of the source failed.
     ensures cause { CountsFault (S.faults source.old) (S.faults source.new) (is_failed result) }
 {
     let at = *place;
@@ -154,7 +160,7 @@ pub fn read_body_on<S: ByteSource>(
     if count == 0 {
         return Err(bad(ProofKind::TableEmpty, at));
     }
-    if 131_070 < count {
+    if MAX_TABLE_SLICES < count {
         return Err(bad(ProofKind::TableLimit, at));
     }
     let slices = slices_of(alloc, source, place, count)?;
@@ -172,7 +178,8 @@ fn table_of<S: ByteSource>(
     place: &mut u64,
 ) -> Result<FrameTable, TableFault>
     requires { place.old ≡ 0 }
-    ensures bytes { Gives told_fault (λ t. t) (S.left source.old) (S.left source.new) place.old place.new result table_at }
+    ensures bytes { Gives told_fault (λ t. t) (S.left source.old) (S.left source.new) place.old place.new result
+        table_at }
     ensures table { IfOk result IsTable }
     ensures becomes { GoesOn S.becomes source.old source.new }
     ensures cause { CountsFault (S.faults source.old) (S.faults source.new) (is_failed result) }
@@ -189,21 +196,21 @@ fn table_of<S: ByteSource>(
     read_body_on(alloc, source, place)
 }
 
-/// Reads the body of a table, which begins at `place` of its file.
+/// Reads the body of a table at offset `place` of its file.
 ///
-/// The errors are `Bad` with the first fault of the bytes, `Failed` where a call of the source failed, and
-/// `NoMemory`. After a table, what the source has left are the bytes behind it.
+/// The errors are `Bad` with the first error of the bytes, `Failed` if a call of the source failed, and `NoMemory`.
+/// After a table, the source is at the first byte after its body.
 pub fn read_body<S: ByteSource>(
     alloc: Global,
     source: &mut S,
     place: u64,
 ) -> Result<FrameTable, TableFault>
     requires { place ≤ 2 ^ 63 }
-    // Where the source tells its bytes, the answer is the body that stands there, or its first fault.
+    // If the source's bytes are visible, the result is the body that they begin with, or their first error.
     ensures bytes { GivesValue told_fault (λ t. t) (S.left source.old) (S.left source.new) place result body_at }
     ensures table { IfOk result IsTable }
     ensures becomes { GoesOn S.becomes source.old source.new }
-    // The error is `Failed` only where a call of the source failed, and each such call is answered by it.
+    // The error is `Failed` exactly if a call of the source failed.
     ensures cause { CountsFault (S.faults source.old) (S.faults source.new) (is_failed result) }
 {
     let mut place = place;
@@ -214,29 +221,29 @@ pub fn read_body<S: ByteSource>(
 ///
 /// The errors are those of [`read_body`].
 pub fn read_table<S: ByteSource>(alloc: Global, source: &mut S) -> Result<FrameTable, TableFault>
-    // Where the source tells its bytes, the answer is the table that they begin with, or their first fault.
+    // If the source's bytes are visible, the result is the table that they begin with, or their first error.
     ensures bytes { GivesValue told_fault (λ t. t) (S.left source.old) (S.left source.new) 0 result table_at }
     ensures table { IfOk result IsTable }
     ensures becomes { GoesOn S.becomes source.old source.new }
-    // The error is `Failed` only where a call of the source failed, and each such call is answered by it.
+    // The error is `Failed` exactly if a call of the source failed.
     ensures cause { CountsFault (S.faults source.old) (S.faults source.new) (is_failed result) }
 {
     let mut place = 0;
     table_of(alloc, source, &mut place)
 }
 
-/// Reads a table file with its end.
+/// Reads a whole table file.
 ///
-/// The errors are those of [`read_body`]; a byte behind the body is `Bad` with `TableTrailing`.
+/// The errors are those of [`read_body`]; a byte after the body is `Bad` with `TableTrailing`.
 #[tactic(auto, unfolding(crate::specs::Reading::tabled, pw_outside::specs::Reading::bind))]
 pub fn read_file<S: ByteSource>(alloc: Global, source: &mut S) -> Result<FrameTable, TableFault>
-    // Where the source tells its bytes, the answer is the table that they are, or their first fault.
+    // If the source's bytes are visible, the result is the table that they are, or their first error.
     ensures bytes { Told (S.left source.old) (λ bytes. Answers told_fault (λ t. t) result (tabled bytes)) }
     ensures table { IfOk result IsTable }
-    // A table is given only where the input was read to its end.
+    // A table is returned only if the input was read to its end.
     ensures end { OnOk result (IsAtEnd (S.left source.new)) }
     ensures becomes { GoesOn S.becomes source.old source.new }
-    // The error is `Failed` only where a call of the source failed, and each such call is answered by it.
+    // The error is `Failed` exactly if a call of the source failed.
     ensures cause { CountsFault (S.faults source.old) (S.faults source.new) (is_failed result) }
 {
     let mut place = 0;

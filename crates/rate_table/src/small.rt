@@ -1,8 +1,8 @@
-//! The best choice of a table with few choices, by trying all: the plain program beside the definitions, with which
-//! faster ones are compared.
+//! The best choice of a small table by exhaustive search: the reference that faster programs are compared with.
 
 ghost use Rattle.std.specs.Prelude.{◌≡◌, ◌+◌, ◌*◌, ◌^◌, ◌<◌, ◌≤◌, ◌↔◌, ◌++◌, All, OnOk, IfOk, IfSome, Some, None, if◌then◌else◌, nat_le, nat_lt, ◌==◌, ◌&&◌, ◌||◌, Err, length, map, option_map};
 ghost use Rattle.std.specs.List.{flat_map};
+ghost use Rattle.rate_table.specs.declared.table.TheConstants.{MAX_TABLE_SLICES};
 ghost use Rattle.rate_table.specs.Table.{IsSliceTable, indices};
 ghost use Rattle.rate_table.specs.Choices.{all_choices, width, better, best_of};
 ghost use Rattle.rate_table.specs.Small.{IsOutcome, all_sums, plus, choice_at};
@@ -12,7 +12,7 @@ use crate::sums::least;
 use crate::table::{FrameTable, SliceTable};
 use std::alloc::{AllocError, Global};
 
-/// At most so many choices are tried.
+/// The largest number of choices that are tried.
 const MOST: usize = 65536;
 
 #[derive(Debug, Drop)]
@@ -47,7 +47,7 @@ impl From<AllocError> for SmallFault {
     }
 }
 
-/// Size and error of the choices of some slices.
+/// Size and error of a choice.
 #[derive(Clone, Copy, Debug, PartialEq, Eq)]
 struct Sums {
     size: u64,
@@ -69,7 +69,7 @@ fn width_of(slices: &[SliceTable]) -> Option<usize>
     Some(product)
 }
 
-/// Appends the sums with an entry before them.
+/// Appends the sums in `all`, each with `entry` added.
 fn append_with(out: &mut Vec<Sums>, entry: Entry, all: &[Sums]) -> Result<(), AllocError>
     requires small { All (λ s. (s.size ≤ 2 ^ 40) × (s.error ≤ 2 ^ 62)) all.now }
     requires entry { entry.error < 2 ^ 43 }
@@ -86,7 +86,7 @@ fn append_with(out: &mut Vec<Sums>, entry: Entry, all: &[Sums]) -> Result<(), Al
 
 /// The sums of all choices, in the order of the choices.
 fn sums_of(alloc: Global, slices: &[SliceTable]) -> Result<Vec<Sums>, AllocError>
-    requires few { length slices.now ≤ 131070 }
+    requires few { length slices.now ≤ MAX_TABLE_SLICES }
     requires each { All IsSliceTable slices.now }
     ensures sums { IfOk result (λ all. all.items ≡ all_sums slices.now) }
     ensures small { IfOk result (λ all. All (λ s. s.size ≤ 2 ^ 40) all.items) }
@@ -102,7 +102,7 @@ fn sums_of(alloc: Global, slices: &[SliceTable]) -> Result<Vec<Sums>, AllocError
     Ok(all)
 }
 
-/// The sums of a slice's entries, each before all of these.
+/// The sums in `all` with each entry of the slice added, entry by entry.
 fn extended(alloc: Global, slice: &SliceTable, all: &[Sums]) -> Result<Vec<Sums>, AllocError>
     requires { All (λ s. (s.size ≤ 2 ^ 40) × (s.error ≤ 2 ^ 62)) all.now }
     ensures { IfOk result (λ out. out.items ≡ flat_map (λ e. map (plus e) all.now) slice.now) }
@@ -114,21 +114,22 @@ fn extended(alloc: Global, slice: &SliceTable, all: &[Sums]) -> Result<Vec<Sums>
     Ok(out)
 }
 
-/// Less error, or the same error and less size.
+/// Whether `sums` has less error, or the same error and less size.
 fn is_better(sums: Sums, other: Sums) -> bool
     ensures { result ≡ (nat_lt sums.error other.error || (sums.error == other.error && nat_lt sums.size other.size)) }
 {
     sums.error < other.error || (sums.error == other.error && sums.size < other.size)
 }
 
-/// The better of the best number so far and a further one.
+/// The number of the better choice: the best so far or the next.
 #[tactic(auto, using(crate::proofs::Numbered::sums_at))]
 fn next_best(table: &FrameTable, all: &[Sums], best: Option<usize>, next: usize) -> Option<usize>
     requires sums { all.now ≡ all_sums table.now.slices }
     requires small { All (λ s. s.size ≤ 2 ^ 40) all.now }
     requires best { IfSome best (λ n. n < next) }
     requires next { next < length all.now }
-    ensures best { option_map (choice_at table.now.slices) result ≡ better table.now (option_map (choice_at table.now.slices) best) (choice_at table.now.slices next) }
+    ensures best { option_map (choice_at table.now.slices) result ≡ better table.now
+        (option_map (choice_at table.now.slices) best) (choice_at table.now.slices next) }
     ensures number { IfSome result (λ n. n ≤ next) }
 {
     let sums = all[next];
@@ -151,7 +152,8 @@ fn next_best(table: &FrameTable, all: &[Sums], best: Option<usize>, next: usize)
 fn best_at(table: &FrameTable, all: &[Sums]) -> Option<usize>
     requires sums { all.now ≡ all_sums table.now.slices }
     requires small { All (λ s. s.size ≤ 2 ^ 40) all.now }
-    ensures best { best_of table.now None (all_choices table.now.slices) ≡ option_map (choice_at table.now.slices) result }
+    ensures best { best_of table.now None (all_choices table.now.slices) ≡ option_map (choice_at table.now.slices)
+        result }
     ensures number { IfSome result (λ n. n < length all.now) }
 {
     let mut best: Option<usize> = None;
@@ -161,7 +163,7 @@ fn best_at(table: &FrameTable, all: &[Sums]) -> Option<usize>
     best
 }
 
-/// The indices of a choice by its number.
+/// The indices of choice `number`.
 fn choice_of(
     alloc: Global,
     slices: &[SliceTable],
@@ -185,7 +187,7 @@ fn choice_of(
     Ok(choice)
 }
 
-/// Tries all choices of a table.
+/// Finds the best choice by trying all choices of a table.
 pub fn best_small(alloc: Global, table: &FrameTable) -> Result<SmallOutcome, SmallFault>
     ensures wide { (result ≡ Err SmallFault.TooWide) ↔ (65536 < width table.now.slices) }
     ensures best { IfOk result (IsOutcome table.now) }

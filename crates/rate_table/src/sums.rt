@@ -1,15 +1,16 @@
-//! Size and error of a choice, and the least bytes of a table.
+//! Size and error of a choice, and the least number of bytes of a table.
 
 ghost use Rattle.std.specs.Prelude.{◌≡◌, ◌<◌, ◌≤◌, ◌*◌, ◌^◌, length, sum_by, IfSome, IfNone};
 ghost use Rattle.std.specs.List.{All, Contains};
 ghost use Rattle.rate_table.specs.declared.entry.Entry.{Entry};
+ghost use Rattle.rate_table.specs.declared.table.TheConstants.{MAX_TABLE_SLICES};
 ghost use Rattle.rate_table.specs.Table.{IsSliceTable, HasSums, HasNoChoice, least, least_bytes};
 
 use crate::entry::Entry;
 use crate::priced::least_size;
 use crate::table::{FrameTable, SliceTable};
 
-/// The entry with this index.
+/// The entry with this index, if there is one.
 fn entry_at(entries: &[Entry], index: u8) -> Option<Entry>
     ensures some { IfSome result (λ e. Contains entries.now e × (e.index ≡ index)) }
     ensures none { IfNone result ((e : Entry) → Contains entries.now e → e.index ≡ index → ⊥) }
@@ -22,8 +23,8 @@ fn entry_at(entries: &[Entry], index: u8) -> Option<Entry>
     None
 }
 
-/// The size in bytes, without the fixed bytes, and the error of the choice with these indices, one for each
-/// slice; `None` where no choice has them. The size is below 2^33 and the error below 2^60. No memory is taken.
+/// The size in bytes, without the fixed bytes, and the error of the choice with these indices, one for each slice;
+/// `None` if there is no such choice. The size is below 2^33 and the error below 2^60. Takes no memory.
 pub fn total(table: &FrameTable, choice: &[u8]) -> Option<(u64, u64)>
     ensures some { IfSome result (λ sums. HasSums table.now.slices choice.now sums.0 sums.1) }
     ensures none { IfNone result (HasNoChoice table.now.slices choice.now) }
@@ -33,10 +34,11 @@ pub fn total(table: &FrameTable, choice: &[u8]) -> Option<(u64, u64)>
     part_total(table.slices.as_slice(), choice)
 }
 
-/// The size in bytes and the error of a part of a choice: these slices, at most 131,070 of them, with these indices.
-/// `None` where no choice of these slices has them. The size is below 2^33 and the error below 2^60. No memory is taken.
+/// The size in bytes and the error of the choice with these indices from `slices`, at most
+/// [`MAX_TABLE_SLICES`](crate::MAX_TABLE_SLICES) slices; `None` if there is no such choice. The size is below 2^33
+/// and the error below 2^60. Takes no memory.
 pub fn part_total(slices: &[SliceTable], choice: &[u8]) -> Option<(u64, u64)>
-    requires few { length slices.now ≤ 131070 }
+    requires few { length slices.now ≤ MAX_TABLE_SLICES }
     requires each { All IsSliceTable slices.now }
     ensures some { IfSome result (λ sums. HasSums slices.now choice.now sums.0 sums.1) }
     ensures none { IfNone result (HasNoChoice slices.now choice.now) }
@@ -57,7 +59,7 @@ pub fn part_total(slices: &[SliceTable], choice: &[u8]) -> Option<(u64, u64)>
 }
 
 fn least_sum(slices: &[SliceTable]) -> u64
-    requires { length slices.now ≤ 131070 }
+    requires { length slices.now ≤ MAX_TABLE_SLICES }
     ensures value { result ≡ sum_by (least (λ x. x.size)) slices.now }
     ensures small { result ≤ 65535 * length slices.now }
 {
@@ -68,7 +70,7 @@ fn least_sum(slices: &[SliceTable]) -> u64
     bytes
 }
 
-/// The least bytes that a choice has: the fixed bytes and each slice's least size. No memory is taken.
+/// The least number of bytes of a choice: the fixed bytes plus each slice's least size. Takes no memory.
 pub fn least(table: &FrameTable) -> u64
     ensures { result ≡ least_bytes table.now }
 {

@@ -1,10 +1,16 @@
-//! The tables of slices and of frames.
+//! Tables of slices and of frames.
 
 use crate::entry::Entry;
 use arrayvec::ArrayVec;
 use std::marker::Model;
 
-/// The entries of one slice, 1 to 224 of them, their indices rising.
+/// The largest number of slices of a table: two pictures of 65,535 slices each.
+pub const MAX_TABLE_SLICES: u32 = 131_070;
+
+/// The largest length in bytes of a table in a file: [`MAX_TABLE_SLICES`] slices with 224 entries each.
+pub const MAX_TABLE_BYTES: u64 = 323_087_562;
+
+/// The entries of one slice, 1 to 224 of them, by rising index.
 #[derive(Drop)]
 pub struct SliceTable {
     entries: ArrayVec<Entry, 224>,
@@ -28,8 +34,7 @@ impl SliceTable {
     ghost use Rattle.rate_table.specs.Table.{IsEntry, IsSliceTable};
     ghost use Rattle.rate_table.specs.Body.{last_index};
 
-    /// The table of this one entry, which is within the limits: its index is from 1 to 224, and its error is
-    /// below 2^43.
+    /// A slice with this one entry. Its index is from 1 to 224 and its error below 2^43.
     pub fn one(entry: Entry) -> SliceTable
         requires { IsEntry entry }
         ensures { result ≡ entry ∷ [] }
@@ -39,7 +44,7 @@ impl SliceTable {
         SliceTable { entries }
     }
 
-    /// Puts another entry within the limits behind the others. Its index is greater than the last one's.
+    /// Appends an entry within the limits. Its index is greater than the last one's.
     pub fn add(&mut self, entry: Entry)
         requires entry { IsEntry entry }
         requires above { last_index self.old < entry.index }
@@ -90,7 +95,7 @@ impl Slices {
     ghost use Rattle.std.specs.List.{All};
     ghost use Rattle.rate_table.specs.Table.{IsSliceTable};
 
-    /// These slices.
+    /// Wraps these slices.
     pub fn from_vec(slices: Vec<SliceTable>) -> Slices
         requires { All IsSliceTable slices.items }
         ensures { result ≡ slices.items }
@@ -98,7 +103,7 @@ impl Slices {
         Slices { slices }
     }
 
-    /// Gives the slices back.
+    /// Unwraps the slices.
     pub fn into_vec(self) -> Vec<SliceTable>
         ensures slices { result.items ≡ self }
         ensures each { All IsSliceTable self }
@@ -115,14 +120,14 @@ impl Slices {
     }
 }
 
-/// The table of a frame: the budget, the bytes that every choice costs, and its slices.
+/// The rate-distortion table of a frame: the budget, the fixed bytes, and the slices.
 #[derive(Drop)]
 pub struct FrameTable {
-    /// The bytes that the frame may have, 1 to 2^31 - 1.
+    /// The bytes that the frame may take, 1 to 2^31 - 1.
     pub budget: u32,
-    /// The bytes that are always there, below 2^31.
+    /// The bytes that every choice takes besides its slices, below 2^31.
     pub fixed: u32,
-    /// The slices, 1 to 131,070 of them.
+    /// The slices, 1 to [`MAX_TABLE_SLICES`].
     pub slices: Slices,
 }
 

@@ -1,11 +1,10 @@
-//! Tables as bytes.
+//! Writes tables as bytes.
 
-ghost use Rattle.std.specs.Prelude.{◌≡◌, ◌++◌, ◌≤◌, OnOk, OnErr, is_err, length};
+ghost use Rattle.std.specs.Prelude.{◌≡◌, ◌++◌, ◌≤◌, OnOk, OnErr, is_err};
 ghost use Rattle.std.specs.Int.{w32, to_be_bytes};
-ghost use Rattle.std.specs.List.{flat_map, All};
+ghost use Rattle.std.specs.List.{flat_map};
 ghost use Rattle.pw_outside.specs.Ports.{CountsFault};
 ghost use Rattle.pw_outside.specs.Writing.{sink_state, Puts, PutsFront};
-ghost use Rattle.rate_table.specs.Table.{IsSliceTable};
 ghost use Rattle.rate_table.specs.Body.{entry_bytes, slice_bytes, body_bytes};
 
 use crate::entry::Entry;
@@ -33,7 +32,7 @@ fn bytes_of_entry(entry: Entry) -> [u8; 11]
     ]
 }
 
-/// The bytes in front of a table's slices: the budget, the fixed bytes and the number of slices.
+/// The bytes before a table's slices: the budget, the fixed bytes and the number of slices.
 fn bytes_of_start(budget: u32, fixed: u32, slices: u32) -> [u8; 12]
     ensures { result ≡ to_be_bytes w32 budget ++ (to_be_bytes w32 fixed ++ to_be_bytes w32 slices) }
 {
@@ -47,8 +46,10 @@ fn bytes_of_start(budget: u32, fixed: u32, slices: u32) -> [u8; 12]
 }
 
 fn write_entries<K: ByteSink>(entries: &[Entry], sink: &mut K) -> Result<(), Failed>
-    ensures all { OnOk result (Puts (sink_state (K.held sink.old) (K.taken sink.old)) (sink_state (K.held sink.new) (K.taken sink.new)) (flat_map entry_bytes entries.now)) }
-    ensures front { OnErr result (PutsFront (sink_state (K.held sink.old) (K.taken sink.old)) (sink_state (K.held sink.new) (K.taken sink.new)) (flat_map entry_bytes entries.now)) }
+    ensures all { OnOk result (Puts (sink_state (K.held sink.old) (K.taken sink.old))
+        (sink_state (K.held sink.new) (K.taken sink.new)) (flat_map entry_bytes entries.now)) }
+    ensures front { OnErr result (PutsFront (sink_state (K.held sink.old) (K.taken sink.old))
+        (sink_state (K.held sink.new) (K.taken sink.new)) (flat_map entry_bytes entries.now)) }
     ensures settled { K.settled sink.old ≤ K.settled sink.new }
     ensures cause { CountsFault (K.faults sink.old) (K.faults sink.new) (is_err result) }
 {
@@ -59,8 +60,10 @@ fn write_entries<K: ByteSink>(entries: &[Entry], sink: &mut K) -> Result<(), Fai
 }
 
 fn write_slice<K: ByteSink>(slice: &SliceTable, sink: &mut K) -> Result<(), Failed>
-    ensures all { OnOk result (Puts (sink_state (K.held sink.old) (K.taken sink.old)) (sink_state (K.held sink.new) (K.taken sink.new)) (slice_bytes slice.now)) }
-    ensures front { OnErr result (PutsFront (sink_state (K.held sink.old) (K.taken sink.old)) (sink_state (K.held sink.new) (K.taken sink.new)) (slice_bytes slice.now)) }
+    ensures all { OnOk result (Puts (sink_state (K.held sink.old) (K.taken sink.old))
+        (sink_state (K.held sink.new) (K.taken sink.new)) (slice_bytes slice.now)) }
+    ensures front { OnErr result (PutsFront (sink_state (K.held sink.old) (K.taken sink.old))
+        (sink_state (K.held sink.new) (K.taken sink.new)) (slice_bytes slice.now)) }
     ensures settled { K.settled sink.old ≤ K.settled sink.new }
     ensures cause { CountsFault (K.faults sink.old) (K.faults sink.new) (is_err result) }
 {
@@ -70,8 +73,10 @@ fn write_slice<K: ByteSink>(slice: &SliceTable, sink: &mut K) -> Result<(), Fail
 }
 
 fn write_slices<K: ByteSink>(slices: &[SliceTable], sink: &mut K) -> Result<(), Failed>
-    ensures all { OnOk result (Puts (sink_state (K.held sink.old) (K.taken sink.old)) (sink_state (K.held sink.new) (K.taken sink.new)) (flat_map slice_bytes slices.now)) }
-    ensures front { OnErr result (PutsFront (sink_state (K.held sink.old) (K.taken sink.old)) (sink_state (K.held sink.new) (K.taken sink.new)) (flat_map slice_bytes slices.now)) }
+    ensures all { OnOk result (Puts (sink_state (K.held sink.old) (K.taken sink.old))
+        (sink_state (K.held sink.new) (K.taken sink.new)) (flat_map slice_bytes slices.now)) }
+    ensures front { OnErr result (PutsFront (sink_state (K.held sink.old) (K.taken sink.old))
+        (sink_state (K.held sink.new) (K.taken sink.new)) (flat_map slice_bytes slices.now)) }
     ensures settled { K.settled sink.old ≤ K.settled sink.new }
     ensures cause { CountsFault (K.faults sink.old) (K.faults sink.new) (is_err result) }
 {
@@ -81,13 +86,15 @@ fn write_slices<K: ByteSink>(slices: &[SliceTable], sink: &mut K) -> Result<(), 
     Ok(())
 }
 
-/// Writes the body of a table. No memory is taken.
+/// Writes the body of a table. Takes no memory.
 ///
-/// `Failed` where a call of the sink failed; it then has taken a front of the bytes.
+/// The error is `Failed` if a call of the sink failed; the sink then has a prefix of the bytes.
 pub fn write_body<K: ByteSink>(table: &FrameTable, sink: &mut K) -> Result<(), Failed>
-    // The sink took the body of this table; where a call of it failed, a front of the body.
-    ensures all { OnOk result (Puts (sink_state (K.held sink.old) (K.taken sink.old)) (sink_state (K.held sink.new) (K.taken sink.new)) (body_bytes table.now)) }
-    ensures front { OnErr result (PutsFront (sink_state (K.held sink.old) (K.taken sink.old)) (sink_state (K.held sink.new) (K.taken sink.new)) (body_bytes table.now)) }
+    // The sink takes the body of this table, or a prefix of it if a call of the sink failed.
+    ensures all { OnOk result (Puts (sink_state (K.held sink.old) (K.taken sink.old))
+        (sink_state (K.held sink.new) (K.taken sink.new)) (body_bytes table.now)) }
+    ensures front { OnErr result (PutsFront (sink_state (K.held sink.old) (K.taken sink.old))
+        (sink_state (K.held sink.new) (K.taken sink.new)) (body_bytes table.now)) }
     ensures settled { K.settled sink.old ≤ K.settled sink.new }
     ensures cause { CountsFault (K.faults sink.old) (K.faults sink.new) (is_err result) }
 {

@@ -1,9 +1,10 @@
--- The movie of a file's frames is read again.
+-- The movie of a file's frames is read back.
 use Rattle.std.proofs.Common.{◌≡◌, ℕ, ◌%◌, ◌≤◌, List, [], ◌∷◌, map, length, arith, ap, sym, subst, ◌∙◌}
 use Rattle.std.specs.Prelude.{IsTrue, true, false, Option, None}
 use Rattle.std.specs.Bool.{OnTrue}
 use Rattle.std.specs.List.{All, AllZip}
 use Rattle.std.proofs.lemmas.List.Elements.{All-nil, All-cons}
+use Rattle.std.proofs.lemmas.List.{length-map}
 use Rattle.pw_planes.specs.declared.kinds.Interlace.{Interlace}
 use Rattle.pw_planes.specs.declared.kinds.Interlace.TheVariants.{Progressive, TopFirst, BottomFirst}
 use Rattle.pic_y4m.specs.HeadLine.{IsHead, is_interlaced}
@@ -12,6 +13,7 @@ use Rattle.pr_head.specs.declared.frame.FrameHeader.{FrameHeader}
 use Rattle.pr_frame.specs.Stands.{FrameStands, HeaderStands}
 use Rattle.pw_outside.specs.Writing.{Puts}
 use Rattle.qt_atoms.specs.Atoms.{bytes_in}
+use Rattle.qt_tables.specs.declared.tables.TheConstants.{MAX_SAMPLES}
 use Rattle.qt_tables.specs.declared.runs.Sample.{Sample}
 use Rattle.qt_tables.specs.Samples.{samples}
 use Rattle.qt_movie.specs.Laws.{WrittenMovieIsRead, WrittenFramesAreRead, written_movie}
@@ -23,7 +25,7 @@ use Rattle.rescue_run.specs.Chain.{Taken, Takes, size_at, form_of, form_behind, 
 use Rattle.rescue_run.specs.Rescuing.{IsRate, Rescues, World, Ran, is_done, head_of, bytes_of_frame, frames_of, rescued_bytes}
 use Rattle.rescue_run.specs.Laws.{IsMovieOf, RescuedMovieIsRead}
 use Rattle.rescue_run.specs.inner.Steps.{IsForm}
-use Rattle.rescue_run.proofs.Copying.{bytes_there, length_map}
+use Rattle.rescue_run.proofs.Copying.{bytes_there}
 
 -- ---- the head
 
@@ -77,7 +79,7 @@ is_read movie frames rate file (t ∷ ts) r h =
     let head = head_of rate (form_of t.frame.header) in
     let all = frames_of file (t ∷ ts) in
     let good : IsHead head = is_head rate (form_of t.frame.header) r (form_stands (bytes_of_frame file t) t.frame.header h.0.2.stands.header) in
-    let few : length all ≤ 1000000 = omega (arith, length_map (bytes_of_frame file) (t ∷ ts), h.2) in
+    let few : length all ≤ MAX_SAMPLES = omega (arith, length-map (t ∷ ts) (bytes_of_frame file), h.2) in
     let fit = frames_fit file None 0 (t ∷ ts) (length file) h.0 in
     let known = movie head all good few fit in
     let same = frames head all (written_movie head all) good few fit known in
@@ -87,7 +89,7 @@ is_read movie frames rate file (t ∷ ts) r h =
       chain = h.0;
       read = written_movie head all;
       is_read = known;
-      number = sym (length_map bytes_of_sample (samples (written_movie head all).tables)) ∙ ap length same ∙ length_map (bytes_of_frame file) (t ∷ ts);
+      number = sym (length-map (samples (written_movie head all).tables) bytes_of_sample) ∙ ap length same ∙ length-map (t ∷ ts) (bytes_of_frame file);
       samples_are = same;
       stand = frames_stand file None 0 (t ∷ ts) (length file) h.0;
     }

@@ -10,7 +10,7 @@ use Rattle.qt_atoms.specs.Atoms.{bytes_in}
 use Rattle.qt_movie.specs.MovieBytes.{frame_head_bytes, frame_bytes}
 use Rattle.rescue_run.proofs.Marks.{in_piece}
 
--- bytes up to a place, and from there on
+-- bytes up to an offset, and from there on
 two_parts : (file : List ℕ) (p n s : ℕ) → p ≤ n → n ≤ s → bytes_in (n - p) file p ++ bytes_in (s - n) file n ≡ bytes_in (s - p) file p
 two_parts file p n s a b =
     let e : s - p ≡ (n - p) + (s - n) = omega (arith, a, b) in
@@ -37,7 +37,7 @@ bytes_there file n p le = omega (arith, le, length-take n (drop p file), length-
 pub no_bytes : (file : List ℕ) (p : ℕ) (a : SinkState) → a.taken ≤ last → Puts a a (bytes_in (p - p) file p)
 no_bytes file p a h = let e : 0 ≡ p - p = omega arith in subst (λ n. Puts a a (bytes_in n file p)) e (puts_none a h)
 
--- what a window shows, and the file's bytes
+-- the bytes of a window, and the file's bytes
 shown_bytes : (file items view : List ℕ) (held from place stop : ℕ) → take held items ≡ take held (drop from file) → view ≡ items → from ≤ place → place ≤ stop → stop ≤ from + held
     → take (stop - from - (place - from)) (drop (place - from) view) ≡ bytes_in (stop - place) file place
 shown_bytes file items view held from place stop same is a b d =
@@ -60,21 +60,10 @@ pub shown_part : (file items view : List ℕ) (held from place stop end : ℕ) (
 shown_part file items view held from place stop end a b same is x y z w p =
     shorter file place (stop - place) (end - place) a b (omega (arith, w)) (subst (PutsPart a b) (shown_bytes file items view held from place stop same is x y z) p)
 
-pub any_err : {X E : Type 0} {P : Type 0} (r : Result X E) → P → OnErr r P
-any_err (Ok x) p = tt
-any_err (Err e) p = p
-
-pub length_map : {A B : Type 0} (f : A → B) (xs : List A) → length (map f xs) ≡ length xs
-length_map f [] = refl
-length_map f (x ∷ xs) = ap (λ n. suc n) (length_map f xs)
-
--- ---- so many bytes from a place on
+-- ---- bytes from an offset on
 
 whole_of : (p s size : ℕ) → s ≡ p + size → s - p ≡ size
 whole_of p s size e = omega (arith, e)
-
-pub whole_copied : (file : List ℕ) (p n s size : ℕ) (a b : SinkState) → s ≡ p + size → n ≤ s → s ≤ n → Puts a b (bytes_in (n - p) file p) → Puts a b (bytes_in size file p)
-whole_copied file p n s size a b e le ge x = let m : n - p ≡ size = omega (arith, e, le, ge) in subst (λ k. Puts a b (bytes_in k file p)) m x
 
 pub part_copied : (file : List ℕ) (p n s size : ℕ) (a b c : SinkState) → s ≡ p + size → p ≤ n → n ≤ s → Puts a b (bytes_in (n - p) file p) → PutsFront b c (bytes_in (s - n) file n) → PutsFront a c (bytes_in size file p)
 part_copied file p n s size a b c e le le' x y = subst (λ k. PutsFront a c (bytes_in k file p)) (whole_of p s size e) (part_bytes file p n s a b c le le' x y)
@@ -82,7 +71,7 @@ part_copied file p n s size a b c e le le' x y = subst (λ k. PutsFront a c (byt
 pub fewer_copied : (file : List ℕ) (p n s size : ℕ) (a b : SinkState) → s ≡ p + size → p ≤ n → n ≤ s → Puts a b (bytes_in (n - p) file p) → PutsFront a b (bytes_in size file p)
 fewer_copied file p n s size a b e le le' x = subst (λ k. PutsFront a b (bytes_in k file p)) (whole_of p s size e) (fewer_bytes file p n s a b le le' x)
 
--- ---- a frame behind the head of its data atom
+-- ---- a frame after its data atom's header
 
 frame_is : (file : List ℕ) (n p : ℕ) → p + n ≤ length file → frame_head_bytes n ++ bytes_in n file p ≡ frame_bytes (bytes_in n file p)
 frame_is file n p le = ap (λ k. frame_head_bytes k ++ bytes_in n file p) (sym (bytes_there file n p le))
@@ -92,20 +81,3 @@ head_part file n p a b le x = subst (PutsFront a b) (frame_is file n p le) (fron
 
 pub head_then : (file : List ℕ) (n p : ℕ) (a b c : SinkState) → p + n ≤ length file → Puts a b (frame_head_bytes n) → PutsFront b c (bytes_in n file p) → PutsFront a c (frame_bytes (bytes_in n file p))
 head_then file n p a b c le x y = subst (PutsFront a c) (frame_is file n p le) (then_front x y)
-
-pub head_whole : (file : List ℕ) (n p : ℕ) (a b c : SinkState) → p + n ≤ length file → Puts a b (frame_head_bytes n) → Puts b c (bytes_in n file p) → Puts a c (frame_bytes (bytes_in n file p))
-head_whole file n p a b c le x y = subst (Puts a c) (frame_is file n p le) (puts_then x y)
-
--- ---- what was held has grown
-
-pub none_extends : (a : SinkState) → a.taken ≤ last → Extends a a
-none_extends a h = ([], puts_none a h)
-
-pub puts_extends : (a b : SinkState) (bytes : List ℕ) → Puts a b bytes → Extends a b
-puts_extends a b bytes p = (bytes, p)
-
-pub front_extends : (a b : SinkState) (bytes : List ℕ) → PutsFront a b bytes → Extends a b
-front_extends a b bytes p = (take p.out bytes, p.front)
-
-pub then_extends : (a b c : SinkState) → Extends a b → Extends b c → Extends a c
-then_extends a b c p q = (p.0 ++ q.0, puts_then p.1 q.1)

@@ -1,4 +1,4 @@
--- Whether a place holds a frame of the form of the first.
+-- Whether an offset holds a frame of the form of the first.
 use Rattle.std.proofs.Common.{◌≡◌, refl, ℕ, zero, suc, ◌+◌, ◌≤◌, ◌<◌, List, [], ◌∷◌, length, arith, ap, sym, subst, ◌∙◌, inl, inr}
 use Rattle.std.specs.Prelude.{◌⊎◌, codes, Option, Some, None}
 use Rattle.pw_outside.specs.Reading.{Fault}
@@ -125,9 +125,9 @@ like : (first : Option FrameForm) (frame : CodedFrame) → Decided (IsLike first
 like None frame = inl tt
 like (Some form) frame = forms form (form_of frame.header)
 
--- ---- a place
+-- ---- an offset
 
--- the place holds this frame, which has the form of the first
+-- the offset holds this frame, which has the form of the first
 pub record HoldsOne (file : List ℕ) (place : ℕ) (first : Option FrameForm) : Type 0 where
   pub frame : CodedFrame
   pub holds : HoldsFrame file place frame

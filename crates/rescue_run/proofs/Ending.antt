@@ -2,9 +2,10 @@
 use Rattle.std.proofs.Common.{◌≡◌, refl, ℕ, ◌≤◌, List, [], ◌∷◌, ◌++◌, map, length, append-nil, arith, ap, sym, subst, ◌∙◌, inl, inr}
 use Rattle.std.specs.Prelude.{Option, Some, None}
 use Rattle.std.specs.List.{flat_map}
+use Rattle.std.proofs.lemmas.List.{length-map}
 use Rattle.pw_outside.specs.Ports.{last}
 use Rattle.pw_outside.specs.Writing.{SinkState, Puts, PutsFront, Extends}
-use Rattle.pw_outside.proofs.Puts.{puts_none, puts_then, then_front}
+use Rattle.pw_outside.proofs.Puts.{puts_none, puts_then, then_front, front_extends}
 use Rattle.qt_movie.specs.MovieBytes.{ftyp_bytes, frame_bytes, moov_bytes, extents}
 use Rattle.qt_tables.specs.declared.fault.MovieKind.TheVariants.{NoFrames}
 use Rattle.rescue_run.specs.declared.form.Rate.{Rate}
@@ -14,13 +15,8 @@ use Rattle.rescue_run.specs.declared.end.RescueEnd.TheVariants as ends
 use Rattle.rescue_run.specs.declared.gathering.Gathering.{Gathering}
 use Rattle.rescue_run.specs.Chain.{Taken, size_at, form_of, form_behind, behind, Takes}
 use Rattle.rescue_run.specs.Rescuing.{World, EndsWithin, Ran, Cut, head_of, rescued_bytes, rescue_text, extents_of, extent_of, frames_of, opening_bytes, Rescues}
-use Rattle.rescue_run.proofs.Copying.{bytes_there, length_map, front_extends}
+use Rattle.rescue_run.proofs.Copying.{bytes_there}
 use Rattle.rescue_run.specs.inner.Steps.{FinishIs, form_after, sizes_of, GatheredUpTo, with_text, IsKept, Halts}
-
--- sinks that were flushed
-flushed_within : (a b c : World) (movie text : List ℕ) → EndsWithin movie text b c → Puts a.text b.text [] → Puts a.out b.out [] → EndsWithin movie text a c
-flushed_within a b c movie text (inl h) t o = inl (then_front o h.0, puts_then t h.1)
-flushed_within a b c movie text (inr h) t o = inr (puts_then o h.0, then_front t h.1)
 
 -- the movie atom, and then the text
 behind_moov : (a b c : World) (movie text : List ℕ) → Puts a.out b.out movie → Puts a.text b.text [] → EndsWithin [] text b c → EndsWithin movie text a c
@@ -34,9 +30,9 @@ finish_then ends.WriteFault a b c movie text o t h = behind_moov a b c movie tex
 finish_then ends.ReadFault a b c movie text o t h = absurd h
 finish_then (ends.BadMovie kind place) a b c movie text o t h = absurd h
 
--- ---- behind all frames
+-- ---- after all frames
 
--- what was written of the frames, and the movie atom
+-- the bytes written for the frames, and the movie atom
 whole_movie : (rate : Rate) (file : List ℕ) (ts : List Taken) (form : FrameForm) → Some form ≡ form_after None ts → 1 ≤ length ts
     → opening_bytes (frames_of file ts) ++ moov_bytes (head_of rate form) (extents (map length (frames_of file ts))) ≡ rescued_bytes rate file ts
 whole_movie rate file [] form e some = absurd (omega (arith, some))
@@ -60,12 +56,12 @@ sizes_same file first from (t ∷ ts) to h =
     ap (λ n. n ∷ map length (frames_of file ts)) (bytes_there file (size_at file t.at) t.at h.2.inside)
     ∙ ap (λ l. size_at file t.at ∷ l) (sizes_same file (form_behind first t.frame) (behind file t) ts to h.4)
 
--- what stands behind a gathering
+-- the bytes after a gathering
 module _ (rate : Rate) (file : List ℕ) (g : Gathering) (kept : IsKept rate g) (some : 1 ≤ length g.extents.items) (a b : SinkState) (h : GatheredUpTo file (length file) (Some g) a b) where
   rescues_all : Rescues file h.frames ends.Done
   rescues_all = (
     h.takes,
-    let e : length (extents_of file h.frames) ≡ length h.frames = length_map (extent_of file) h.frames in
+    let e : length (extents_of file h.frames) ≡ length h.frames = length-map h.frames (extent_of file) in
         let f : length g.extents.items ≡ length (extents_of file h.frames) = ap length h.extents in omega (arith, some, e, f),
     h.few,
   )
@@ -107,7 +103,7 @@ module _ (rate : Rate) (file : List ℕ) (g : Gathering) (kept : IsKept rate g) 
 -- no frame was found
 pub ran_none : (rate : Rate) (file : List ℕ) (a b text : SinkState) → text.taken ≤ last → GatheredUpTo file (length file) None a b → Ran rate file (ends.BadMovie NoFrames 0) (with_text text a) (with_text text b)
 ran_none rate file a b text k h =
-    let none : length h.frames ≡ 0 = sym (length_map (extent_of file) h.frames) ∙ ap length (sym h.extents) in
+    let none : length h.frames ≡ 0 = sym (length-map h.frames (extent_of file)) ∙ ap length (sym h.extents) in
     record {
       frames = h.frames;
       rescues = inl (refl, refl, empty h.frames none, h.takes);
@@ -119,7 +115,7 @@ ran_none rate file a b text k h =
     empty [] e = refl
     empty (t ∷ ts) e = absurd (omega (arith, e))
 
--- the run halted in front of the end
+-- the run halted before the end
 pub ran_halted : (rate : Rate) (file : List ℕ) (end : RescueEnd) (a b text : SinkState) → text.taken ≤ last → Halts file end a b → Ran rate file end (with_text text a) (with_text text b)
 ran_halted rate file ends.Done a b text k h = absurd h
 ran_halted rate file ends.NoMemory a b text k h = inl (h text k)
@@ -127,7 +123,7 @@ ran_halted rate file ends.WriteFault a b text k h = inl (h text k)
 ran_halted rate file ends.ReadFault a b text k h = h text k
 ran_halted rate file (ends.BadMovie kind place) a b text k h = h text k
 
--- ---- what each sink held has grown
+-- ---- each sink extends what it held
 
 pub finish_out : (end : RescueEnd) (movie text : List ℕ) (x y : World) → FinishIs end movie text x y → Extends x.out y.out
 finish_out ends.Done movie text x y h = (movie, h.0)

@@ -1,4 +1,4 @@
--- One frame more of the chain, and places that are passed over.
+-- One more frame of the chain, and offsets that are skipped.
 use Rattle.std.proofs.Common.{◌≡◌, refl, ℕ, zero, suc, ◌+◌, ◌≤◌, ◌<◌, List, [], ◌∷◌, ◌++◌, arith, subst, inl, inr}
 use Rattle.std.specs.Prelude.{◌⊎◌, Option}
 use Rattle.pr_frame.specs.declared.coded.CodedFrame.{CodedFrame}
@@ -11,11 +11,11 @@ use Rattle.rescue_run.specs.inner.Steps.{HoldsNone, form_after}
 pub none_taken : (file : List ℕ) → TakesFirst file [] 0
 none_taken file = (omega arith, λ place frame ge lt h like. absurd (omega (arith, lt)))
 
--- where no letters stand, no frame is held
+-- an offset without a mark holds no frame
 pub no_mark_held : (file : List ℕ) (first : Option FrameForm) (from to : ℕ) → NoMark file from to → NoneHeld file first from to
 no_mark_held file first from to none = λ place frame ge lt h like. none place ge lt h.mark
 
--- one place
+-- one offset
 pub one_none : (file : List ℕ) (first : Option FrameForm) (place : ℕ) → HoldsNone file place first → NoneHeld file first place (place + 1)
 one_none file first place none = λ p frame ge lt h like. let e : p ≡ place = omega (arith, ge, lt) in none frame (subst (λ q. HoldsFrame file q frame) e h) like
 
@@ -36,12 +36,12 @@ none_by file first a b c x y p frame ge lt h like (inr g) = y p frame g lt h lik
 pub none_then : (file : List ℕ) (first : Option FrameForm) (a b c : ℕ) → NoneHeld file first a b → NoneHeld file first b c → NoneHeld file first a c
 none_then file first a b c x y = λ p frame ge lt h like. none_by file first a b c x y p frame ge lt h like (below_or p b)
 
--- places behind the frames that hold none
+-- offsets after the frames that hold none
 pub none_more : (file : List ℕ) (first : Option FrameForm) (from : ℕ) (ts : List Taken) (to to' : ℕ) → Takes file first from ts to → to ≤ to' → NoneHeld file (form_after first ts) to to' → Takes file first from ts to'
 none_more file first from [] to to' t le none = (omega (arith, t.0, le), none_then file first from to to' t.1 none)
 none_more file first from (x ∷ xs) to to' t le none = (t.0, t.1, t.2, t.3, none_more file (form_behind first x.frame) (behind file x) xs to to' t.4 le none)
 
--- a frame that stands right there
+-- a frame at the current offset
 pub take_more : (file : List ℕ) (first : Option FrameForm) (from : ℕ) (ts : List Taken) (t : Taken) → Takes file first from ts t.at → HoldsFrame file t.at t.frame → IsLike (form_after first ts) t.frame
     → Takes file first from (ts ++ t ∷ []) (behind file t)
 take_more file first from [] t k h like = (k.0, k.1, h, like, (omega arith, λ p frame ge lt x y. absurd (omega (arith, ge, lt))))

@@ -1,4 +1,4 @@
--- What a run wrote is a front of what rescuing gives.
+-- A run writes prefixes of what rescuing writes.
 use Rattle.std.proofs.Common.{◌≡◌, refl, ℕ, List, [], ◌∷◌, ◌++◌, map, ap, subst, append-nil, append_assoc, length, ◌∙◌, inl, inr}
 use Rattle.std.specs.List.{flat_map}
 use Rattle.pw_outside.specs.Writing.{SinkState, Puts, PutsFront}
@@ -22,7 +22,7 @@ flat_both : (xs ys : List (List ℕ)) → flat_map frame_bytes xs ++ flat_map fr
 flat_both [] ys = refl
 flat_both (x ∷ xs) ys = append_assoc (frame_bytes x) (flat_map frame_bytes xs) (flat_map frame_bytes ys) ∙ ap (λ l. frame_bytes x ++ l) (flat_both xs ys)
 
--- what stands behind the frames, up to the movie atom
+-- the bytes after the frames, up to the movie atom
 abbrev rest_bytes : List (List ℕ) → List (List ℕ) → List ℕ
 rest_bytes [] more = opening_bytes more
 rest_bytes (x ∷ xs) more = flat_map frame_bytes more
@@ -31,7 +31,7 @@ opening_begins : (xs more : List (List ℕ)) → opening_bytes xs ++ rest_bytes 
 opening_begins [] more = refl
 opening_begins (x ∷ xs) more = append_assoc ftyp_bytes (flat_map frame_bytes (x ∷ xs)) (flat_map frame_bytes more) ∙ ap (λ l. ftyp_bytes ++ l) (flat_both (x ∷ xs) more)
 
--- what stands behind all frames
+-- the bytes after all frames
 abbrev end_bytes : Rate → List ℕ → List Taken → RescueEnd → List ℕ
 end_bytes rate file (t ∷ ts) ends.Done = moov_bytes (head_of rate (form_of t.frame.header)) (extents (map length (frames_of file (t ∷ ts))))
 end_bytes rate file [] ends.Done = []

@@ -1,4 +1,4 @@
--- Where the letters of a frame stand: in a piece, in a window over a file, and in the file.
+-- Frame marks: in a piece, in a window of a file, and in the file.
 use Rattle.std.proofs.Common.{◌≡◌, ℕ, ◌+◌, ◌-◌, ◌≤◌, ◌<◌, List, take, drop, length, length-take, length-drop, arith, ap, sym, subst, ◌∙◌}
 use Rattle.std.proofs.lemmas.List.{drop-take, take-take, drop-drop}
 use Rattle.std.specs.Prelude.{codes, Option, Some, None, IfSome}
@@ -9,15 +9,15 @@ use Rattle.rescue_run.specs.declared.window.Window.{Window}
 use Rattle.rescue_run.specs.Chain.{HasMark}
 use Rattle.rescue_run.specs.inner.Windows.{NoMark, IsFirstMark, Shows, MarkIn}
 
--- four bytes that are there
+-- four bytes that exist
 four_there : (l : List ℕ) (n : ℕ) → length (take 4 (drop n l)) ≡ 4 → n + 4 ≤ length l
 four_there l n e = omega (arith, e, length-take 4 (drop n l), length-drop n l)
 
--- the file goes on behind the letters
+-- the file has bytes after the letters
 pub mark_fits : (file : List ℕ) (place : ℕ) → HasMark file place → place + 8 ≤ length file
 mark_fits file place h = let e : length (take 4 (drop (place + 4) file)) ≡ 4 = ap length h in omega (arith, four_there file (place + 4) e)
 
--- where the letters occur behind the first four bytes
+-- an occurrence of the letters after the first four bytes
 pub mark_occurs : (piece : List ℕ) (k : ℕ) → OccursAt (drop 4 piece) (codes "icpf") k → HasMark piece k
 mark_occurs piece k h =
     let e : take 4 (drop k (drop 4 piece)) ≡ codes "icpf" = OccursAt-part (drop 4 piece) (codes "icpf") k h in
@@ -74,14 +74,14 @@ pub mark_in_slice : (piece file : List ℕ) (held from at q : ℕ) → take held
     → HasMark (take (held - at) (drop at piece)) q
 mark_in_slice piece file held from at q same le fits h = slice_mark piece file held from at q same le fits ∙ h
 
--- a place of a slice that begins here, and the same of the file
+-- an offset of a slice that begins here, and the same in the file
 abbrev pub SameMark : ℕ → Option ℕ → Option ℕ → Type 0
 SameMark from None None = Unit {0}
 SameMark from None (Some s) = ⊥
 SameMark from (Some k) None = ⊥
 SameMark from (Some k) (Some s) = s ≡ from + k
 
--- the search in what a window shows
+-- the search in a window
 pub mark_of : (piece file : List ℕ) (held wfrom from : ℕ) (r : Option ℕ) → held ≤ length piece → take held piece ≡ take held (drop wfrom file) → wfrom ≤ from → from + 8 ≤ wfrom + held
     → IsFirstMark (take (held - (from - wfrom)) (drop (from - wfrom) piece)) r → (s : Option ℕ) → SameMark from r s → MarkIn file from (wfrom + held) s
 mark_of piece file held wfrom from None room same le fits h None e = λ place ge lt mark.
@@ -102,11 +102,11 @@ mark_of piece file held wfrom from (Some k) room same le fits h (Some s) e =
           h.1 q (omega arith) (omega (arith, lt, ge, e)) (mark_in_slice piece file held wfrom at q same (omega (arith, fits, le)) (omega (arith, m.0, lt, ge, le, e)) (subst (HasMark file) (sym i) mark)),
     )
 
--- behind the last place with room for a size and the letters none stand
+-- no mark after the last offset with room for a size and the letters
 pub at_end : (file : List ℕ) (from place total : ℕ) → total ≡ length file → total - place < 8 → NoMark file from place → NoMark file from (length file)
 at_end file from place total e short none = λ p ge lt mark. let f = mark_fits file p mark in none p ge (omega (arith, f, e, short)) mark
 
--- a window that shows nothing yet
+-- a window with no bytes yet
 pub empty_shows : (told : Option (List ℕ)) (total : ℕ) (w : Window) → 8 ≤ length w.piece.items → w.from ≡ 0 → w.held ≡ 0 → Shows told total w
 empty_shows told total w room from held = record {
   room = room;

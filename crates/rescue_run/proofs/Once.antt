@@ -1,4 +1,4 @@
--- Rescuing gives one list of frames and one answer.
+-- The frames and the outcome of rescuing are unique.
 use Rattle.std.proofs.Common.{◌≡◌, refl, ℕ, ◌+◌, ◌≤◌, ◌<◌, List, [], ◌∷◌, ◌++◌, length, length-append, append-nil, arith, ap, sym, subst, ◌∙◌, inl, inr}
 use Rattle.std.specs.Prelude.{◌⊎◌, Option, None}
 use Rattle.pr_frame.specs.Laws.{OneFrame}
@@ -14,7 +14,7 @@ use Rattle.rescue_run.specs.Rescuing.{Rescues, Follows, World, Ran, is_read_faul
 use Rattle.rescue_run.specs.Laws.{RescuingIsOne, AnswersRescue}
 use Rattle.rescue_run.proofs.Following.{below_or}
 
--- the first list begins the other
+-- the first list is a prefix of the other
 abbrev pub Begins : List Taken → List Taken → Type 0
 Begins ts us = (more : List Taken) × (us ≡ ts ++ more)
 
@@ -32,7 +32,7 @@ module _ (one : OneFrame) (file : List ℕ) where
       let f : t.frame ≡ u.frame = one (bytes_in (size_at file u.at) file u.at) t.frame u.frame (subst (λ p. HoldsFrame file p t.frame) e h).stands k.stands in
       ap (λ p. record { at = p; frame = t.frame }) e ∙ ap (λ f. record { at = u.at; frame = f }) f
 
-  -- of two lists of the first frames the shorter begins the longer
+  -- of two lists of first frames the shorter is a prefix of the longer
   begins : (first : Option FrameForm) (from : ℕ) (ts us : List Taken) (to to' : ℕ) → Takes file first from ts to → Takes file first from us to' → length ts ≤ length us → Begins ts us
   begins first from [] us to to' h k le = (us, refl)
   begins first from (t ∷ ts) [] to to' h k le = absurd (omega (arith, le))
@@ -41,7 +41,7 @@ module _ (one : OneFrame) (file : List ℕ) where
       let e = same_frame t u at h.2 k.2 in
       begins_cons t u ts us e (begins (form_behind first u.frame) (behind file u) ts us to to' (subst (λ x. Takes file (form_behind first x.frame) (behind file x) ts to) e h.4) k.4 (omega (arith, le)))
 
-  -- behind the whole chain there is no frame more
+  -- after the whole chain there is no further frame
   no_more : (first : Option FrameForm) (from : ℕ) (ts : List Taken) (m : Taken) (ms : List Taken) (to : ℕ) → Takes file first from ts (length file) → Takes file first from (ts ++ m ∷ ms) to → ⊥
   no_more first from [] m ms to h k = h.1 m.at m.frame k.0 (omega (arith, k.2.inside, k.2.least)) k.2 k.3
   no_more first from (t ∷ ts) m ms to h k = no_more (form_behind first t.frame) (behind file t) ts m ms to h.4 k.4
@@ -57,7 +57,7 @@ module _ (one : OneFrame) (file : List ℕ) where
           by [] e = let n : length us ≡ length ts = ap length e ∙ ap length (append-nil ts) in omega (arith, n, lt)
           by (m ∷ ms) e = no_more None 0 ts m ms to h (subst (λ l. TakesFirst file l to) e k)
 
-  -- the frames of any way are first ones of the chain
+  -- the frames of any rescuing are first ones of the chain
   begins_chain : (ts us : List Taken) (to : ℕ) → IsChain file ts → TakesFirst file us to → Begins us ts
   begins_chain ts us to h k = begins_chain_by ts us to h k (below_or (length ts) (length us))
 
@@ -80,7 +80,7 @@ cons_heads t u ts us e = cc
 cons_tails : (t u : Taken) (ts us : List Taken) → t ∷ ts ≡ u ∷ us → ts ≡ us
 cons_tails t u ts us e = cc
 
--- lists with one frame more are the same only where they are without it
+-- lists with one more frame are equal only if they are without it
 one_more : (ts us : List Taken) (t u : Taken) → length ts ≡ length us → ts ++ t ∷ [] ≡ us ++ u ∷ [] → (ts ≡ us) × (t ≡ u)
 one_more [] [] t u n e = (refl, cons_heads t u [] [] e)
 one_more [] (y ∷ ys) t u n e = absurd (omega (arith, n))
@@ -93,13 +93,13 @@ module _ (one : OneFrame) (file : List ℕ) where
   one_chain : (ts us : List Taken) → IsChain file ts → IsChain file us → ts ≡ us
   one_chain ts us h k = begins_both ts us (begins_chain one file us ts (length file) k h) (begins_chain one file ts us (length file) h k)
 
-  -- a chain has no more than a million frames, where others follow
+  -- a chain has at most 1,000,000 frames, where others follow
   not_followed : (ts us : List Taken) (place : ℕ) → IsChain file ts → length ts ≤ length us → Follows file us place → ⊥
   not_followed ts us place h few f =
       let b = begins_length (us ++ f.next ∷ []) ts (begins_chain one file ts (us ++ f.next ∷ []) (behind file f.next) h f.takes) in
       omega (arith, b, few, length-append us (f.next ∷ []))
 
-  -- the first million, and the one behind it
+  -- the first 1,000,000 frames, and the one after them
   one_next : (ts us : List Taken) (p q : ℕ) → length ts ≡ length us → Follows file ts p → Follows file us q → (ts ≡ us) × (p ≡ q)
   one_next ts us p q n f g =
       let more : length (ts ++ f.next ∷ []) ≡ length (us ++ g.next ∷ []) = omega (arith, n, length-append ts (f.next ∷ []), length-append us (g.next ∷ [])) in
@@ -132,7 +132,7 @@ module _ (one : OneFrame) (file : List ℕ) where
   is_one ts us (ends.BadMovie kind place) ends.ReadFault h k = absurd k
   is_one ts us (ends.BadMovie kind place) ends.WriteFault h k = absurd k
 
--- ---- where no port failed
+-- ---- if no port failed
 
 neither : {P Q : Type 0} → (P → ⊥) → (Q → ⊥) → P ⊎ Q → ⊥
 neither p q (inl x) = p x

@@ -1,9 +1,11 @@
 -- Taking one frame.
 use Rattle.std.proofs.Common.{◌≡◌, refl, false, ℕ, ◌≤◌, ◌<◌, List, [], ◌∷◌, ◌++◌, length, arith, ap, sym, subst, ◌∙◌}
 use Rattle.std.specs.Prelude.{Option, Some, None, Result, Ok, Err, OnOk, OnErr, IfErr}
+use Rattle.std.proofs.lemmas.List.{length-map}
 use Rattle.pw_outside.specs.Ports.{last}
 use Rattle.pw_outside.specs.Writing.{SinkState, Puts, PutsFront}
 use Rattle.pw_outside.proofs.Puts.{puts_none}
+use Rattle.qt_tables.specs.declared.tables.TheConstants.{MAX_SAMPLES}
 use Rattle.qt_tables.specs.declared.writer.Extent.{Extent}
 use Rattle.qt_tables.specs.declared.fault.MovieKind.TheVariants.{TooManySamples}
 use Rattle.qt_movie.specs.MovieBytes.{ftyp_bytes, frame_bytes}
@@ -13,40 +15,28 @@ use Rattle.rescue_run.specs.declared.end.RescueEnd.{RescueEnd}
 use Rattle.rescue_run.specs.declared.end.RescueEnd.TheVariants as ends
 use Rattle.rescue_run.specs.Rescuing.{is_done}
 use Rattle.rescue_run.specs.inner.Steps.{IsPortsEnd, IsCopyEnd, IsKept, AreKept, extents_in, TakingIs, step_bytes}
-use Rattle.rescue_run.proofs.Copying.{length_map}
 
-pub taking_err : (frame : List ℕ) (place : ℕ) (es : List Extent) (end : RescueEnd) (a b : SinkState) → length es < 1000000 → IsPortsEnd end → PutsFront a b (step_bytes es frame) → TakingIs frame place es (Err end) a b
+pub taking_err : (frame : List ℕ) (place : ℕ) (es : List Extent) (end : RescueEnd) (a b : SinkState) → length es < MAX_SAMPLES → IsPortsEnd end → PutsFront a b (step_bytes es frame) → TakingIs frame place es (Err end) a b
 taking_err frame place es ends.NoMemory a b few e p = (p, few)
 taking_err frame place es ends.ReadFault a b few e p = (p, few)
 taking_err frame place es ends.WriteFault a b few e p = (p, few)
 taking_err frame place es ends.Done a b few e p = absurd e
 taking_err frame place es (ends.BadMovie kind at) a b few e p = absurd e
 
-taking_more : (frame : List ℕ) (place : ℕ) (es : List Extent) (r : Result (Unit {0}) RescueEnd) (a b : SinkState) → length es < 1000000 → OnOk r (Puts a b (step_bytes es frame)) → OnErr r (PutsFront a b (step_bytes es frame)) → IfErr r IsPortsEnd
+taking_more : (frame : List ℕ) (place : ℕ) (es : List Extent) (r : Result (Unit {0}) RescueEnd) (a b : SinkState) → length es < MAX_SAMPLES → OnOk r (Puts a b (step_bytes es frame)) → OnErr r (PutsFront a b (step_bytes es frame)) → IfErr r IsPortsEnd
     → TakingIs frame place es r a b
 taking_more frame place es (Ok _) a b few ok err end = (ok, few)
 taking_more frame place es (Err e) a b few ok err end = taking_err frame place es e a b few end err
 
--- a frame behind others
-pub taking_add : (frame : List ℕ) (place : ℕ) (es : List Extent) (r : Result (Unit {0}) RescueEnd) (a b : SinkState) → 1 ≤ length es → length es < 1000000 → OnOk r (Puts a b (frame_bytes frame)) → OnErr r (PutsFront a b (frame_bytes frame)) → IfErr r IsPortsEnd
+-- a frame after others
+pub taking_add : (frame : List ℕ) (place : ℕ) (es : List Extent) (r : Result (Unit {0}) RescueEnd) (a b : SinkState) → 1 ≤ length es → length es < MAX_SAMPLES → OnOk r (Puts a b (frame_bytes frame)) → OnErr r (PutsFront a b (frame_bytes frame)) → IfErr r IsPortsEnd
     → TakingIs frame place es r a b
 taking_add frame place [] r a b some few ok err end = absurd (omega (arith, some))
 taking_add frame place (e ∷ es) r a b some few ok err end = taking_more frame place (e ∷ es) r a b few ok err end
 
 -- as many frames as the writer has
 pub kept_count : (rate : Rate) (g : Gathering) → IsKept rate g → length g.writer.sizes ≡ length g.extents.items
-kept_count rate g k = ap length k.sizes ∙ length_map (λ (e : Extent). e.size) g.extents.items
-
--- there are too many
-pub taking_many : (frame : List ℕ) (place : ℕ) (es : List Extent) (a : SinkState) → a.taken ≤ last → length es ≡ 1000000 → TakingIs frame place es (Err (ends.BadMovie TooManySamples place)) a a
-taking_many frame place es a h e = (refl, refl, e, puts_none a h)
-
-pub copy_not_done : (end : RescueEnd) → IsCopyEnd end → is_done end ≡ false
-copy_not_done ends.NoMemory e = refl
-copy_not_done ends.ReadFault e = refl
-copy_not_done ends.WriteFault e = refl
-copy_not_done ends.Done e = absurd e
-copy_not_done (ends.BadMovie kind at) e = refl
+kept_count rate g k = ap length k.sizes ∙ length-map g.extents.items (λ (e : Extent). e.size)
 
 -- the first frame
 pub taking_first : (frame : List ℕ) (place : ℕ) (g : Option Gathering) (r : Result (Unit {0}) RescueEnd) (end : RescueEnd) (a b : SinkState) → g ≡ None → r ≡ Err end → IsPortsEnd end → PutsFront a b (ftyp_bytes ++ frame_bytes frame)
@@ -57,7 +47,7 @@ pub took_first : (frame : List ℕ) (place : ℕ) (g : Option Gathering) (a b : 
 took_first frame place g a b n p = subst (λ x. TakingIs frame place (extents_in x) (Ok tt) a b) (sym n) (p, omega arith)
 
 -- a later frame
-pub taking_later : (rate : Rate) (frame : List ℕ) (place : ℕ) (g : Option Gathering) (x : Gathering) (r : Result (Unit {0}) RescueEnd) (a b : SinkState) → g ≡ Some x → AreKept rate g → length x.writer.sizes < 1000000
+pub taking_later : (rate : Rate) (frame : List ℕ) (place : ℕ) (g : Option Gathering) (x : Gathering) (r : Result (Unit {0}) RescueEnd) (a b : SinkState) → g ≡ Some x → AreKept rate g → length x.writer.sizes < MAX_SAMPLES
     → OnOk r (Puts a b (frame_bytes frame)) → OnErr r (PutsFront a b (frame_bytes frame)) → IfErr r IsPortsEnd → TakingIs frame place (extents_in g) r a b
 taking_later rate frame place g x r a b e kept few ok err end =
     let k = subst (AreKept rate) e kept in

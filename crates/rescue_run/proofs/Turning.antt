@@ -1,12 +1,13 @@
--- One turn: a frame more, a place more, or the end.
+-- One iteration: one more frame, one more offset, or the end.
 use Rattle.std.proofs.Common.{◌≡◌, refl, ℕ, ◌+◌, ◌≤◌, ◌<◌, List, [], ◌∷◌, ◌++◌, map, length, length-append, append-nil, append_assoc, arith, ap, sym, subst, ◌∙◌, inr}
 use Rattle.std.specs.Prelude.{Option, Some, None, Result, Err}
 use Rattle.std.specs.List.{flat_map}
-use Rattle.rescue_run.proofs.Copying.{length_map}
+use Rattle.std.proofs.lemmas.List.{length-map}
 use Rattle.pw_outside.specs.Ports.{last}
 use Rattle.pw_outside.specs.Writing.{SinkState, Puts, PutsFront}
 use Rattle.pw_outside.proofs.Puts.{puts_none, puts_then, puts_front, then_front}
 use Rattle.qt_atoms.specs.Atoms.{bytes_in}
+use Rattle.qt_tables.specs.declared.tables.TheConstants.{MAX_SAMPLES}
 use Rattle.qt_tables.specs.declared.fault.MovieKind.TheVariants.{TooManySamples}
 use Rattle.qt_movie.specs.MovieBytes.{ftyp_bytes, frame_bytes}
 use Rattle.pr_frame.specs.declared.coded.CodedFrame.{CodedFrame}
@@ -28,7 +29,7 @@ flat_more : (frames : List (List ℕ)) (frame : List ℕ) → flat_map frame_byt
 flat_more [] frame = append-nil (frame_bytes frame)
 flat_more (x ∷ xs) frame = ap (λ l. frame_bytes x ++ l) (flat_more xs frame) ∙ sym (append_assoc (frame_bytes x) (flat_map frame_bytes xs) (frame_bytes frame))
 
--- what is written of one frame more
+-- the bytes written for one more frame
 opening_more : (file : List ℕ) (ts : List Taken) (t : Taken) → opening_bytes (frames_of file (ts ++ t ∷ [])) ≡ opening_bytes (frames_of file ts) ++ step_bytes (extents_of file ts) (bytes_of_frame file t)
 opening_more file [] t = ap (λ l. ftyp_bytes ++ l) (append-nil (frame_bytes (bytes_of_frame file t)))
 opening_more file (x ∷ xs) t = ap (λ l. ftyp_bytes ++ flat_map frame_bytes (bytes_of_frame file x ∷ l)) (map_more (bytes_of_frame file) xs t)
@@ -43,7 +44,7 @@ first_behind (Some f) form frame e = refl
 pub none_gathered : (file : List ℕ) (a : SinkState) → a.taken ≤ last → GatheredUpTo file 0 None a a
 none_gathered file a h = record { frames = []; takes = none_taken file; form = refl; extents = refl; few = omega arith; out = puts_none a h }
 
--- a place further on, where none between holds a frame
+-- a later offset, if none between holds a frame
 pub gathered_further : (file : List ℕ) (p q : ℕ) (g : Option Gathering) (a b : SinkState) → p ≤ q → NoMark file p q → GatheredUpTo file p g a b → GatheredUpTo file q g a b
 gathered_further file p q g a b le none h = record {
   frames = h.frames;
@@ -54,7 +55,7 @@ gathered_further file p q g a b le none h = record {
   out = h.out;
 }
 
--- a place that holds none
+-- an offset that holds none
 pub gathered_none : (file : List ℕ) (p : ℕ) (g : Option Gathering) (a b : SinkState) → HoldsNone file p (form_in g) → GatheredUpTo file p g a b → GatheredUpTo file (p + 1) g a b
 gathered_none file p g a b none h = record {
   frames = h.frames;
@@ -76,10 +77,10 @@ module _ (file : List ℕ) (p size : ℕ) (g : Option Gathering) (a b c : SinkSt
   bytes_one = ap (λ es. step_bytes es (bytes_in size file p)) h.extents ∙ ap (λ n. step_bytes (extents_of file h.frames) (bytes_in n file p)) at_size
 
   count_one : length (extents_in g) ≡ length h.frames
-  count_one = ap length h.extents ∙ length_map (extent_of file) h.frames
+  count_one = ap length h.extents ∙ length-map h.frames (extent_of file)
 
   -- the frame was taken
-  pub gathered_one : (g' : Option Gathering) → form_in g' ≡ first_or (form_in g) form → extents_in g' ≡ extents_in g ++ record { at = p; size = size } ∷ [] → Puts b c (step_bytes (extents_in g) (bytes_in size file p)) → length (extents_in g) < 1000000
+  pub gathered_one : (g' : Option Gathering) → form_in g' ≡ first_or (form_in g) form → extents_in g' ≡ extents_in g ++ record { at = p; size = size } ∷ [] → Puts b c (step_bytes (extents_in g) (bytes_in size file p)) → length (extents_in g) < MAX_SAMPLES
       → GatheredUpTo file (p + size) g' a c
   gathered_one g' f e puts few = record {
     frames = h.frames ++ taken ∷ [];
@@ -90,8 +91,8 @@ module _ (file : List ℕ) (p size : ℕ) (g : Option Gathering) (a b c : SinkSt
     out = subst (Puts a c) (sym (opening_more file h.frames taken)) (puts_then h.out (subst (Puts b c) bytes_one puts));
   }
 
-  -- a front of it was written
-  pub stopped_one : p + size ≤ length file → PutsFront b c (step_bytes (extents_in g) (bytes_in size file p)) → length (extents_in g) < 1000000 → (text : SinkState) → text.taken ≤ last → Stopped file (with_text text a) (with_text text c)
+  -- a prefix of it was written
+  pub stopped_one : p + size ≤ length file → PutsFront b c (step_bytes (extents_in g) (bytes_in size file p)) → length (extents_in g) < MAX_SAMPLES → (text : SinkState) → text.taken ≤ last → Stopped file (with_text text a) (with_text text c)
   stopped_one inside front few text k = record {
     frames = h.frames ++ taken ∷ [];
     to = behind file taken;
@@ -103,7 +104,7 @@ module _ (file : List ℕ) (p size : ℕ) (g : Option Gathering) (a b c : SinkSt
   }
 
   -- there are too many
-  pub refused_one : length (extents_in g) ≡ 1000000 → Puts b c [] → (text : SinkState) → text.taken ≤ last → Refused file (ends.BadMovie TooManySamples p) (with_text text a) (with_text text c)
+  pub refused_one : length (extents_in g) ≡ MAX_SAMPLES → Puts b c [] → (text : SinkState) → text.taken ≤ last → Refused file (ends.BadMovie TooManySamples p) (with_text text a) (with_text text c)
   refused_one many puts text k = record {
     frames = h.frames;
     rescues = inr (refl, sym count_one ∙ many, record { next = taken; at = refl; takes = takes_one });
@@ -111,11 +112,11 @@ module _ (file : List ℕ) (p size : ℕ) (g : Option Gathering) (a b c : SinkSt
     text = puts_none text k;
   }
 
--- reading stopped behind these frames
+-- reading stopped after these frames
 pub stopped_here : (file : List ℕ) (p : ℕ) (g : Option Gathering) (a b : SinkState) → p ≤ length file → GatheredUpTo file p g a b → (text : SinkState) → text.taken ≤ last → Stopped file (with_text text a) (with_text text b)
 stopped_here file p g a b le h text k = record { frames = h.frames; to = p; within = le; takes = h.takes; few = h.few; out = puts_front h.out; text = puts_none text k }
 
--- reading failed, or found no memory
+-- reading failed, or memory ran out
 pub halted_reading : (file : List ℕ) (p : ℕ) (g : Option Gathering) (a b : SinkState) (end : RescueEnd) → IsReadersEnd end → p ≤ length file → GatheredUpTo file p g a b → Halts file end a b
 halted_reading file p g a b ends.NoMemory e le h = stopped_here file p g a b le h
 halted_reading file p g a b ends.ReadFault e le h = stopped_here file p g a b le h
@@ -123,7 +124,7 @@ halted_reading file p g a b ends.WriteFault e le h = absurd e
 halted_reading file p g a b ends.Done e le h = absurd e
 halted_reading file p g a b (ends.BadMovie kind place) e le h = absurd e
 
--- taking a frame didn't go on
+-- taking a frame ended the run
 pub halted_taking : (file : List ℕ) (p size : ℕ) (g : Option Gathering) (a b c : SinkState) (form : FrameForm) → size ≡ size_at file p → HoldsLike file p (form_in g) form → GatheredUpTo file p g a b → p + size ≤ length file
     → (end : RescueEnd) → TakingIs (bytes_in size file p) p (extents_in g) (Err end) b c → Halts file end a c
 halted_taking file p size g a b c form s l h inside ends.NoMemory t = stopped_one file p size g a b c form s l h inside t.0 t.1
@@ -134,7 +135,7 @@ halted_taking file p size g a b c form s l h inside (ends.BadMovie kind place) t
     subst (λ x. Refused file (ends.BadMovie x place) (with_text text a) (with_text text c)) (sym t.0)
     (subst (λ x. Refused file (ends.BadMovie TooManySamples x) (with_text text a) (with_text text c)) (sym t.1) (refused_one file p size g a b c form s l h t.2 t.3 text k))
 
--- ---- a turn
+-- ---- an iteration
 
 pub goes_err : (file : List ℕ) (r : Result ℕ RescueEnd) (end : RescueEnd) (g : Option Gathering) (a b : SinkState) → r ≡ Err end → Halts file end a b → GoesFrom file r g a b
 goes_err file r end g a b e h = subst (λ x. GoesFrom file x g a b) (sym e) h

@@ -1,18 +1,19 @@
-//! How a run that rescues frames ended.
+//! The outcome of a run that rescues frames.
 
 use qt_tables::MovieKind;
 
-/// How a run ended.
+/// The outcome of a run.
 #[derive(Clone, Copy, Debug, PartialEq, Eq)]
 pub enum RescueEnd {
-    /// The whole run was done.
+    /// The run is complete.
     Done,
     /// Memory ran out.
     NoMemory,
-    /// A port that the run reads failed.
+    /// A port that the run reads from failed.
     ReadFault,
-    /// A port that the run writes failed.
+    /// A port that the run writes to failed.
     WriteFault,
-    /// The file holds no frame (`NoFrames`, place 0), or more than 1,000,000 (`TooManySamples`, at the place of the first too many).
+    /// The file holds no frame (`NoFrames`, offset 0), or more than 1,000,000 (`TooManySamples`, at the offset of
+    /// the first frame beyond them).
     BadMovie { kind: MovieKind, place: u64 },
 }

@@ -18,7 +18,7 @@ use pw_text::{put_decimal, put_words};
 use qt_tables::Extent;
 use std::alloc::Global;
 
-/// So many lines are written at once.
+/// The number of lines that are written at once.
 const LINES: usize = 256;
 
 /// Appends words and a number.
@@ -39,7 +39,7 @@ fn put_frame(text: &mut Vec<u8>, number: u64, extent: &Extent) -> Result<(), NoM
     put_words(text, "\n")
 }
 
-/// The extent of the frame of a number.
+/// The extent of the frame with this number.
 fn extent_at(extents: &[Extent], number: usize) -> Extent
     requires { number < length extents.now }
     ensures { slice_get extents.now number ≡ Some result }
@@ -47,7 +47,7 @@ fn extent_at(extents: &[Extent], number: usize) -> Extent
     extents[number]
 }
 
-/// The lines of the frames from one number up to another.
+/// The lines of the frames from number `from` up to `end`, which is left out.
 fn lines_of(alloc: Global, extents: &[Extent], from: usize, end: usize) -> Result<Vec<u8>, NoMemory>
     requires order { from ≤ end }
     requires there { end ≤ length extents.now }
@@ -60,7 +60,7 @@ fn lines_of(alloc: Global, extents: &[Extent], from: usize, end: usize) -> Resul
     Ok(text)
 }
 
-/// Writes the lines of the frames from one number up to another.
+/// Writes the lines of the frames from number `from` up to `end`, which is left out.
 fn put_some<K: ByteSink>(
     alloc: Global,
     extents: &[Extent],
@@ -96,7 +96,7 @@ fn put_frames<K: ByteSink>(alloc: Global, extents: &[Extent], text: &mut K) -> R
     Ok(())
 }
 
-/// The line that says how many frames there are.
+/// The line with the number of frames.
 fn count_text(alloc: Global, count: u64) -> Result<Vec<u8>, NoMemory>
     ensures { IfOk result (λ line. line.items ≡ count_line count) }
 {
@@ -129,7 +129,7 @@ fn put_text<K: ByteSink>(alloc: Global, extents: &[Extent], text: &mut K) -> Res
     put_count(alloc, extents.len() as u64, text)
 }
 
-/// Settles what both sinks took.
+/// Flushes both sinks.
 #[tactic(auto, using(pw_outside::proofs::Puts::puts_flushed))]
 fn settle<K: ByteSink>(out: &mut K, text: &mut K) -> Result<(), Failed>
     ensures out { Puts (sink_state (K.held out.old) (K.taken out.old)) (sink_state (K.held out.new) (K.taken out.new)) [] }
@@ -141,7 +141,7 @@ fn settle<K: ByteSink>(out: &mut K, text: &mut K) -> Result<(), Failed>
     text.flush()
 }
 
-/// Writes the text, and settles both sinks.
+/// Writes the text, and flushes both sinks.
 fn print<K: ByteSink>(alloc: Global, extents: &[Extent], out: &mut K, text: &mut K) -> RescueEnd
     ensures finish { FinishIs result [] (rescue_text extents.now) (world K.held K.taken out.old text.old) (world K.held K.taken out.new text.new) }
     ensures settled { OnTrue (is_done result) ((K.settled out.new ≡ K.taken out.new) × (K.settled text.new ≡ K.taken text.new)) }
@@ -157,7 +157,7 @@ fn print<K: ByteSink>(alloc: Global, extents: &[Extent], out: &mut K, text: &mut
     }
 }
 
-/// Writes the movie atom and the text, and settles both sinks.
+/// Writes the movie atom and the text, and flushes both sinks.
 pub(crate) fn finish<K: ByteSink>(
     alloc: Global,
     gathered: Gathering,

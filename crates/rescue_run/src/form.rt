@@ -1,4 +1,4 @@
-//! What the frames of a movie have alike, and their rate.
+//! The common form of a movie's frames, and their rate.
 
 ghost use Rattle.std.specs.Prelude.{◌≡◌};
 ghost use Rattle.rescue_run.specs.Rescuing.{head_of};
@@ -6,7 +6,7 @@ ghost use Rattle.rescue_run.specs.Rescuing.{head_of};
 use pic_y4m::Head;
 use pw_planes::{AlphaKind, Chroma, Depth, Interlace};
 
-/// What all frames of a movie have alike (SMPTE RDD 36, frame header).
+/// The properties that all frames of a movie share (SMPTE RDD 36, frame header).
 #[derive(Clone, Copy, Debug, PartialEq, Eq)]
 pub struct FrameForm {
     /// The width in samples.
@@ -15,13 +15,13 @@ pub struct FrameForm {
     pub height: u16,
     /// How chroma is sampled.
     pub chroma: Chroma,
-    /// How frames are made of pictures.
+    /// Progressive, or two fields in this order.
     pub interlace: Interlace,
-    /// Whether there is alpha, and its bits.
+    /// Whether there is alpha, and its bit depth.
     pub alpha: AlphaKind,
 }
 
-/// A frame rate: so many frames in so many seconds.
+/// A frame rate: `num` frames in `den` seconds.
 #[derive(Clone, Copy, Debug, PartialEq, Eq)]
 pub struct Rate {
     /// The numerator, 1 to 1,000,000.
@@ -30,7 +30,7 @@ pub struct Rate {
     pub den: u32,
 }
 
-/// The head of a movie of frames of a form.
+/// The header of a movie whose frames have this form.
 pub(crate) fn head_of(rate: &Rate, form: &FrameForm) -> Head
     ensures { result ≡ head_of rate.now form.now }
 {

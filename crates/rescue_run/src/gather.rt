@@ -19,7 +19,7 @@ use pw_outside::{ByteSink, ByteStore};
 use qt_tables::Extent;
 use std::alloc::Global;
 
-/// The form of the frames that are gathered.
+/// The form of the gathered frames.
 fn form_in(gathering: &Option<Gathering>) -> Option<FrameForm>
     ensures { result ≡ form_in gathering.now }
 {
@@ -29,7 +29,8 @@ fn form_in(gathering: &Option<Gathering>) -> Option<FrameForm>
     }
 }
 
-/// One turn at a place where the letters of a frame stand: takes its frame, if it holds one of the form of the first. Says where to go on.
+/// One iteration at an offset with the frame mark: takes its frame, if it holds one of the form of the first.
+/// Returns the offset at which the search continues.
 fn turn<M: ByteStore, K: ByteSink>(
     alloc: Global,
     movie: &mut M,
@@ -72,7 +73,8 @@ fn turn<M: ByteStore, K: ByteSink>(
     }
 }
 
-/// Looks for the next place where the letters of a frame stand, and has a turn there. Says where to go on.
+/// Searches for the next frame mark, and does one iteration there. Returns the offset at which the search
+/// continues.
 fn step<M: ByteStore, K: ByteSink>(
     alloc: Global,
     movie: &mut M,
@@ -106,7 +108,7 @@ fn step<M: ByteStore, K: ByteSink>(
     }
 }
 
-/// Gathers all frames of a file of so many bytes, and writes each.
+/// Gathers all frames of a file, and writes each; `total` is the file's size.
 fn gather_all<M: ByteStore, K: ByteSink>(
     alloc: Global,
     movie: &mut M,

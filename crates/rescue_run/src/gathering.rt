@@ -1,10 +1,11 @@
-//! The frames that are gathered.
+//! The gathered frames.
 
 ghost use Rattle.std.specs.Prelude.{◌≡◌, ◌+◌, ◌-◌, ◌++◌, ◌<◌, ◌≤◌, ◌^◌, ℕ, List, [], ◌∷◌, false, length, is_err, IfErr, IfOk, OnOk, OnErr};
 ghost use Rattle.pw_outside.specs.Ports.{CountsFault};
 ghost use Rattle.pw_outside.specs.Reading.{Told};
 ghost use Rattle.pw_outside.specs.Writing.{sink_state, Puts, PutsFront, Extends};
 ghost use Rattle.qt_atoms.specs.Atoms.{bytes_in};
+ghost use Rattle.qt_tables.specs.declared.tables.TheConstants.{MAX_SAMPLES};
 ghost use Rattle.qt_movie.specs.MovieBytes.{ftyp_bytes, frame_bytes};
 ghost use Rattle.rescue_run.specs.Rescuing.{IsRate, is_done};
 ghost use Rattle.rescue_run.specs.inner.Windows.{IsPart, Shows};
@@ -15,13 +16,10 @@ use crate::form::{FrameForm, Rate, head_of};
 use crate::window::{Window, reach};
 use pw_outside::{ByteSink, ByteStore, Failed, put_all};
 use qt_movie::MovieWriter;
-use qt_tables::{Extent, MovieKind};
+use qt_tables::{Extent, MAX_SAMPLES, MovieKind};
 use std::alloc::Global;
 
-/// The most frames of a movie.
-const MAX_FRAMES: u32 = 1_000_000;
-
-/// The frames that are gathered: their form, where they lie in the file, and what writes them.
+/// The gathered frames: their form, their extents in the file, and the movie's writer.
 #[derive(Drop)]
 pub(crate) struct Gathering {
     pub(crate) form: FrameForm,
@@ -29,7 +27,8 @@ pub(crate) struct Gathering {
     pub(crate) extents: Vec<Extent>,
 }
 
-/// Writes what a window shows from a place on, up to an end at most, and says where it stopped.
+/// Writes the bytes of a window from offset `place` on, up to `end` at most. Returns the offset after the last one
+/// written.
 fn put_shown<K: ByteSink>(window: &Window, place: u64, end: u64, out: &mut K) -> Result<u64, Failed>
     requires held { window.now.held ≤ length window.now.piece.items }
     requires near { window.now.from + window.now.held < 2 ^ 64 }
@@ -49,7 +48,7 @@ fn put_shown<K: ByteSink>(window: &Window, place: u64, end: u64, out: &mut K) ->
     Ok(stop)
 }
 
-/// Writes so many bytes of a file from a place on.
+/// Writes `size` bytes of a file from offset `place` on.
 fn copy_bytes<M: ByteStore, K: ByteSink>(
     window: &mut Window,
     movie: &mut M,
@@ -92,7 +91,7 @@ fn copy_bytes<M: ByteStore, K: ByteSink>(
     Ok(())
 }
 
-/// Gathers a frame, and writes it behind those that were gathered: the head of its data atom, and its bytes.
+/// Gathers a frame, and writes it after those gathered before: the header of its data atom, and its bytes.
 fn add<M: ByteStore, K: ByteSink>(
     movie: &mut M,
     window: &mut Window,
@@ -104,7 +103,7 @@ fn add<M: ByteStore, K: ByteSink>(
     requires shows { Shows (M.bytes movie.old) total window.old }
     requires inside { found.now.at + found.now.size ≤ total }
     requires small { found.now.size ≤ 4294967286 }
-    requires few { length gathering.old.writer.sizes < 1000000 }
+    requires few { length gathering.old.writer.sizes < MAX_SAMPLES }
     requires whole { Told (M.bytes movie.old) (λ file. total ≡ length file) }
     ensures shows { OnOk result (Shows (M.bytes movie.old) total window.new) }
     ensures form { gathering.new.form ≡ gathering.old.form }
@@ -135,7 +134,7 @@ fn add<M: ByteStore, K: ByteSink>(
     copy_bytes(window, movie, found.at, found.size, total, out)
 }
 
-/// Begins a movie of frames of a form: writes the file type.
+/// Begins a movie whose frames have this form: writes the file type.
 fn open<K: ByteSink>(
     alloc: Global,
     rate: &Rate,
@@ -199,7 +198,7 @@ fn take_first<M: ByteStore, K: ByteSink>(
     }
 }
 
-/// Takes a frame of a form that was found: gathers it and writes it. The first opens the movie.
+/// Takes a frame that was found, of this form: gathers it and writes it. The first one opens the movie.
 pub(crate) fn take_frame<M: ByteStore, K: ByteSink>(
     alloc: Global,
     movie: &mut M,
@@ -232,7 +231,7 @@ pub(crate) fn take_frame<M: ByteStore, K: ByteSink>(
 {
     match gathering {
         Some(gathered) => {
-            if gathered.writer.frames() >= MAX_FRAMES {
+            if gathered.writer.frames() >= MAX_SAMPLES {
                 return Err(RescueEnd::BadMovie {
                     kind: MovieKind::TooManySamples,
                     place: found.at,

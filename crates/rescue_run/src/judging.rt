@@ -1,4 +1,4 @@
-//! Whether a place holds a frame of the form of the first.
+//! Whether a frame of the form of the first lies at an offset.
 
 ghost use Rattle.std.specs.Prelude.{◌≡◌, ◌↔◌, ◌+◌, ◌<◌, ◌≤◌, ◌^◌, Some, IfOk, IfErr, IfSome, IsTrue, length};
 ghost use Rattle.std.specs.Bool.{OnTrue, OnFalse};
@@ -17,10 +17,10 @@ use pr_head::{FrameFault, FrameHeader};
 use pw_outside::{ByteStore, Span};
 use std::alloc::Global;
 
-/// The most bytes of a frame: those of its data atom have to fit 32 bits.
+/// The greatest size of a frame: its data atom has to fit 32 bits.
 const MAX_SIZE: u32 = 4_294_967_286;
 
-/// What a frame has alike with others of its movie.
+/// The properties that a frame shares with the others of its movie.
 fn form_of(header: &FrameHeader) -> FrameForm
     ensures { result ≡ form_of header.now }
 {
@@ -33,7 +33,7 @@ fn form_of(header: &FrameHeader) -> FrameForm
     }
 }
 
-/// The form of the frame for which a part of a file stands.
+/// The form of the frame in a part of a file.
 fn form_at<M: ByteStore>(
     alloc: Global,
     movie: &mut M,
@@ -53,7 +53,7 @@ fn form_at<M: ByteStore>(
     Ok(form_of(&frame.header))
 }
 
-/// Whether a form is that of the first frame; where there is none, any form is.
+/// Whether a form is that of the first frame; before the first frame, any form is.
 fn is_first(first: &Option<FrameForm>, form: &FrameForm) -> bool
     ensures yes { OnTrue result (IsFirstForm first.now form.now) }
     ensures no { OnFalse result (IsFirstForm first.now form.now → ⊥) }
@@ -64,7 +64,8 @@ fn is_first(first: &Option<FrameForm>, form: &FrameForm) -> bool
     }
 }
 
-/// The form of the frame of so many bytes that a place of a file holds, where it is that of the first; none where the place holds none.
+/// The form of the frame of `size` bytes at offset `place`, if it is that of the first; none if no frame lies
+/// there.
 pub(crate) fn judge<M: ByteStore>(
     alloc: Global,
     movie: &mut M,

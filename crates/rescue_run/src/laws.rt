@@ -5,7 +5,7 @@ ghost use Rattle.rescue_run.specs.Laws.{RescuingGoesOn, RescuingIsOne, RunsWrite
 use pr_frame::{frame_has_no_fault, frame_or_fault, one_frame};
 use qt_movie::{written_frames_are_read, written_movie_is_read};
 
-/// Rescuing always gives frames and an answer, and the first frames of a file begin them.
+/// Every file has frames and an outcome of rescuing; the first frames of the file are a prefix of these frames.
 pub fn rescuing_goes_on()
     ensures { RescuingGoesOn }
 {
@@ -14,21 +14,22 @@ pub fn rescuing_goes_on()
     frame_has_no_fault();
 }
 
-/// Rescuing gives one list of frames and one answer.
+/// The frames and the outcome of rescuing are unique.
 pub fn rescuing_is_one()
     ensures { RescuingIsOne }
 {
     one_frame();
 }
 
-/// Whatever a run answers, both sinks have fronts of what rescuing gives.
+/// After any result of a run both sinks hold prefixes of what rescuing writes.
 pub fn runs_write_fronts()
     ensures { RunsWriteFronts }
 {
     rescuing_goes_on();
 }
 
-/// The movie of a file's frames is read as them: as many samples as the chain has frames, each byte for byte the frame at its place.
+/// The movie of a file's frames is read back as them: as many samples as the chain has frames, each byte for byte
+/// the frame at its offset.
 pub fn rescued_movie_is_read()
     ensures { RescuedMovieIsRead }
 {

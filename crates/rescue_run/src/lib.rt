@@ -1,4 +1,4 @@
-//! The run of `rescue`: a movie of the frames that stand in a file, whatever stands around them.
+//! The run of `rescue`: a movie of the frames that lie in a file, whatever lies around them.
 #![tactic(auto)]
 
 mod end;
@@ -10,8 +10,6 @@ mod judging;
 mod laws;
 mod run;
 mod search;
-#[cfg(test)]
-mod tests;
 mod window;
 
 pub use end::RescueEnd;

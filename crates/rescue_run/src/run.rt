@@ -44,13 +44,13 @@ fn rescue<M: ByteStore, K: ByteSink>(
     }
 }
 
-/// Looks for frames of ProRes in a file whose tables are lost, wherever they stand, and writes a movie of those of the form of the first: to
-/// `out` the movie, at a rate of `num` frames in `den` seconds, and to `text` a line for each frame with its place in the file, and then
-/// the line `frames N`. Atoms aren't read.
+/// Searches a file whose tables are lost for ProRes frames, and writes a movie of those that have the form of the
+/// first. Writes the movie to `out`, at a rate of `num` frames in `den` seconds, and to `text` a line for each
+/// frame with its offset in the file, then the line `frames N`. Atoms aren't read.
 ///
-/// From a place on, where a frame stands that has the size, the sampling, the fields and the alpha of the first, it is taken, and the search
-/// goes on behind it; else it goes on one byte further. The file type is written when the first frame is found, each frame when it is
-/// found, and the text behind the movie.
+/// If a frame lies at the current offset, and has the size, the sampling, the fields and the alpha of the first, it
+/// is taken, and the search continues after it; otherwise the search continues one byte further. The file type is
+/// written when the first frame is found, each frame when it is found, and the text after the movie.
 pub fn rescue_run<M: ByteStore, K: ByteSink>(
     alloc: Global,
     movie: &mut M,
@@ -60,27 +60,29 @@ pub fn rescue_run<M: ByteStore, K: ByteSink>(
     text: &mut K,
 ) -> RescueEnd
     requires rate { IsRate (record { num = num; den = den }) }
-    // Where the file's bytes are told, they decide the answer and all that is written: Done comes with the movie of the chain's frames and its
-    // text; BadMovie exactly where there is no frame, or more than 1,000,000; a fault of a port or want of memory with a front.
+    // If the file's bytes are visible, they determine the result and everything that is written: Done comes with
+    // the movie of the chain's frames and its text; BadMovie exactly if there is no frame, or more than 1,000,000;
+    // a port fault or missing memory with a prefix.
     ensures ran { Told (M.bytes movie.old) (λ file. Ran (record { num = num; den = den }) file result
         (world K.held K.taken out.old text.old) (world K.held K.taken out.new text.new)) }
-    // After every answer both sinks have fronts of what rescuing gives.
+    // After any result both sinks hold prefixes of what rescuing writes.
     ensures fronts { Told (M.bytes movie.old) (λ file. WritesFronts (record { num = num; den = den }) file
         (world K.held K.taken out.old text.old) (world K.held K.taken out.new text.new)) }
-    // Where no port failed, the answer is the one that rescuing gives, unless memory runs out.
+    // If no port failed and memory lasted, the result is the outcome of rescuing.
     ensures complete { Told (M.bytes movie.old) (λ file.
         (Rose (M.faults movie.old) (M.faults movie.new) → ⊥) → (Rose (K.faults out.old) (K.faults out.new) → ⊥) → (Rose (K.faults text.old) (K.faults text.new) → ⊥)
         → AnswersRescue file result) }
-    // After Done the bytes that `out` got are read as a movie with the chain's frames as its samples, byte for byte.
+    // After Done the bytes appended to `out` are read back as a movie with the chain's frames as its samples, byte
+    // for byte.
     ensures read_again { Told (M.bytes movie.old) (λ file. OnTrue (is_done result)
         ((bytes : List ℕ) × Puts (sink_state (K.held out.old) (K.taken out.old)) (sink_state (K.held out.new) (K.taken out.new)) bytes × IsMovieOf file bytes)) }
-    // Whatever the answer, and whether the file's bytes are told or not, each sink extends what it held.
+    // After any result, visible or opaque, each sink extends what it held.
     ensures out_extends { Extends (sink_state (K.held out.old) (K.taken out.old)) (sink_state (K.held out.new) (K.taken out.new)) }
     ensures text_extends { Extends (sink_state (K.held text.old) (K.taken text.old)) (sink_state (K.held text.new) (K.taken text.new)) }
-    // After Done all that was written is settled.
+    // After Done all that was written is flushed.
     ensures settled { OnTrue (is_done result) ((K.settled out.new ≡ K.taken out.new) × (K.settled text.new ≡ K.taken text.new)) }
     ensures bytes { M.bytes movie.new ≡ M.bytes movie.old }
-    // A fault of a port is answered only where that port's count rose, and every other answer leaves the counts as they were.
+    // A port fault is returned only if that port's counter rose; every other result leaves the counters unchanged.
     ensures read { CountsFault (M.faults movie.old) (M.faults movie.new) (is_read_fault result) }
     ensures write { CountsFaults (K.faults out.old) (K.faults out.new) (K.faults text.old) (K.faults text.new) (is_write_fault result) }
 {

@@ -1,4 +1,4 @@
-//! The next place where the letters of a frame stand.
+//! The next frame mark: the letters `icpf`, 4 bytes into a frame.
 
 ghost use Rattle.std.specs.Prelude.{◌≡◌, ◌+◌, ◌<◌, ◌≤◌, ℕ, List, length, is_err, IfOk, IfSome, OnOk};
 ghost use Rattle.pw_outside.specs.Ports.{CountsFault};
@@ -9,7 +9,7 @@ use crate::window::{Window, reach};
 use memchr::memmem;
 use pw_outside::{ByteStore, Failed};
 
-/// The first place of a piece behind whose next four bytes the letters `icpf` stand.
+/// The first offset of a piece 4 bytes before the letters `icpf`.
 fn first_mark(piece: &[u8]) -> Option<usize>
     ensures mark { IsFirstMark piece.now result }
     ensures room { IfSome result (λ found. found + 8 ≤ length piece.now) }
@@ -20,7 +20,7 @@ fn first_mark(piece: &[u8]) -> Option<usize>
     memmem::find(&piece[4..], b"icpf")
 }
 
-/// The first place from one on in what a window shows, behind whose next four bytes the letters stand.
+/// The first frame mark at offset `from` or later, within a window.
 fn mark_in(window: &Window, from: u64) -> Option<u64>
     requires held { window.now.held ≤ length window.now.piece.items }
     requires from { window.now.from ≤ from }
@@ -40,7 +40,7 @@ fn mark_in(window: &Window, from: u64) -> Option<u64>
     }
 }
 
-/// The first place of a file of so many bytes, from one on, behind whose next four bytes the letters stand.
+/// The first frame mark at offset `from` or later of a file; `total` is the file's size.
 pub(crate) fn next_mark<M: ByteStore>(
     window: &mut Window,
     movie: &mut M,

@@ -1,4 +1,4 @@
-//! A part of a file in memory.
+//! A window of a file in memory.
 
 ghost use Rattle.std.specs.Prelude.{◌≡◌, ◌+◌, ◌-◌, ◌<◌, ◌≤◌, ◌^◌, ℕ, List, min, length, take, drop, is_err, IfOk, OnOk};
 ghost use Rattle.std.specs.Int.{w32, from_be_bytes};
@@ -10,10 +10,10 @@ ghost use Rattle.rescue_run.specs.inner.Windows.{IsPart, Shows};
 use pw_outside::{ByteStore, Failed, NoMemory, fill_at};
 use std::alloc::Global;
 
-/// So many bytes of a file are read at once.
+/// The number of bytes of a file that are read at once.
 const ROOM: usize = 262_144;
 
-/// Some bytes of a file: those from a place on, as many of the piece as are held.
+/// `held` bytes of a file from offset `from` on, at the head of the piece.
 #[derive(Drop)]
 pub(crate) struct Window {
     pub(crate) piece: Vec<u8>,
@@ -21,7 +21,7 @@ pub(crate) struct Window {
     pub(crate) held: usize,
 }
 
-/// A window that shows nothing yet.
+/// A window with no bytes yet.
 pub(crate) fn new_window(alloc: Global) -> Result<Window, NoMemory>
     ensures room { IfOk result (λ w. 8 ≤ length w.piece.items) }
     ensures from { IfOk result (λ w. w.from ≡ 0) }
@@ -38,7 +38,8 @@ pub(crate) fn new_window(alloc: Global) -> Result<Window, NoMemory>
     }
 }
 
-/// Fills the front of a piece, so many bytes, with the bytes of a file from a place on, and says how many came.
+/// Fills the first `count` bytes of a piece with the bytes of a file from offset `place` on. Returns the number of
+/// bytes read.
 fn fill_front<M: ByteStore>(
     piece: &mut [u8],
     movie: &mut M,
@@ -56,7 +57,7 @@ fn fill_front<M: ByteStore>(
     fill_at(movie, place, &mut piece[..count])
 }
 
-/// Moves a window to a place of a file of so many bytes.
+/// Moves a window to offset `place`; `total` is the file's size.
 fn move_to<M: ByteStore>(
     window: &mut Window,
     movie: &mut M,
@@ -78,7 +79,8 @@ fn move_to<M: ByteStore>(
     Ok(())
 }
 
-/// Moves a window to a place of a file of so many bytes, unless it shows so many bytes from there on already.
+/// Moves a window to offset `place`, unless it already holds `want` bytes from there on; `total` is the file's
+/// size.
 pub(crate) fn reach<M: ByteStore>(
     window: &mut Window,
     movie: &mut M,
@@ -103,7 +105,7 @@ pub(crate) fn reach<M: ByteStore>(
     move_to(window, movie, place, total)
 }
 
-/// The number of four bytes of a piece.
+/// The big-endian number in four bytes of a piece.
 fn number_of(piece: &[u8], at: usize) -> u32
     requires { at + 4 ≤ length piece.now }
     ensures { result ≡ from_be_bytes w32 (take 4 (drop at piece.now)) }
@@ -111,7 +113,7 @@ fn number_of(piece: &[u8], at: usize) -> u32
     u32::from_be_bytes([piece[at], piece[at + 1], piece[at + 2], piece[at + 3]])
 }
 
-/// The size of the frame at a place that a window shows.
+/// The size of the frame at offset `place`, within a window.
 pub(crate) fn size_in(window: &Window, place: u64) -> u32
     requires held { window.now.held ≤ length window.now.piece.items }
     requires from { window.now.from ≤ place }

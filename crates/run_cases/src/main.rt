@@ -1,14 +1,16 @@
-//! A program for the gate alone. Each line of standard input is a case, and its answer is printed on one line. The cases and
-//! the answers that are compared with it are worked ones, or those of an independent reference. A file stands in hexadecimal,
-//! or as a lone dash where it is empty.
+//! A program for the gate alone. Each line of standard input is a case, and its answer is printed on one line. The cases and the answers
+//! that are compared with it are worked ones, or those of an independent reference. A file stands in hexadecimal, or as a lone dash
+//! where it is empty; PICTURES, PROOF and MOVIE are the files of the three ports that a run may read.
 //!
-//! - `plan FILE`, `list FILE`, `decode WORD .. FILE`: what the command answers over this file.
-//! - `fronts COMMAND .. FILE`: what it answers over the fronts of this file: each answer behind the length of the first front
-//!   that has it, if the front before has another.
-//! - `failing COMMAND .. FILE`: how many of the first 100 calls of the port that is read, and of `text`, are told when they fail.
-//! - `whole WORD .. FILE`: a whole run where this file stands behind each port that is read: the exit status with its line, the
-//!   text, and what `out` and `cert` got, those of more than 600 bytes by their number and a hash.
-//! - `run WORD .. PICTURES PROOF MOVIE`: the same of a run where each port that is read has a file of its own.
+//! - `run WORD .. PICTURES PROOF MOVIE`: a run of the top call: the exit status with its line, the text with `\n` for each line feed, and
+//!   what `out` and `cert` got, more than 600 bytes as their number and a hash. The run is made in steps of 1, 3 and 4,096 bytes a call.
+//! - `heard WORD .. PICTURES PROOF MOVIE`: the same of `sound` over the movie that this run wrote.
+//! - `cuts PORT WORD .. PICTURES PROOF MOVIE`: the exit status with its line over each prefix of the port's file (`pictures`, `proof` or
+//!   `movie`): each one after the length of the first prefix that has it, where the prefix before has another.
+//! - `fails WORD .. PICTURES PROOF MOVIE`: each call of each port fails in turn, in steps of 7 bytes a call. For each of `pictures`, `proof`,
+//!   `movie`, `out`, `cert` and `text`: `unused`, or `told` where each such run ends with a read or a write fault, each sink holds a prefix of
+//!   what the whole run writes, and `text` holds nothing before `out` and `cert` hold what they held at the first call of `text`; then how
+//!   many bytes that is, and the whole run as after `run`.
 //! - `words WORD ..`: the files' names among these words, the exit status over empty files, and its line.
 //! - `line WORD ..`: the fault of these words, or a lone dash where they are in the grammar.
 //! - `places MOVIE`: where the samples of the movie lie.
@@ -16,8 +18,12 @@
 //! - `written DEN ALPHA SIZE ..`: what `list` answers over that movie.
 #![tactic(auto)]
 
+mod cases;
+mod fails;
 mod movies;
+mod ports;
 mod runs;
+mod words;
 
 use std::io;
 
@@ -26,16 +32,15 @@ fn answer(rt: &HostRuntime, line: &str) -> io::Result<String> {
     let alloc = rt.alloc();
     let (form, rest) = line.split_once(' ').unwrap_or((line, ""));
     match form {
-        "words" => runs::words_told(rt, rest),
-        "line" => runs::line_told(rt, rest),
-        "fronts" => runs::fronts_told(rt, rest),
-        "failing" => runs::failing_told(rt, rest),
-        "plan" | "list" | "decode" => runs::told(rt, line),
-        "whole" => runs::whole_told(rt, rest),
-        "run" => runs::run_told(rt, rest),
-        "places" => movies::places_told(rt, rest),
-        "write" => movies::bytes_told(rt, rest),
-        "written" => movies::written_told(rt, rest),
+        "run" => runs::run_answer(rt, rest),
+        "heard" => runs::heard_answer(rt, rest),
+        "cuts" => runs::cuts_answer(rt, rest),
+        "fails" => fails::fails_answer(rt, rest),
+        "words" => words::words_answer(rt, rest),
+        "line" => words::line_answer(rt, rest),
+        "places" => movies::places_answer(rt, rest),
+        "write" => movies::bytes_answer(rt, rest),
+        "written" => movies::written_answer(rt, rest),
         _ => Ok("no case".to_string(alloc)?),
     }
 }

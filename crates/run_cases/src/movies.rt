@@ -3,6 +3,7 @@
 ghost use Rattle.std.specs.Prelude.{◌≤◌};
 ghost use Rattle.pic_y4m.specs.HeadLine.{IsHead};
 
+use crate::cases::{Files, words_of};
 use crate::runs::answer_over;
 use gate_words::{bytes_of, word_of};
 use pic_y4m::Head;
@@ -15,8 +16,8 @@ fn no_memory() -> io::Error {
     io::Error::from(io::ErrorKind::OutOfMemory)
 }
 
-/// Where a sample lies, or why it can't be told.
-fn place_told(
+/// Where a sample lies, or its fault.
+fn place_of(
     rt: &HostRuntime,
     reader: &MovieReader,
     store: &mut MemStore,
@@ -36,7 +37,7 @@ fn place_told(
     Ok(format!(in alloc; "{told}{is_given}; ")?)
 }
 
-pub(crate) fn places_told(rt: &HostRuntime, case: &str) -> io::Result<String> {
+pub(crate) fn places_answer(rt: &HostRuntime, case: &str) -> io::Result<String> {
     let alloc = rt.alloc();
     let mut store = MemStore::new(bytes_of(rt.alloc(), case.as_bytes())?, 7, Vec::new(alloc));
     let reader = match MovieReader::start(alloc, &mut store) {
@@ -45,13 +46,13 @@ pub(crate) fn places_told(rt: &HostRuntime, case: &str) -> io::Result<String> {
     };
     let mut all = String::new(alloc);
     for sample in 0..reader.track().samples {
-        let told = place_told(rt, &reader, &mut store, sample)?;
+        let told = place_of(rt, &reader, &mut store, sample)?;
         all.push_str(&told)?;
     }
     Ok(all)
 }
 
-/// Writes a frame of so many zeros.
+/// Writes a frame of `size` zeros.
 fn write_frame(
     rt: &HostRuntime,
     writer: &mut MovieWriter,
@@ -74,7 +75,7 @@ fn write_frame(
     Ok(())
 }
 
-/// Pictures of 16 by 16 samples, 25 each `den` seconds, with so many bits of alpha: 8, or none.
+/// Pictures of 16 by 16 samples, 25 each `den` seconds, with 8 bits of alpha where `alpha` is 8, and none otherwise.
 fn head_of(den: u32, alpha: u32) -> Head
     requires some { 1 ≤ den }
     requires few { den ≤ 4000 }
@@ -134,10 +135,11 @@ fn movie_of(rt: &HostRuntime, case: &str) -> io::Result<Vec<u8>> {
     written(rt, &head, &numbers[2..])
 }
 
-pub(crate) fn bytes_told(rt: &HostRuntime, case: &str) -> io::Result<String> {
+pub(crate) fn bytes_answer(rt: &HostRuntime, case: &str) -> io::Result<String> {
     word_of(rt.alloc(), &movie_of(rt, case)?)
 }
 
-pub(crate) fn written_told(rt: &HostRuntime, case: &str) -> io::Result<String> {
-    answer_over(rt, "list", &movie_of(rt, case)?)
+pub(crate) fn written_answer(rt: &HostRuntime, case: &str) -> io::Result<String> {
+    let words = words_of(rt, "list movie")?;
+    answer_over(rt, &words, Files::of_movie(&movie_of(rt, case)?))
 }

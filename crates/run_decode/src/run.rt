@@ -24,7 +24,7 @@ use qt_movie::MovieReader;
 use qt_tables::{MovieFault, samples_are_counted};
 use std::alloc::Global;
 
-/// Shows all samples: reads, compares, writes, tells.
+/// Shows all samples: reads each, compares it, writes its picture and tells the monitors.
 fn show_all<M: ByteStore, K: ByteSink, B: Monitor>(
     alloc: Global,
     job: &Job,
@@ -88,7 +88,7 @@ fn run_job<M: ByteStore, K: ByteSink, B: Monitor>(
 }
 
 /// Reads the movie's tables, and runs over its samples.
-#[tactic(auto, using(crate::proofs::Extending::none_extends))]
+#[tactic(auto, using(pw_outside::proofs::Puts::none_extends))]
 fn run_movie<M: ByteStore, K: ByteSink, B: Monitor>(
     alloc: Global,
     movie: &mut M,
@@ -118,12 +118,14 @@ fn run_movie<M: ByteStore, K: ByteSink, B: Monitor>(
     run_job(alloc, &job, &reader, movie, out, text, monitors)
 }
 
-/// Shows the first track of ProRes of a QuickTime movie: writes the pictures of its samples to `out`, with samples of this depth and in
-/// this form, tells each monitor of each picture, and writes the line `pictures N` and the monitors' reports to `text`. A monitor
-/// leaves the list once its report was written whole. One sample's picture is held at a time.
+/// Shows the first ProRes track of a QuickTime movie: writes the pictures of its samples to `out`, at bit depth
+/// `depth` and in format `form`, tells each monitor of each picture, and writes the line `pictures N` and the
+/// monitors' reports to `text`. A monitor leaves the list after its report was written whole. Holds one sample's
+/// picture at a time.
 ///
-/// For each sample, in order: its place in the file; its reading; its frame's fault; the comparison with the first frame (`Differs`
-/// at byte 8 of the sample, where size, sampling, fields or alpha are others); the writing; the monitors in their order.
+/// For each sample, in order: its place in the file; its reading; its frame's fault; the comparison with the first
+/// frame (`Differs` at byte 8 of the sample, if size, sampling, fields or alpha differ); the writing; the monitors
+/// in their order.
 pub fn decode_run<M: ByteStore, K: ByteSink, B: Monitor>(
     alloc: Global,
     movie: &mut M,
@@ -133,25 +135,27 @@ pub fn decode_run<M: ByteStore, K: ByteSink, B: Monitor>(
     text: &mut K,
     monitors: &mut Vec<B>,
 ) -> DecodeEnd
-    // Where the movie's bytes are told, they decide the answer, what is written, and what the monitors are told.
+    // If the movie's bytes are visible, they determine the result, the bytes written, and the pictures that the
+    // monitors get.
     ensures ran { Told (M.bytes movie.old) (λ file. RanOn form depth file (movie_in file) result
         (world K.held K.taken out.old text.old (map B.state monitors.old.items)) (world K.held K.taken out.new text.new (map B.state monitors.new.items))) }
-    // After every answer both sinks have fronts of what decoding gives; of a file that is no such movie nothing is written.
+    // After any result both sinks hold prefixes of what decoding writes; of a file that is no such movie nothing is
+    // written.
     ensures fronts { Told (M.bytes movie.old) (λ file. WritesFrontsOf form depth file (movie_in file)
         (world K.held K.taken out.old text.old (map B.state monitors.old.items)) (world K.held K.taken out.new text.new (map B.state monitors.new.items))) }
-    // Where no port failed, a movie whose samples all lie in the file and stand for frames like the first is decoded, unless memory runs
-    // out.
+    // If no port failed and memory lasted, a movie whose samples all lie in the file and stand for frames like the
+    // first is decoded.
     ensures complete { Told (M.bytes movie.old) (λ file.
         (Rose (M.faults movie.old) (M.faults movie.new) → ⊥) → (Rose (K.faults out.old) (K.faults out.new) → ⊥) → (Rose (K.faults text.old) (K.faults text.new) → ⊥)
         → CompletesDecode form depth file (movie_in file) result) }
-    // Whatever the answer, and whether the movie's bytes are told or not, each sink extends what it held.
+    // After any result, visible or opaque, each sink extends what it held.
     ensures out_extends { Extends (sink_state (K.held out.old) (K.taken out.old)) (sink_state (K.held out.new) (K.taken out.new)) }
     ensures text_extends { Extends (sink_state (K.held text.old) (K.taken text.old)) (sink_state (K.held text.new) (K.taken text.new)) }
-    // After Done no monitor is left, and all that was written is settled.
+    // After Done no monitor is left, and all that was written is flushed.
     ensures emptied { OnTrue (is_done result) (map B.state monitors.new.items ≡ []) }
     ensures settled { OnTrue (is_done result) ((K.settled out.new ≡ K.taken out.new) × (K.settled text.new ≡ K.taken text.new)) }
     ensures bytes { M.bytes movie.new ≡ M.bytes movie.old }
-    // A fault of a port is answered only where that port's count rose, and every other answer leaves the counts as they were.
+    // A port fault is returned only if that port's counter rose; every other result leaves the counters unchanged.
     ensures read { CountsFault (M.faults movie.old) (M.faults movie.new) (is_read_fault result) }
     ensures write { CountsFaults (K.faults out.old) (K.faults out.new) (K.faults text.old) (K.faults text.new) (is_write_fault result) }
 {

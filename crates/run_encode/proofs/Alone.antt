@@ -1,4 +1,4 @@
--- Encoding gives one answer alone, and one list for each sink.
+-- The result of encoding is unique: one outcome, and one list for each sink.
 use Rattle.std.proofs.Common.{◌≡◌, refl, ℕ, zero, suc, ◌+◌, ◌*◌, ◌<◌, ◌≤◌, ◌⊎◌, inl, inr, ⊎_elim, List, [], ◌∷◌, arith, length, map, ap, sym, subst, ◌∙◌, Option, None, Some}
 use Rattle.std.specs.List.{range_with_len, AllByRecursion}
 use Rattle.std.proofs.lemmas.Bool.{cases_lt}
@@ -20,7 +20,7 @@ use Rattle.run_encode.specs.Groups.{group_count, table_in}
 use Rattle.run_encode.specs.Outputs.{Lists}
 use Rattle.run_encode.specs.Encoding.{Group, IsCoded, printed_of, AreFirst, group_behind, cut_lists, whole_lists, small_lists, Ends}
 
--- a coded group is its pictures'
+-- a coded group is determined by its pictures
 group-same : BestIsOne → MultiplierIsOne → KeptAreOne → (j : Job) (g h : Group) → g.pictures ≡ h.pictures → IsTable (table_in j h.pictures) → IsCoded j g → IsCoded j h → g ≡ h
 group-same best-one multiplier-one kept-one j g h p ok is-g is-h =
     let t = table_in j h.pictures in
@@ -35,7 +35,7 @@ group-same best-one multiplier-one kept-one j g h p ok is-g is-h =
 
 module _ (best-one : BestIsOne) (multiplier-one : MultiplierIsOne) (kept-one : KeptAreOne)
     (j : Job) (ps : Pictures) (tables : (k : ℕ) → k < group_count j.group ps → IsTable (table_in j (group_at j.group ps.pictures k))) where
-  -- as many groups are the same
+  -- equally many groups are the same
   groups-same : (a : ℕ) (gs hs : List Group) → length gs ≡ length hs → a + length hs ≤ group_count j.group ps
       → map (λ g. g.pictures) gs ≡ map (group_at j.group ps.pictures) (range_with_len a (length gs))
       → map (λ g. g.pictures) hs ≡ map (group_at j.group ps.pictures) (range_with_len a (length hs))
@@ -73,7 +73,7 @@ module _ (best-one : BestIsOne) (multiplier-one : MultiplierIsOne) (kept-one : K
     same n = groups-same 0 gs hs n (let h = first-h.few in omega (arith, h)) first-g.pictures first-h.pictures
         (recursion_from_All (IsCoded j) gs first-g.each) (recursion_from_All (IsCoded j) hs first-h.each)
 
-    -- where no choice fits behind some groups, there are no more
+    -- if no choice fits after some groups, there are no more
     pub no-more : HasNoFit (table_in j (group_behind j ps gs)) → length hs ≤ length gs
     no-more nofit = ⊎_elim
         (λ lt. let b = has-best 0 (length gs) hs lt first-h.pictures (recursion_from_All (IsCoded j) hs first-h.each) in
@@ -84,7 +84,7 @@ module _ (best-one : BestIsOne) (multiplier-one : MultiplierIsOne) (kept-one : K
 
 -- ---- the end
 
--- how it ends behind all groups
+-- how encoding ends after all groups
 abbrev end-at : Option (Fault PictureKind) → EncodeEnd
 end-at None = ends.Done
 end-at (Some f) = ends.BadPictures f.kind f.place
@@ -93,7 +93,7 @@ abbrev lists-at : Job → Option (Fault PictureKind) → List Group → Lists
 lists-at j None coded = whole_lists j coded
 lists-at j (Some f) coded = cut_lists j coded
 
--- Behind all groups the end of the pictures decides; and in front of a group for which no choice fits, that group does.
+-- After all groups the end of the pictures decides; before a group for which no choice fits, that group does.
 abbrev Decided : Job → Pictures → List Group → EncodeEnd → Lists → Type 0
 Decided j ps coded end lists =
     ((length coded ≡ group_count j.group ps) × (end ≡ end-at ps.fault) × (lists ≡ lists-at j ps.fault coded))

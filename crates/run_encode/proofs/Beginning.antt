@@ -34,7 +34,7 @@ pub meant-err : (form : Option Head) (bytes : List ℕ) (f : Fault PictureKind) 
 unfolding pictures_of bind
 meant-err form bytes f e = ap (λ x. bind x (λ start. Ok (head_of start.0, left_of start.0 start.1))) e
 
--- the head has a fault, or couldn't be read
+-- the head has an error, or couldn't be read
 pub refused : (w : EncodeWords) (left : Option (List ℕ)) (a : Outputs) (fault : PictureFault) → PutsAll a a nothing
     → Fails told_fault fault (start_of w.raw (rest_of 0 left))
     → StopsFirst (end_of_fault fault) a a ⊎ RanOn w (pictures_of w.raw (bytes_of left)) (end_of_fault fault) a a
@@ -43,7 +43,7 @@ refused w left a (faults.Bad kind place) p e =
 refused w left a faults.Failed p e = inl (inl refl, p)
 refused w left a faults.NoMemory p e = inl (inr refl, p)
 
--- no headline is asked where the head has a fault, or couldn't be read
+-- no headline is required if the head has an error, or couldn't be read
 pub unread-headline : (w : EncodeWords) (left : Option (List ℕ)) (a : Outputs) (fault : PictureFault) → Fails told_fault fault (start_of w.raw (rest_of 0 left))
     → HasHeadline w (pictures_of w.raw (bytes_of left)) (end_of_fault fault) a a
 unread-headline w left a (faults.Bad kind place) e = headline-refused w a a _ (record { kind = kind; place = place }) (ends.BadPictures kind place) (meant-err w.raw (bytes_of left) (record { kind = kind; place = place }) e)

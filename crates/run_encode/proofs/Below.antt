@@ -1,4 +1,4 @@
--- The laws of the crates below, on which the headline rests.
+-- Laws of lower crates that the headline uses.
 use Rattle.pr_frame.specs.Laws.{WrittenStands, WrittenHasLength}
 use Rattle.qt_movie.specs.Laws.{WrittenMovieIsRead, WrittenFramesAreRead}
 use Rattle.rate_table.specs.Laws.{GoodIsLeast, NoneFitsBelowLeast}
@@ -7,7 +7,7 @@ use Rattle.rate_build.specs.Groups.{GroupTableIsTable}
 use Rattle.rate_build.specs.Laws.{CoefficientsAreOfLayout, CodedIsReady, ChoiceHasIndices, FrameHasTableSize}
 use Rattle.rate_cert.specs.Laws.{ProofIsReadAgain}
 
--- what each group rests on
+-- laws that each group uses
 pub record LawsOfGroups : Type 0 where
   pub of_layout : CoefficientsAreOfLayout
   pub group_table : GroupTableIsTable
@@ -19,7 +19,7 @@ pub record LawsOfGroups : Type 0 where
   pub kept_good : KeptIsGood
   pub good_least : GoodIsLeast
 
--- what a whole movie and a whole proof rest on
+-- laws that a whole movie and a whole proof use
 pub record LawsOfFiles : Type 0 where
   pub movie_read : WrittenMovieIsRead
   pub frames_read : WrittenFramesAreRead

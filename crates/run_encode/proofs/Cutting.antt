@@ -5,7 +5,7 @@ use Rattle.std.proofs.lemmas.List.{drop_at, drop-drop}
 use Rattle.std.proofs.lemmas.Nat.{div-mul-add, le-div}
 use Rattle.rate_build.specs.Groups.{group_at}
 
--- behind a whole group, group k + 1 is group k of the rest
+-- after a whole group, group k + 1 is group k of the rest
 group-behind : {A : Type 0} (size k : ℕ) (g xs : List A) → length g ≡ size → group_at size (g ++ xs) (k + 1) ≡ group_at size xs k
 group-behind size k g xs e =
     let n : size * (k + 1) ≡ size + size * k = omega arith in
@@ -38,17 +38,17 @@ whole-groups f size (g ∷ gs) rest h =
     ∙ ap (λ l. group_at size (f g ++ xs) 0 ∷ l) (sym (groups-behind size (f g) xs h.0 0 (length gs)))
     ∙ ap (λ l. map (group_at size l) (range_with_len 0 (length (g ∷ gs)))) (sym same)
 
--- so many pictures have whole groups
+-- the number of pictures in whole groups
 pub whole-length : {X A : Type 0} (f : X → List A) (size : ℕ) (gs : List X) → AllByRecursion (λ g. length (f g) ≡ size) gs → length (flat_map f gs) ≡ size * length gs
 whole-length f size [] h = omega arith
 whole-length f size (g ∷ gs) h = omega (arith, length-append (f g) (flat_map f gs), whole-length f size gs h.1, h.0)
 
--- the group behind whole groups
+-- the group after whole groups
 pub next-group : {X A : Type 0} (f : X → List A) (size : ℕ) (gs : List X) (rest : List A) → AllByRecursion (λ g. length (f g) ≡ size) gs
     → group_at size (flat_map f gs ++ rest) (length gs) ≡ take size rest
 next-group f size gs rest h = ap (take size) (drop_at (flat_map f gs) rest (size * length gs) (whole-length f size gs h))
 
--- ---- how many groups there are
+-- ---- the number of groups
 
 pub count-whole : (size k r : ℕ) → r < size → (size * k + r) / size ≡ k
 count-whole size k r h = let e : size * k + r ≡ k * size + r = omega arith in ap (λ n. n / size) e ∙ div-mul-add k size r h

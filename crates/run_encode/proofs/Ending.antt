@@ -1,4 +1,4 @@
--- How the loop ends behind whole groups.
+-- How the loop ends after whole groups.
 use Rattle.std.proofs.Common.{◌≡◌, ℕ, ◌+◌, ◌*◌, ◌≤◌, inl, inr, [], ◌∷◌, ◌++◌, length, take, ap, sym, subst, ◌∙◌, append-nil}
 use Rattle.std.proofs.lemmas.List.Elements.{All-push}
 use Rattle.pic_y4m.specs.Frames.{Pictures}
@@ -78,7 +78,7 @@ module _ (j : Job) (all left : Pictures) (number : ℕ) (old new : Counts) (befo
   }
   ended-here ends.Done e = absurd e
 
-  -- the run's answer
+  -- the run's outcome
   pub ended : (end : EncodeEnd) → EndsIn j number left old new end mid after → EndedBehind j all new end before after
   ended end e = subst (λ ps. EndedBehind j ps new end before after) (sym w.split) (ended-here end e)
 

@@ -24,7 +24,7 @@ fronts-extend a b x p = (
   record { movie = p.movie.front; proof = p.proof.front; text = p.text.front },
 )
 
--- one thing was written, and then another
+-- one list was written, and then another
 pub then-extends : (a b c : Outputs) → ExtendsAll a b → ExtendsAll b c → ExtendsAll a c
 then-extends a b c p q = (joined p.0 q.0, all_then p.1 q.1)
 
@@ -39,7 +39,7 @@ stops-extends j number cs old new ends.Done a b s = absurd s
 stops-extends j number cs old new ends.ReadFault a b s = absurd s
 stops-extends j number cs old new (ends.BadPictures kind place) a b s = absurd s
 
--- what stands behind all groups was written, or a front of it
+-- what follows all groups was written, or a prefix of it
 pub finish-extends : (j : Job) (now : Counts) (end : EncodeEnd) (a b : Outputs) → Finishes j now end a b → ExtendsAll a b
 finish-extends j now ends.Done a b f = all-extends a b _ f
 finish-extends j now ends.WriteFault a b f = fronts-extend a b _ f
@@ -49,7 +49,7 @@ finish-extends j now (ends.BadPictures kind place) a b f = absurd f
 finish-extends j now (ends.LayersFull frame) a b f = absurd f
 finish-extends j now (ends.TooSmall frame least) a b f = absurd f
 
--- the proof's end was written, or a front of it
+-- the proof's end was written, or a prefix of it
 pub close-extends : (records frame least : ℕ) (end : EncodeEnd) (a b : Outputs) → Closes records frame least end a b → ExtendsAll a b
 close-extends records frame least (ends.TooSmall f l) a b p = all-extends a b _ p.2
 close-extends records frame least ends.WriteFault a b p = fronts-extend a b _ p

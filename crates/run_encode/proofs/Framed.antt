@@ -16,7 +16,7 @@ use Rattle.run_encode.specs.declared.job.Job.{Job}
 use Rattle.run_encode.specs.Groups.{header_in, frame_slices, slice_tables, coded_group, IsFrameOf}
 use Rattle.run_encode.proofs.Shares.{part-of, frames-are, sizes-split}
 
--- what every frame of a choice has
+-- facts of every frame of a choice
 abbrev pub FrameIsReady : Job → FrameCoefficients → Type 0
 FrameIsReady j c = (choice : List Entry) → IsChoice (slice_tables j c) choice
     → HasShape (coded_frame c (header_in j) (indices choice)) × IsWritable (coded_frame c (header_in j) (indices choice))

@@ -1,7 +1,8 @@
 -- The frames of a choice, written one by one.
 use Rattle.std.proofs.Common.{◌≡◌, refl, ℕ, suc, ◌+◌, ◌*◌, ◌<◌, ◌≤◌, ◌^◌, get_or, drop-cons, List, [], ◌∷◌, ◌++◌, arith, length, map, take, drop, ap, sym, subst, ◌∙◌, length-append, append_assoc, append-nil, take_at}
-use Rattle.std.specs.List.{flat_map, All, AllZip}
+use Rattle.std.specs.List.{flat_map, All}
 use Rattle.std.proofs.lemmas.List.Elements.{All-get_or, recursion_from_All}
+use Rattle.std.proofs.lemmas.Slice.Zip.{AllZip-long}
 use Rattle.pw_outside.specs.Ports.{last}
 use Rattle.std.proofs.lemmas.List.{take-map, drop-map, drop_at, map-append, length-map, nil_from_length, length-drop}
 use Rattle.std.proofs.lemmas.List.Concat.{flat_map-append}
@@ -20,7 +21,7 @@ use Rattle.run_encode.specs.inner.Over.{HasFitting, IsFrameChoice}
 use Rattle.run_encode.proofs.Shares.{slices-are, part-of, sizes-split}
 use Rattle.run_encode.proofs.Grouped.{table-slices, table-fixed}
 
--- the choice of the frames that are left, and the frames that were written
+-- the choice of the remaining frames, and the frames that were written
 pub record Left (j : Job) (left : List FrameCoefficients) (all : List (List ℕ)) (slices : List (List Entry)) (part : List ℕ) (done : List (List ℕ)) : Type 0 where
   pub entries : List Entry
   pub is_choice : IsChoice slices entries
@@ -36,7 +37,7 @@ pub record SoFar (j : Job) (left : List FrameCoefficients) (all : List (List ℕ
   pub sizes_are : sizes ≡ first ++ map length done
   pub number : length done ≡ k
 
--- the frame's bytes from its head's and its own
+-- a frame's bytes are its header's and its own
 pub head-front : (a b : SinkState) (frame : List ℕ) (size : ℕ) → size ≡ length frame → PutsFront a b (frame_head_bytes size) → PutsFront a b (frame_bytes frame)
 head-front a b frame size e p = front_more frame (subst (λ n. PutsFront a b (frame_head_bytes n)) e p)
 
@@ -114,20 +115,14 @@ frames-all j all slices part k first sizes a b s =
     let same : s.done ≡ all = sym (s.left_is.all_are ∙ append-nil s.done) in
     (subst (λ l. Puts a b (flat_map frame_bytes l)) same s.puts, s.sizes_are ∙ ap (λ l. first ++ map length l) same)
 
-pub zip-long : {A B : Type 0} (R : A → B → Type 0) (xs : List A) (ys : List B) → AllZip R xs ys → length xs ≡ length ys
-zip-long R [] [] h = refl
-zip-long R [] (y ∷ ys) h = absurd h
-zip-long R (x ∷ xs) [] h = absurd h
-zip-long R (x ∷ xs) (y ∷ ys) h = ap suc (zip-long R xs ys h.1)
-
 pub long-enough : (j : Job) (c : FrameCoefficients) (cs : List FrameCoefficients) (all : List (List ℕ)) (slices : List (List Entry)) (part : List ℕ) (n : ℕ) (done : List (List ℕ))
     → IsFrameOf j c → n ≡ frame_slices j → Left j (c ∷ cs) all slices part done → (n ≤ length slices) × (n ≤ length part)
 long-enough j c cs all slices part n done is count l =
     let s : n ≤ length slices = omega (arith, ap length l.slices_are, length-append (slice_tables j c) (flat_map (slice_tables j) cs), slices-are j c is, count) in
-    let p : length part ≡ length slices = ap length (sym l.has_indices) ∙ length-map l.entries (λ (x : Entry). x.index) ∙ sym (zip-long _ slices l.entries l.is_choice) in
+    let p : length part ≡ length slices = ap length (sym l.has_indices) ∙ length-map l.entries (λ (x : Entry). x.index) ∙ AllZip-long _ slices l.entries l.is_choice in
     (s, omega (arith, s, p))
 
--- the frame that is next
+-- the next frame
 pub current : (j : Job) (frames : List FrameCoefficients) (k : ℕ) (c : FrameCoefficients) (all : List (List ℕ)) (slices : List (List Entry)) (part first sizes : List ℕ) (a b : SinkState)
     → k < length frames → c ≡ get_or frames k c → SoFar j (drop k frames) all slices part k first sizes a b → SoFar j (c ∷ drop (k + 1) frames) all slices part k first sizes a b
 current j frames k c all slices part first sizes a b lt e s =

@@ -32,12 +32,12 @@ pub same-head : (r : AnyReader) (place : ℕ) → head_of (advanced r place) ≡
 same-head (Y4m r) place = refl
 same-head (Raw r) place = refl
 
--- a reader has read no more than there may be
+-- a reader has read at most MAX_FRAMES pictures
 pub reader-few : (r : AnyReader) → IsReader r → frames_of r ≤ MAX_FRAMES
 reader-few (Y4m r) is = is.few
 reader-few (Raw r) is = is.few
 
--- so many pictures were read
+-- `count` pictures were read
 pub record SoFar (j : Job) (old now : AnyReader) (left left' : Option (List ℕ)) (cs : List FrameCoefficients) (count : ℕ) : Type 0 where
   pub pictures : List Picture
   pub coefficients : cs ≡ map (coefficients_in j) pictures
@@ -132,7 +132,7 @@ module _ (j : Job) (old now : AnyReader) (left left' : Option (List ℕ)) (cs : 
         read = λ _. read;
       }
 
-  -- a fault
+  -- an error
   pub bad-group : (first : NextIsFirst) (fault : PictureFault) → count < j.group → (IsSome left' → Fails told_fault fault (next_of now (rest_of (place_of now) left')))
       → IsSome left → StopsGroup j (left_by old left) (end_of_fault fault)
   bad-group first (faults.Bad kind place) lt bad h =

@@ -1,4 +1,4 @@
--- Encoding always gives an answer and lists, and goes on behind any groups.
+-- Encoding always has a result, which extends what was written of any first groups.
 use Rattle.std.proofs.Common.{◌≡◌, refl, ℕ, zero, suc, ◌+◌, ◌-◌, ◌*◌, ◌<◌, ◌⊎◌, inl, inr, ⊎_elim, List, [], ◌∷◌, ◌++◌, arith, length, map, ap, sym, ◌∙◌, length-append, append_assoc, append-nil, Option, None, Some}
 use Rattle.std.specs.List.{flat_map, range_with_len}
 use Rattle.std.proofs.lemmas.Bool.{cases_lt}
@@ -30,7 +30,7 @@ use Rattle.run_encode.specs.Encoding.{Group, IsCoded, AreFirst, all_frames, fram
 abbrev pub GoesOn : Job → Pictures → List Group → Type 0
 GoesOn j ps coded = (end : EncodeEnd) × (lists : Lists) × Encodes j ps end lists × ((more : Lists) × (joined (cut_lists j coded) more ≡ lists))
 
--- how many groups are left
+-- the number of groups left
 pub gap : (j : Job) (ps : Pictures) (coded : List Group) → (n : ℕ) × (AreFirst j ps coded → length coded + n ≡ group_count j.group ps)
 gap j ps coded = (group_count j.group ps - length coded, λ first. let h = first.few in omega (arith, h))
 
@@ -51,7 +51,7 @@ lines-append j n (x ∷ xs) ys =
     let more = lines-append j (n + length x.pictures) xs ys in
     (more.0, ap (λ l. group_lines j n x ++ l) more.1 ∙ sym (append_assoc (group_lines j n x) (lines_of j (n + length x.pictures) xs) (lines_of j more.0 ys)))
 
--- what was written of some groups begins what was written of more
+-- what was written of some groups is a prefix of what was written of more
 pub cut-more : (j : Job) (xs ys : List Group) → (more : Lists) × (cut_lists j (xs ++ ys) ≡ joined (cut_lists j xs) more)
 cut-more j xs ys =
     let lines = lines-append j 0 xs ys in
@@ -68,7 +68,7 @@ cut-more j xs ys =
 records-are : (j : Job) (coded : List Group) → flat_map (record_bytes j.format) (map (record_in j) coded) ≡ records_bytes j coded
 records-are j coded = flat_map-map (record_bytes j.format) (record_in j) coded
 
--- and what is written of all
+-- and of what is written of all
 whole-more : (j : Job) (coded : List Group) → (more : Lists) × (joined (cut_lists j coded) more ≡ whole_lists j coded)
 unfolding proof_bytes
 whole-more j coded =
@@ -98,7 +98,7 @@ small-more j coded ps =
           (append-nil _),
     )
 
--- ---- the groups behind
+-- ---- the groups after
 
 module _ (none-below : NoneFitsBelowLeast) (best-exists : BestExists) (multiplier-exists : MultiplierExists) (kept-exist : KeptExist)
     (j : Job) (ps : Pictures) (tables : (k : ℕ) → k < group_count j.group ps → IsTable (table_in j (group_at j.group ps.pictures k))) where
@@ -149,7 +149,7 @@ module _ (none-below : NoneFitsBelowLeast) (best-exists : BestExists) (multiplie
       let k = kept-exist t m.0 (error_of b.0) in
       (record { pictures = group_behind j ps coded; choice = b.0; multiplier = m.0; layers = k.0 }, record { best = b.1; layers = record { multiplier = m.1; kept = k.1 } }, refl)
 
-  -- what goes on behind one group more goes on behind these
+  -- a result after one group more is a result after these
   from-more : (coded : List Group) (g : Group) → GoesOn j ps (coded ++ g ∷ []) → GoesOn j ps coded
   from-more coded g (end, lists, encodes, (more, e)) =
       let c = cut-more j coded (g ∷ []) in

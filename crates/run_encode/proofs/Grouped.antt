@@ -14,7 +14,7 @@ module _ (j : Job) where
   abbrev one : FrameCoefficients → Table
   one c = table_of c j.weights j.lo j.hi j.budget
 
-  -- it is the table of the frames' tables together
+  -- it is the frames' tables joined
   pub table-is : (cs : List FrameCoefficients) → table_of_group j cs ≡ group_table (map one cs)
   unfolding table_of_group
   table-is cs = refl

@@ -1,6 +1,7 @@
--- What a run did has the headline; and after a fault of writing the sinks have fronts of what encoding gives.
-use Rattle.std.proofs.Common.{◌≡◌, inl, inr, Bool, true, false, List, subst, sym, Result, Ok, Err}
+-- What a run did has the headline; after a write fault the sinks have prefixes of the result of encoding.
+use Rattle.std.proofs.Common.{◌≡◌, inl, inr, Bool, false, List, subst, sym, Result, Ok, Err}
 use Rattle.std.specs.Bool.{OnTrue}
+use Rattle.std.proofs.lemmas.Bool.{OnTrue_from}
 use Rattle.pw_outside.specs.Reading.{Fault}
 use Rattle.pw_outside.proofs.Puts.{front_more}
 use Rattle.pic_y4m.specs.declared.head.Head.{Head}
@@ -29,7 +30,7 @@ headline-ran whole cut j ps (ends.TooSmall frame least) a b is are ran =
     (ran.0.movie, ran.0.proof, ran.2.movie, ran.2.proof, whole j ps (ends.TooSmall frame least) ran.0 is are ran.1 ran.3)
 headline-ran whole cut j ps (ends.LayersFull frame) a b is are ran = (_, _, ran.puts.movie, ran.puts.proof, cut j ps frame ran.coded is are ran.first ran.there)
 
--- fronts of what was written of the first groups are fronts of what encoding gives
+-- prefixes of what was written of the first groups are prefixes of the result of encoding
 pub goes-front : EncodingGoesOn → (j : Job) (ps : Pictures) (coded : List Group) → IsJob j → ArePictures j.head ps → AreFirst j ps coded
     → (a b : Outputs) → PutsFronts a b (cut_lists j coded) → (end : EncodeEnd) × (lists : Lists) × Encodes j ps end lists × PutsFronts a b lists
 goes-front goes j ps coded is are first a b p =
@@ -37,10 +38,10 @@ goes-front goes j ps coded is are first a b p =
     let more = g.3.0 in
     (g.0, g.1, g.2, subst (PutsFronts a b) g.3.1 (record { movie = front_more more.movie p.movie; proof = front_more more.proof p.proof; text = front_more more.text p.text }))
 
--- ---- the same of an input
+-- ---- the same for an input
 
 module _ (w : EncodeWords) (a b : Outputs) where
-  -- no headline is asked where the head couldn't be read
+  -- no headline is required if the head couldn't be read
   pub headline-stopped : (input : Result (Head × Pictures) (Fault PictureKind)) (end : EncodeEnd) → StopsFirst end a b → HasHeadline w input end a b
   headline-stopped input end (inl e, puts) = subst (λ x. HasHeadline w input x a b) (sym e) tt
   headline-stopped input end (inr e, puts) = subst (λ x. HasHeadline w input x a b) (sym e) tt
@@ -54,7 +55,7 @@ module _ (w : EncodeWords) (a b : Outputs) where
   of-fault f (ends.TooSmall frame least) = tt
   of-fault f (ends.LayersFull frame) = tt
 
-  -- nor where the head has a fault
+  -- nor if the head has an error
   pub headline-refused : (input : Result (Head × Pictures) (Fault PictureKind)) (f : Fault PictureKind) (end : EncodeEnd) → input ≡ Err f → HasHeadline w input end a b
   headline-refused input f end e = subst (λ x. HasHeadline w x end a b) (sym e) (of-fault f end)
 
@@ -70,11 +71,7 @@ module _ (w : EncodeWords) (a b : Outputs) where
   unasked : (P : Type 0) (test : Bool) → test ≡ false → OnTrue test P
   unasked P test e = subst (λ x. OnTrue x P) (sym e) tt
 
-  given : {P : Type 0} (test : Bool) → P → OnTrue test P
-  given true p = p
-  given false p = tt
-
-  -- nor where the pictures have no layout
+  -- nor if the pictures have no layout
   pub headline-unlaid : (input : Result (Head × Pictures) (Fault PictureKind)) (head : Head) (ps : Pictures) (end : EncodeEnd) → input ≡ Ok (head, ps)
       → has_layout w head ≡ false → HasHeadline w input end a b
   headline-unlaid input head ps end e none = subst (λ x. HasHeadline w x end a b) (sym e) (asked head ps end (unasked _ (has_layout w head) none))
@@ -82,4 +79,4 @@ module _ (w : EncodeWords) (a b : Outputs) where
   -- the headline of a run
   pub headline-laid : (input : Result (Head × Pictures) (Fault PictureKind)) (head : Head) (ps : Pictures) (j : Job) (end : EncodeEnd) → input ≡ Ok (head, ps)
       → IsJobOf w head j → HeadlineOf j ps end a b → HasHeadline w input end a b
-  headline-laid input head ps j end e of h = subst (λ x. HasHeadline w x end a b) (sym e) (asked head ps end (given (has_layout w head) (j, of, h)))
+  headline-laid input head ps j end e of h = subst (λ x. HasHeadline w x end a b) (sym e) (asked head ps end (OnTrue_from (has_layout w head) _ (λ laid. (j, of, h))))

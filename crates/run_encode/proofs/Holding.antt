@@ -1,4 +1,5 @@
--- What holds of one group: its size, what its frames stand for, that no choice has less error, and that its record is good.
+-- Facts of one group: its size, what its frames stand for, that no choice has less error, and that its record is
+-- good.
 use Rattle.std.proofs.Common.{◌≡◌, refl, ℕ, zero, suc, ◌+◌, ◌-◌, ◌*◌, ◌<◌, ◌≤◌, ◌^◌, List, [], ◌∷◌, ◌++◌, arith, length, map, ap, sym, subst, ◌∙◌}
 use Rattle.std.specs.List.{flat_map, range_with_len, All, AllByRecursion, sum_by}
 use Rattle.std.proofs.lemmas.List.{length-map}
@@ -46,7 +47,7 @@ all-indices : (j : Job) → IsJob j → (cs : List FrameCoefficients) → AllByR
 all-indices j is [] = tt
 all-indices j is (c ∷ cs) = some-indices j is c c.slices (flat_map (slice_tables j) cs) (all-indices j is cs)
 
--- a group's table is one of the settings
+-- a group's table fits the settings
 pub table-of : (j : Job) (is : IsJob j) (ps : List Picture) → 1 ≤ length ps → length ps ≤ j.group → AllByRecursion (IsFrameOf j) (map (coefficients_in j) ps)
     → IsTableOf (settings_of j) (table_in j ps)
 table-of j is ps some few of =

@@ -1,4 +1,4 @@
--- Layouts, and what holds of every run.
+-- Layouts, and the invariant of a run's parameters.
 use Rattle.std.proofs.Common.{◌≡◌, refl, ℕ, ◌*◌, ◌/◌, ◌<◌, ◌≤◌, Bool, true, false, cond, Option, None, arith, length, sym, subst}
 use Rattle.std.specs.Prelude.{is_none, nat_le, ◌&&◌}
 use Rattle.std.proofs.lemmas.Bool.Decides.{nat_tests}
@@ -27,7 +27,7 @@ few-enough {F} fault k m e same h = subst (λ (f : Option F). (is_none f && nat_
 pub too-many : {F : Type 0} (fault : Option F) (k m : ℕ) → None ≡ fault → k ≡ m → 131070 < k → (is_none fault && nat_le m 131070) ≡ false
 too-many {F} fault k m e same h = subst (λ (f : Option F). (is_none f && nat_le m 131070) ≡ false) e (subst (λ n. nat_le n 131070 ≡ false) same (grind (arith, nat_tests)))
 
--- a frame has as many slices by the settings of its proof
+-- the settings of the proof give a frame the same number of slices
 pub slices-same : (j : Job) → IsJob j → cert.frame_slices (settings_of j) ≡ frame_slices j
 slices-same j is =
     let l = laid j.layout j.head.width j.head.height j.layout.log2 j.head.interlace j.head.chroma is.layout in
@@ -41,7 +41,7 @@ form-other : {P : Type 0} (b : Bool) → ◌≡◌ {A = ℕ} (cond b 1 0) 2 → 
 form-other true e = absurd (omega (arith, e))
 form-other false e = absurd (omega (arith, e))
 
--- the settings of a run are those that a proof can have
+-- the settings of a run are valid settings of a proof
 pub settings-are : (j : Job) → IsJob j → IsSettings (settings_of j)
 settings-are j is = record {
   form = form-few j.raw;

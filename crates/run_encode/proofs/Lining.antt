@@ -1,9 +1,11 @@
--- The lines of the frames of a group, one by one.
-use Rattle.std.proofs.Common.{◌≡◌, ℕ, zero, suc, ◌+◌, ◌*◌, ◌<◌, ◌≤◌, drop-cons, List, [], ◌∷◌, ◌++◌, arith, length, map, take, drop, ap, sym, ◌∙◌, append_assoc, append-nil}
-use Rattle.std.specs.List.{All, AllZip}
+-- The lines of a group's frames, one by one.
+use Rattle.std.proofs.Common.{◌≡◌, ℕ, suc, ◌+◌, ◌*◌, ◌<◌, ◌≤◌, drop-cons, List, [], ◌∷◌, ◌++◌, arith, length, map, take, drop, ap, sym, ◌∙◌, append_assoc, append-nil}
+use Rattle.std.specs.List.{All}
 use Rattle.std.proofs.lemmas.List.{take-map, drop-map, drop-drop, length-map, length-drop, drop_all}
 use Rattle.std.proofs.lemmas.List.Elements.{recursion_from_All}
 use Rattle.std.proofs.lemmas.Nat.{mul-le}
+use Rattle.std.proofs.lemmas.Slice.Zip.{AllZip-long}
+use Rattle.pw_outside.proofs.Lists.{zip-take, zip-drop}
 use Rattle.rate_table.specs.declared.entry.Entry.{Entry}
 use Rattle.rate_table.specs.Table.{Table, IsChoice, size_of, error_of, indices}
 use Rattle.rate_build.specs.Coefficients.{FrameCoefficients}
@@ -13,32 +15,17 @@ use Rattle.run_encode.specs.declared.job.Job.{Job}
 use Rattle.run_encode.specs.Groups.{IsFrameOf, frame_slices, table_of_group}
 use Rattle.run_encode.specs.Encoding.{frame_line, part_lines}
 use Rattle.run_encode.proofs.Grouped.{table-number}
-use Rattle.run_encode.proofs.FramesLeft.{zip-long}
-
-zip-drop : {A B : Type 0} (R : A → B → Type 0) (n : ℕ) (xs : List A) (ys : List B) → AllZip R xs ys → AllZip R (drop n xs) (drop n ys)
-zip-drop R zero xs ys h = h
-zip-drop R (suc n) [] [] h = tt
-zip-drop R (suc n) [] (y ∷ ys) h = absurd h
-zip-drop R (suc n) (x ∷ xs) [] h = absurd h
-zip-drop R (suc n) (x ∷ xs) (y ∷ ys) h = zip-drop R n xs ys h.1
-
-zip-take : {A B : Type 0} (R : A → B → Type 0) (n : ℕ) (xs : List A) (ys : List B) → AllZip R xs ys → AllZip R (take n xs) (take n ys)
-zip-take R zero xs ys h = tt
-zip-take R (suc n) [] [] h = tt
-zip-take R (suc n) [] (y ∷ ys) h = absurd h
-zip-take R (suc n) (x ∷ xs) [] h = absurd h
-zip-take R (suc n) (x ∷ xs) (y ∷ ys) h = (h.0, zip-take R n xs ys h.1)
 
 -- the line of each frame from one on
 abbrev pub lines-left : Job → ℕ → ℕ → ℕ → List FrameCoefficients → List Entry → List ℕ
 lines-left j number n k frames entries = part_lines j (number + k) (map (λ p. p.1) (shares n (drop k frames) (drop (n * k) entries)))
 
--- So far the lines are those of the first frames, whatever choice has these indices.
+-- The lines so far are those of the first frames, for every choice with these indices.
 abbrev pub AreFirstLines : Job → ℕ → ℕ → ℕ → List FrameCoefficients → List (List Entry) → List ℕ → List ℕ → Type 0
 AreFirstLines j number n k frames slices chosen lines = (entries : List Entry) → IsChoice slices entries → indices entries ≡ chosen
     → lines ++ lines-left j number n k frames entries ≡ part_lines j number (map (λ p. p.1) (shares n frames entries))
 
--- the line of the frame that is next, and those behind it
+-- the line of the next frame, and those after it
 first-line : (j : Job) (number n k : ℕ) (frames : List FrameCoefficients) (entries : List Entry) → k < length frames
     → lines-left j number n k frames entries
     ≡ frame_line (number + k) (fixed_bytes j.layout + size_of (take n (drop (n * k) entries))) (error_of (take n (drop (n * k) entries)))
@@ -97,10 +84,10 @@ module _ (j : Job) (frames : List FrameCoefficients) (t : Table) (n k : ℕ) (is
   pub enough-choice : (chosen part : List ℕ) (entries : List Entry) → IsChoice t.slices entries → indices entries ≡ chosen → part ≡ drop (n * k) chosen → n ≤ length part
   enough-choice chosen part entries choice has e =
       let h = behind-here in
-      let same : length chosen ≡ length t.slices = ap length (sym has) ∙ length-map entries (λ (x : Entry). x.index) ∙ sym (zip-long _ t.slices entries choice) in
+      let same : length chosen ≡ length t.slices = ap length (sym has) ∙ length-map entries (λ (x : Entry). x.index) ∙ AllZip-long _ t.slices entries choice in
       omega (arith, h, same, ap length e, length-drop (n * k) chosen)
 
-  -- the part of a choice has the part of its indices
+  -- a part of a choice has the same part of its indices
   pub part-here : (chosen : List ℕ) (entries : List Entry) → IsChoice t.slices entries → indices entries ≡ chosen
       → (part : List Entry) × IsChoice (take n (drop (n * k) t.slices)) part × (indices part ≡ take n (drop (n * k) chosen))
   part-here chosen entries choice has = (

@@ -1,4 +1,4 @@
--- The groups so far, and one more; and how a run ends behind them.
+-- The groups so far, one more, and how a run ends after them.
 use Rattle.std.proofs.Common.{◌≡◌, refl, ℕ, ◌+◌, ◌-◌, ◌*◌, ◌/◌, ◌<◌, ◌≤◌, cond, List, [], ◌∷◌, ◌++◌, arith, length, map, take, ap, sym, subst, ◌∙◌, length-append, append_assoc, append-nil, Option, None, Some}
 use Rattle.std.specs.Prelude.{is_some}
 use Rattle.std.specs.List.{flat_map, range_with_len, All, AllByRecursion}
@@ -78,7 +78,7 @@ none-yet j all a number now n s r m p t = record {
 }
 
 module _ (j : Job) (all left rest : Pictures) (number number' : ℕ) (old new : Counts) (before mid after : Outputs) where
-  -- what was written, with a group more
+  -- what was written, with one group more
   pub wrote-more : (w : WholeGroups j all left number old before mid) (x : Wrote j number number' left rest old new mid after)
       → PutsAll before after (body_lists j (w.coded ++ x.group ∷ []))
   wrote-more w x = subst (PutsAll before after) (body-more j w.coded x.group)
@@ -113,7 +113,7 @@ module _ (j : Job) (all left rest : Pictures) (number number' : ℕ) (old new : 
     records = records-more w x.wrote;
   }
 
--- ---- how many groups there are
+-- ---- the number of groups
 
 abbrev pub count : {F : Type 0} → ℕ → ℕ → Option F → ℕ
 count size n fault = cond (is_some fault) (n / size) ((n + size - 1) / size)
@@ -164,7 +164,7 @@ module _ (j : Job) (coded : List Group) (left : Pictures) (some : 1 ≤ j.group)
       let n : length the_all.pictures ≡ j.group * length coded + 0 = all-length ∙ ap (λ (l : Pictures). j.group * length coded + length l.pictures) e in
       sym (ap (λ (l : Pictures). count j.group (length the_all.pictures) l.fault) e ∙ ap (λ m. (m + j.group - 1) / j.group) n ∙ count-up-none j.group (length coded) some)
 
-  -- a group more, which needn't be a whole one
+  -- one group more, which may be short
   module _ (g : Group) (is : IsCoded j g) (next : g.pictures ≡ take j.group left.pictures) (there : HasGroup j left) where
     more-group : group_at j.group the_all.pictures (length coded) ≡ g.pictures
     more-group = behind-is ∙ sym next

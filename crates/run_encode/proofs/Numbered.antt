@@ -33,7 +33,7 @@ fulls f size all a (x ∷ y ∷ ys) e le =
     let n' : size * ((a + 1) + length (y ∷ ys)) < length all + size = subst (λ m. size * m < length all + size) same n in
     (omega (arith, ap length first, group-length size a all, n, more, two), fulls f size all (a + 1) (y ∷ ys) others (λ _. n'))
 
--- each has as many, where the list has so many whole groups
+-- the same, for the whole groups of a list
 pub wholes : {X A : Type 0} (f : X → List A) (size : ℕ) (all : List A) (a : ℕ) (gs : List X) → map f gs ≡ map (group_at size all) (range_with_len a (length gs))
     → size * (a + length gs) ≤ length all → AllByRecursion (λ x. length (f x) ≡ size) gs
 wholes f size all a [] e le = tt
@@ -46,7 +46,7 @@ wholes f size all a (x ∷ xs) e le =
     let one : size * (a + 1) ≡ size * a + size = omega arith in
     (omega (arith, ap length first, group-length size a all, le', more, one), wholes f size all (a + 1) xs others le')
 
--- groups one behind the other are the front of the list
+-- groups in order are a prefix of the list
 pub concat-groups : {X A : Type 0} (f : X → List A) (size : ℕ) (all : List A) (a : ℕ) (gs : List X) → map f gs ≡ map (group_at size all) (range_with_len a (length gs))
     → flat_map f gs ≡ take (size * length gs) (drop (size * a) all)
 concat-groups f size all a [] e = let z : size * 0 ≡ 0 = omega arith in ap (λ n. take n (drop (size * a) all)) (sym z)
@@ -59,7 +59,7 @@ concat-groups f size all a (x ∷ xs) e =
     ∙ ap (λ k. take (size * length xs) (drop k all)) (m) ∙ ap (take (size * length xs)) (sym (drop-drop size (size * a) all)))
     ∙ sym (ap (λ k. take k (drop (size * a) all)) n ∙ take-add size (size * length xs) (drop (size * a) all))
 
--- ---- how many groups there are
+-- ---- the number of groups
 
 abbrev pub count : {F : Type 0} → ℕ → ℕ → Option F → ℕ
 count size n fault = cond (is_some fault) (n / size) ((n + size - 1) / size)
@@ -88,7 +88,7 @@ count-all {F} size n fault some e =
     let le : n ≤ size * ((n + size - 1) / size) = omega (arith, h, t) in
     subst (λ (f : Option F). n ≤ size * count size n f) (sym e) le
 
--- there are no more groups than items
+-- there are at most as many groups as items
 pub count-few : (size k n : ℕ) → 1 ≤ size → size * k < n + size → k ≤ n
 count-few size zero n some h = omega arith
 count-few size (suc k) n some h =

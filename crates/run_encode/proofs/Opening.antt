@@ -1,4 +1,4 @@
--- A proof that stays open behind whole groups, and what is printed in it.
+-- A proof stays open after whole groups; what is printed in it.
 use Rattle.std.proofs.Common.{◌≡◌, ℕ, ◌*◌, ◌<◌, ◌≤◌, List, arith, length, ap, sym, subst, ◌∙◌, ⊎_elim}
 use Rattle.std.specs.Prelude.{IsTrue, nat_le}
 use Rattle.std.specs.List.{All, sum_by}
@@ -19,7 +19,7 @@ use Rattle.run_encode.specs.inner.Steps.{IsOpen}
 use Rattle.run_encode.proofs.Grouped.{table-number}
 use Rattle.run_encode.proofs.Layouts.{slices-same}
 
--- behind the record of a whole group a further one may stand
+-- after the record of a whole group a further one may follow
 pub still-open : (j : Job) (cs : List FrameCoefficients) (t : Table) (r : Printed) (w w' : Writing) → IsJob j → All (IsFrameOf j) cs → t ≡ table_of_group j cs → IsOpen j w
     → w' ≡ record { settings = w.settings; format = w.format; progress = further w.settings w.progress (record { table = t; said = fits r }) } → length cs ≡ j.group → IsOpen j w'
 still-open j cs t r w w' job is table old new whole =
@@ -32,7 +32,7 @@ still-open j cs t r w w' job is table old new whole =
       more = subst (λ (s : Settings). IsTrue (nat_le (s.group * cert.frame_slices s) (length t.slices))) (sym old.settings) (le-leb _ _ enough);
     })
 
--- what the search tells of a choice that fits can be printed, where the layers aren't too many
+-- a fitting choice of the search can be printed, if its Pareto frontiers don't have too many pairs
 pub printable : (format : ℕ) (t : Table) (r : Printed) → TellsBest t r → TellsLayers t r → IsGoodFit t r → (PassesByBest t → ⊥) → IsPrintable format t r
 printable format t r best layers good narrow = record {
   choice = good.counts.0;

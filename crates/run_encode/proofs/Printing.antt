@@ -37,7 +37,7 @@ module _ (a b : SinkState) (format format' : ℕ) (same : format ≡ format') (t
   pub proof-front : PutsFront a b (record_bytes format printed) → PutsFront a b (record_bytes format' (record { table = t'; said = fits r }))
   proof-front p = subst (PutsFront a b) bytes-same p
 
--- a front of the record that says that no choice fits
+-- a prefix of the record that says that no choice fits
 pub none-front : (a b : SinkState) (j : Job) (cs : List FrameCoefficients) (format least : ℕ) (t : Table) → t ≡ table_of_group j cs → format ≡ j.format → least ≡ least_bytes t
     → PutsFront a b (record_bytes format (record { table = t; said = none least })) → PutsFront a b (none_of_frames j cs).proof
 none-front a b j cs format least t table same e p =
@@ -57,7 +57,7 @@ module _ (j : Job) (number : ℕ) (cs : List FrameCoefficients) (t : Table) (r :
     layers_are = subst (λ x. TellsLayers x (record_of best.best r.multiplier r.layers)) table (subst (TellsLayers t) printed-is layers);
   }
 
-  -- fronts were written
+  -- prefixes were written
   pub failed-fit : PutsFronts before after (fit_lists j cs r lines)
       → (choice : List Entry) × (m : ℕ) × (ls : List (List Pair)) × IsChosen j cs choice m ls × PutsFronts before after (frames_lists j number cs choice m ls)
   failed-fit p = (best.best, r.multiplier, r.layers, chosen, subst (PutsFronts before after) lists-are p)

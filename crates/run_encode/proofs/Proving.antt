@@ -1,4 +1,4 @@
--- The records of groups can be written in a proof, which is then read again.
+-- The records of groups can be written in a proof, and are read again.
 use Rattle.std.proofs.Common.{◌≡◌, ℕ, ◌+◌, ◌*◌, ◌<◌, ◌≤◌, ◌^◌, ⊎_elim, true, List, [], ◌∷◌, ◌++◌, arith, length, map, take, get_or, ap, sym, ◌∙◌}
 use Rattle.std.specs.Prelude.{IsTrue, nat_le}
 use Rattle.std.specs.List.{All, AllByRecursion}
@@ -46,7 +46,7 @@ choice-size (s ∷ ss) (e ∷ c) ok h =
     omega (arith, b.size, choice-size ss c ok.1 h.1, sum_by-cons (λ (x : Entry). x.size) e c)
 
 module _ (t : Table) (ok : IsTable t) where
-  -- the pairs of a layer
+  -- the pairs of a Pareto frontier
   layer-pairs : (m u k : ℕ) (layer : List Pair) → IsKept t m u k layer → All IsPair layer
   layer-pairs m u k layer kept = All-from_get_or IsPair layer (record { size = 0; error = 0 }) (λ i lt.
       let p = get_or layer i (record { size = 0; error = 0 }) in
@@ -61,7 +61,7 @@ module _ (t : Table) (ok : IsTable t) where
   all-pairs m u layers kept = All-from_get_or (λ layer. All IsPair layer) layers [] (λ i lt.
       layer-pairs m u i (get_or layers i []) (kept.1 i (omega (arith, lt, kept.0))))
 
-  -- where no choice fits
+  -- if no choice fits
   pub none-written : (format : ℕ) → IsWritten format (record { table = t; said = none (least_bytes t) })
   none-written format =
       let c = least_choice t.slices ok.each in
@@ -104,7 +104,7 @@ module _ (t : Table) (ok : IsTable t) where
       widths = wide;
     }
 
--- ---- records one behind the other
+-- ---- records in sequence
 
 below-or-equal : (a b : ℕ) → a ≤ b → nat_le a b ≡ true
 below-or-equal a b h = grind (arith, nat_tests)
@@ -113,7 +113,7 @@ module _ (j : Job) (is : IsJob j) where
   abbrev pub GroupIsWritten : Group → Type 0
   GroupIsWritten g = IsWritten j.format (record_in j g) × AllByRecursion (IsFrameOf j) (map (coefficients_in j) g.pictures)
 
-  -- behind a whole group a further record may stand
+  -- after a whole group a further record may follow
   goes-on : (g : Group) → AllByRecursion (IsFrameOf j) (map (coefficients_in j) g.pictures) → length g.pictures ≡ j.group → IsTrue (goes_on (settings_of j) (record_in j g))
   goes-on g of whole =
       let cs = map (coefficients_in j) g.pictures in

@@ -27,7 +27,7 @@ use Rattle.run_encode.specs.declared.job.Job.{Job}
 use Rattle.run_encode.specs.Groups.{IsFrameOf, IsJob, coefficients_in, header_in, frame_slices, table_of_group}
 use Rattle.run_encode.proofs.Framed.{FrameIsReady}
 
--- a form with alpha has a plane of it, within its bits
+-- a format with alpha has a plane of it, within its bit depth
 alpha-within : (kind : AlphaKind) (a : Option Raster) → is_some a ≡ has_alpha kind → IfSome a (λ p. All (λ s. s < alpha_limit kind) p.samples) → HasAlpha kind a
 alpha-within Absent None e h = tt
 alpha-within Absent (Some p) e h = cc

@@ -1,4 +1,4 @@
--- What a whole run did: the beginning, the groups and the end together.
+-- What a whole run did: the beginning, the groups and the end.
 use Rattle.std.proofs.Common.{◌≡◌, refl, ℕ, ◌+◌, ◌*◌, inl, inr, false, List, [], ◌∷◌, ◌++◌, arith, length, map, ap, sym, subst, ◌∙◌, length-append, append_assoc, append-nil}
 use Rattle.std.specs.List.{flat_map}
 use Rattle.std.proofs.lemmas.List.{length-map}
@@ -21,7 +21,7 @@ use Rattle.run_encode.specs.inner.Steps.{Counts, small_body, end_lists, close_li
 use Rattle.run_encode.proofs.Sinks.{all_then, all_then_none, then_fronts, fronts_more}
 use Rattle.run_encode.proofs.Looping.{same-lists}
 
--- what is written in front of all groups
+-- what is written before all groups
 abbrev pub begun : Job → Lists
 begun j = record { movie = ftyp_bytes; proof = head_bytes j.format (settings_of j); text = [] }
 
@@ -63,7 +63,7 @@ small-are j ps coded n count =
     (append-nil _)
 
 module _ (j : Job) (all : Pictures) (before mid : Outputs) (start : PutsAll before mid (begun j)) where
-  -- the run ended behind some groups
+  -- the run ended after some groups
   pub ran-ended : (now : Counts) (end : EncodeEnd) (after : Outputs) → ((frame least : ℕ) → end ≡ ends.TooSmall frame least → ⊥) → EndedBehind j all now end mid after → RanSo j all end before after
   ran-ended now ends.NoMemory after unlike e = (e.coded, e.first, all_then start e.ended.0, e.ended.1)
   ran-ended now ends.ReadFault after unlike e = (e.coded, e.first, all_then start e.ended.0, e.ended.1)
@@ -129,7 +129,7 @@ module _ (j : Job) (all : Pictures) (before mid : Outputs) (start : PutsAll befo
   ran-finished now (ends.LayersFull frame) late after a f = absurd f
   ran-finished now (ends.TooSmall frame least) late after a f = absurd f
 
--- a sink failed in front of all groups
+-- a sink failed before all groups
 pub ran-unbegun : (j : Job) (all : Pictures) (before after : Outputs) → PutsFronts before after (begun j) → RanSo j all ends.WriteFault before after
 ran-unbegun j all before after p = (
   cut_lists j [],
@@ -137,7 +137,7 @@ ran-unbegun j all before after p = (
   record { movie = front_more [] p.movie; proof = front_more [] p.proof; text = p.text },
 )
 
--- an answer that is neither Done nor TooSmall
+-- an outcome that is neither Done nor TooSmall
 pub unsettled : (end : EncodeEnd) → ((frame least : ℕ) → end ≡ ends.TooSmall frame least → ⊥) → is_done end ≡ false → is_settled end ≡ false
 unsettled ends.Done unlike e = cc
 unsettled ends.NoMemory unlike e = refl

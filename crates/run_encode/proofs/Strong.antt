@@ -14,13 +14,13 @@ use Rattle.run_encode.specs.Encoding.{Ran}
 use Rattle.run_encode.specs.inner.Steps.{RanSo, left_by}
 use Rattle.run_encode.proofs.Headlines.{goes-front}
 
--- the pictures that a reader has left are of its form, and not too many
+-- the remaining pictures of a reader have its format, and are at most MAX_FRAMES
 pub pictures-are : LeftHaveForm → (r : AnyReader) (left : Option (List ℕ)) → IsReader r → ArePictures (head_of r) (left_by r left)
 pictures-are law r left is =
     let h = law r (rest_of (place_of r) left) is in
     record { each = h.0; few = omega (arith, h.1) }
 
--- after a fault of writing the sinks have fronts of what encoding gives
+-- after a write fault the sinks have prefixes of the result of encoding
 pub strong : EncodingGoesOn → (j : Job) (ps : Pictures) (end : EncodeEnd) (a b : Outputs) → IsJob j → ArePictures j.head ps → RanSo j ps end a b → Ran j ps end a b
 strong goes j ps ends.WriteFault a b is are (lists, inl (coded, first, e), p) = goes-front goes j ps coded is are first a b (subst (PutsFronts a b) e p)
 strong goes j ps ends.WriteFault a b is are (lists, inr (end, encodes), p) = (end, lists, encodes, p)

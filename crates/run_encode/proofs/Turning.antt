@@ -1,4 +1,4 @@
--- One turn: the pictures of a group, and what was done with their coefficients.
+-- One iteration: the pictures of a group, and what was done with their coefficients.
 use Rattle.std.proofs.Common.{◌≡◌, refl, ℕ, zero, suc, ◌+◌, ◌<◌, ◌≤◌, inl, inr, ⊎_elim, Bool, true, false, List, [], ◌∷◌, ◌++◌, arith, length, map, take, drop, ap, sym, subst, ◌∙◌, length-append, append-nil, take_at, Option}
 use Rattle.std.specs.Prelude.{IsSome, ◌==◌}
 use Rattle.std.specs.Bool.{OnTrue}
@@ -24,7 +24,7 @@ use Rattle.run_encode.specs.Encoding.{Group, part_lines}
 use Rattle.run_encode.specs.inner.Steps.{Counts, left_by, in_front, group_lists, Wrote, HasGroup, EndsIn, none_lists}
 use Rattle.run_encode.specs.inner.Over.{ReadsGroup, StopsGroup, WroteFrames, StopsFrames, frames_lists}
 
--- the parts of a choice are the same whatever they are of
+-- the parts of a choice don't depend on the items they are zipped with
 parts-same : {A X Y : Type 0} (f : X → Y) (n : ℕ) (xs : List X) (choice : List A) → map (λ p. p.1) (shares n (map f xs) choice) ≡ map (λ p. p.1) (shares n xs choice)
 parts-same f n [] choice = refl
 parts-same f n (x ∷ xs) choice = ap (λ l. take n choice ∷ l) (parts-same f n xs (drop n choice))

@@ -1,4 +1,4 @@
--- What encoding gives has the headline.
+-- The result of encoding has the headline.
 use Rattle.std.proofs.Common.{◌≡◌, refl, ℕ, suc, ◌+◌, ◌*◌, ◌<◌, ◌≤◌, min, None, List, [], ◌∷◌, ◌++◌, arith, length, map, take, drop, ap, sym, subst, ◌∙◌, length-append, append_assoc, append-nil, take_at, length-take}
 use Rattle.std.specs.List.{flat_map, range_with_len, All, AllByRecursion, sum_by}
 use Rattle.std.proofs.lemmas.List.{length-map, take_all, drop_at}
@@ -48,7 +48,7 @@ frames-number j g =
 abbrev pub GroupIs : Job → Group → Type 0
 GroupIs j g = GroupHolds j g.pictures (frames_of j g) (printed_of g)
 
--- group k of what front and these items have together is the items, where the front has k whole groups
+-- if `front` has k whole groups, group k of `front` and these items is the items
 group-here : {A : Type 0} (size k : ℕ) (front here rest : List A) → length front ≡ size * k → take size (here ++ rest) ≡ here → group_at size (front ++ (here ++ rest)) k ≡ here
 group-here size k front here rest e t = ap (take size) (drop_at front (here ++ rest) (size * k) e) ∙ t
 
@@ -87,7 +87,7 @@ module _ (j : Job) (ps : List Picture) where
       ap (λ x. record_of_printed j x (printed_of g) ∷ map (record_in j) gs) first
       ∙ ap (λ rs. record_of_printed j (group_at j.group ps k) (printed_of g) ∷ rs) (records-are (k + 1) gs others)
 
--- how many frames groups have
+-- the number of frames in groups
 pub all-number : (j : Job) (gs : List Group) → length (all_frames j gs) ≡ length (flat_map (λ g. g.pictures) gs)
 all-number j [] = refl
 all-number j (g ∷ gs) =
@@ -185,7 +185,7 @@ module _ (j : Job) (is : IsJob j) (all : Pictures) (are : ArePictures j.head all
     pub bound : j.group * length coded < length all.pictures + j.group
     bound = count-bound j.group (length coded) (length all.pictures) all.fault is.some_group first.few
 
-    -- the pictures of these groups are the front of all
+    -- the pictures of these groups are a prefix of all
     pub front-is : flat_map (λ g. g.pictures) coded ≡ take (j.group * length coded) all.pictures
     front-is = let z : j.group * 0 ≡ 0 = omega arith in
         concat-groups (λ g. g.pictures) j.group all.pictures 0 coded first.pictures ∙ ap (λ n. take (j.group * length coded) (drop n all.pictures)) z
@@ -198,7 +198,7 @@ module _ (j : Job) (is : IsJob j) (all : Pictures) (are : ArePictures j.head all
         let z : j.group * (0 + length coded) ≡ j.group * length coded = ap (λ n. j.group * n) (let e : 0 + length coded ≡ length coded = omega arith in e) in
         omega (arith, bound, z))
 
-    -- where the pictures have so many whole groups
+    -- if the pictures have that many whole groups
     whole-count : j.group * length coded ≤ length all.pictures → length frames ≡ j.group * length (map printed_of coded)
     whole-count h =
         let n : length frames ≡ j.group * length coded = omega (arith, frames-count, h) in
@@ -207,7 +207,7 @@ module _ (j : Job) (is : IsJob j) (all : Pictures) (are : ArePictures j.head all
     pub records : map (record_in j) coded ≡ records_in j all.pictures (map printed_of coded)
     records = records-are j all.pictures 0 coded first.pictures
 
-    -- what stands in front of the end of a proof
+    -- what precedes the end of a proof
     proof-front : (cut_lists j coded).proof ≡ head_bytes j.format (settings_of j) ++ flat_map (record_bytes j.format) (records_in j all.pictures (map printed_of coded))
     proof-front = ap (λ l. head_bytes j.format (settings_of j) ++ l)
         (sym (flat_map-map (record_bytes j.format) (record_in j) coded) ∙ ap (flat_map (record_bytes j.format)) records)
@@ -290,7 +290,7 @@ module _ (j : Job) (is : IsJob j) (all : Pictures) (are : ArePictures j.head all
             subst (λ rs. Proves j (proof_bytes j.format (settings_of j) (map (record_in j) coded ++ last ∷ [])) (rs ++ last ∷ [])) records
             (f.proof_read j.format (settings_of j) (map (record_in j) coded ++ last ∷ []) is.format (settings-are j is) w)
 
-        -- all that is said where no choice fits
+        -- all that is said if no choice fits
         small-files : All (IsNarrow j) coded → HasNoFit (table_in j (group_behind j all coded)) → (frame : ℕ) → frame ≡ j.group * length coded
             → FilesEnd j all (ends.TooSmall frame (least_bytes (table_in j (group_behind j all coded)))) (cut_lists j coded).movie
             (proof_bytes j.format (settings_of j) (map (record_in j) coded ++ none_record j (group_behind j all coded) ∷ [])) frames (map printed_of coded)

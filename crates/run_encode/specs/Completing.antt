@@ -1,4 +1,4 @@
--- When a run of `encode` is done. Our own definitions.
+-- When a run of `encode` is complete. Our own definitions.
 use Rattle.std.specs.Prelude.{◌≡◌, ℕ, ◌<◌, ◌⊎◌, true, None, Result, Ok, Err}
 use Rattle.pw_outside.specs.Reading.{Fault}
 use Rattle.pic_y4m.specs.declared.head.Head.{Head}
@@ -13,12 +13,14 @@ use Rattle.run_encode.specs.declared.end.EncodeEnd.TheVariants as ends
 use Rattle.rate_build.specs.Groups.{group_at}
 use Rattle.run_encode.specs.Groups.{IsJobOf, has_layout, group_count, table_in}
 
--- Each group has a fitting choice, and its layers, kept by the error of the multiplier's picks, have no more than 2^25 pairs.
+-- Each group has a fitting choice, and its Pareto frontiers, bounded by the error of the Lagrangian minimisers,
+-- have at most 2^25 pairs.
 abbrev pub EachFits : Job → Pictures → Type 0
 EachFits j ps = (k : ℕ) → k < group_count j.group ps
     → (HasNoFit (table_in j (group_at j.group ps.pictures k)) → ⊥) × (PassesByPicks (table_in j (group_at j.group ps.pictures k)) → ⊥)
 
--- Pictures without a fault, that have a layout, and whose groups each have a fitting choice, are encoded, unless memory runs out.
+-- Pictures without an error, with a layout, and with a fitting choice for each group are encoded, unless memory
+-- runs out.
 abbrev pub CompletesEncode : EncodeWords → Result (Head × Pictures) (Fault PictureKind) → EncodeEnd → Type 0
 CompletesEncode w (Err f) end = Unit {0}
 CompletesEncode w (Ok (head, ps)) end = has_layout w head ≡ true → ps.fault ≡ None → ((j : Job) → IsJobOf w head j → EachFits j ps)

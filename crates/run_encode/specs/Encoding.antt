@@ -1,4 +1,4 @@
--- What encoding makes of pictures: a status and three lists of bytes. Our own definitions.
+-- The result of encoding pictures: an outcome and three lists of bytes. Our own definitions.
 use Rattle.std.specs.Prelude.{◌≡◌, ℕ, ◌+◌, ◌*◌, ◌<◌, ◌≤◌, ◌⊎◌, Bool, true, false, List, [], ◌∷◌, ◌++◌, length, map, None, Some, Result, Ok, Err, codes}
 use Rattle.std.specs.Bool.{OnTrue, OnFalse}
 use Rattle.std.specs.Fmt.{decimal}
@@ -32,7 +32,7 @@ use Rattle.run_encode.specs.Outputs.{Outputs, Lists, nothing, PutsAll, PutsFront
 
 -- ---- one group
 
--- a group of pictures, the choice of its table, the multiplier and the layers
+-- a group of pictures, the choice of its table, the multiplier and the Pareto frontiers
 pub record Group : Type 0 where
   pub pictures : List Picture
   pub choice : List Entry
@@ -42,48 +42,48 @@ pub record Group : Type 0 where
 abbrev pub printed_of : Group → Printed
 printed_of g = record_of g.choice g.multiplier g.layers
 
--- The choice is the best one of the group's table; the multiplier is the least whose picks fit, and the layers are those that it and
--- the best choice's error keep.
+-- The choice is the best one of the group's table. The multiplier is the least whose minimisers fit, and the Pareto
+-- frontiers are those bounded by it and the best choice's error.
 pub record IsCoded (j : Job) (g : Group) : Type 0 where
   pub best : IsBest (table_in j g.pictures) g.choice
   pub layers : TellsLayers (table_in j g.pictures) (printed_of g)
 
--- The layers that the best choice's own error keeps have no more than 2^25 pairs.
+-- The Pareto frontiers bounded by the best choice's own error have at most 2^25 pairs.
 abbrev pub IsNarrow : Job → Group → Type 0
 IsNarrow j g = PassesByBest (table_in j g.pictures) → ⊥
 
--- the frames of a group as they are written
+-- the bytes of a group's frames
 abbrev pub frames_of : Job → Group → List (List ℕ)
 frames_of j g = map coded_bytes (coded_group j (map (coefficients_in j) g.pictures) (indices g.choice))
 
 abbrev pub record_in : Job → Group → Record
 record_in j g = record { table = table_in j g.pictures; said = fits (printed_of g) }
 
--- the record of a group of pictures for which no choice fits
+-- the record of a group for which no choice fits
 abbrev pub none_record : Job → List Picture → Record
 none_record j ps = record { table = table_in j ps; said = none (least_bytes (table_in j ps)) }
 
 -- ---- the text
 
--- the line of a frame: its number, its bytes and its error
+-- the line of a frame: its number, its size in bytes and its error
 unfoldable pub frame_line : (number size error : ℕ) → List ℕ
 frame_line number size error = codes "frame " ++ decimal number ++ codes " size " ++ decimal size ++ codes " error " ++ decimal error ++ codes "\n"
 
--- a line for each part of a choice; a frame has the fixed bytes of one frame and the sizes of its part
+-- a line for each part of a choice; a frame's size is the fixed bytes of one frame and the sizes of its part
 abbrev pub part_lines : Job → (number : ℕ) → List (List Entry) → List ℕ
 part_lines j number [] = []
 part_lines j number (part ∷ parts) = frame_line number (fixed_bytes j.layout + size_of part) (error_of part) ++ part_lines j (number + 1) parts
 
--- the lines of a group whose first frame has this number
+-- the lines of a group whose first frame is frame `number`
 abbrev pub group_lines : Job → (number : ℕ) → Group → List ℕ
 group_lines j number g = part_lines j number (map (λ p. p.1) (shares (frame_slices j) g.pictures g.choice))
 
--- the lines of groups, whose frames are numbered from this number on
+-- the lines of groups whose first frame is frame `number`
 abbrev pub lines_of : Job → (number : ℕ) → List Group → List ℕ
 lines_of j number [] = []
 lines_of j number (g ∷ gs) = group_lines j number g ++ lines_of j (number + length g.pictures) gs
 
--- the last line: how many frames there are
+-- the last line: the number of frames
 unfoldable pub frames_line : ℕ → List ℕ
 frames_line number = codes "frames " ++ decimal number ++ codes "\n"
 
@@ -93,7 +93,7 @@ frames_line number = codes "frames " ++ decimal number ++ codes "\n"
 abbrev pub all_frames : Job → List Group → List (List ℕ)
 all_frames j coded = flat_map (frames_of j) coded
 
--- the records of groups, in the format of the run
+-- the records of groups, in the run's proof format
 abbrev pub records_bytes : Job → List Group → List ℕ
 records_bytes j coded = flat_map (λ g. record_bytes j.format (record_in j g)) coded
 
@@ -105,7 +105,7 @@ body_lists j coded = record {
   text = lines_of j 0 coded;
 }
 
--- what was written behind the last of these groups
+-- what has been written once the last of `coded` is
 abbrev pub cut_lists : Job → List Group → Lists
 cut_lists j coded = record {
   movie = ftyp_bytes ++ flat_map frame_bytes (all_frames j coded);
@@ -113,7 +113,7 @@ cut_lists j coded = record {
   text = lines_of j 0 coded;
 }
 
--- all that is written, where these are all groups
+-- all that is written, if `coded` are all groups
 abbrev pub whole_lists : Job → List Group → Lists
 whole_lists j coded = record {
   movie = movie_bytes j.head (all_frames j coded);
@@ -121,7 +121,7 @@ whole_lists j coded = record {
   text = lines_of j 0 coded ++ frames_line (length (all_frames j coded));
 }
 
--- all that is written, where no choice fits for the group of pictures behind these groups
+-- all that is written, if no choice fits for the group after `coded`
 abbrev pub small_lists : Job → List Group → List Picture → Lists
 small_lists j coded ps = record (cut_lists j coded) {
   proof = proof_bytes j.format (settings_of j) (map (record_in j) coded ++ none_record j ps ∷ []);
@@ -129,18 +129,18 @@ small_lists j coded ps = record (cut_lists j coded) {
 
 -- ---- the whole
 
--- these are the first groups of the pictures, each coded by its best choice
+-- `coded` are the first groups of the pictures, each coded by its best choice
 pub record AreFirst (j : Job) (ps : Pictures) (coded : List Group) : Type 0 where
   pub few : length coded ≤ group_count j.group ps
   pub pictures : map (λ g. g.pictures) coded ≡ map (group_at j.group ps.pictures) (range_with_len 0 (length coded))
   pub each : All (IsCoded j) coded
 
--- the group of pictures behind these groups
+-- the group of pictures after `coded`
 abbrev pub group_behind : Job → Pictures → List Group → List Picture
 group_behind j ps coded = group_at j.group ps.pictures (length coded)
 
--- How it ends behind these groups. Behind the last group by the end of the pictures, or by the fault that ends them; and in front of
--- a group for which no choice fits.
+-- How encoding ends after `coded`: after the last group at the end of the pictures or at their first error; and
+-- before a group for which no choice fits.
 abbrev pub Ends : Job → Pictures → List Group → EncodeEnd → Lists → Type 0
 Ends j ps coded ends.Done lists = (length coded ≡ group_count j.group ps) × (ps.fault ≡ None) × (lists ≡ whole_lists j coded)
 Ends j ps coded (ends.BadPictures kind place) lists =
@@ -153,7 +153,7 @@ Ends j ps coded ends.ReadFault lists = ⊥
 Ends j ps coded ends.WriteFault lists = ⊥
 Ends j ps coded (ends.LayersFull frame) lists = ⊥
 
--- Encoding these pictures gives this status and these lists.
+-- Encoding these pictures has this outcome and writes these lists.
 pub record Encodes (j : Job) (ps : Pictures) (end : EncodeEnd) (lists : Lists) : Type 0 where
   pub coded : List Group
   pub first : AreFirst j ps coded
@@ -161,11 +161,11 @@ pub record Encodes (j : Job) (ps : Pictures) (end : EncodeEnd) (lists : Lists) :
 
 -- ---- what a run did
 
--- all of some of the first groups was written, and no other byte
+-- some of the first groups were written whole, and no other byte
 abbrev pub Stopped : Job → Pictures → Outputs → Outputs → Type 0
 Stopped j ps before after = (coded : List Group) × AreFirst j ps coded × PutsAll before after (cut_lists j coded) × All (IsNarrow j) coded
 
--- The layers of the group that begins at this frame are too many; all groups before it were written.
+-- The Pareto frontiers of the group that begins at `frame` have too many pairs; all groups before it were written.
 pub record FullAt (j : Job) (ps : Pictures) (frame : ℕ) (before after : Outputs) : Type 0 where
   pub coded : List Group
   pub first : AreFirst j ps coded
@@ -175,12 +175,12 @@ pub record FullAt (j : Job) (ps : Pictures) (frame : ℕ) (before after : Output
   pub puts : PutsAll before after (cut_lists j coded)
   pub narrow : All (IsNarrow j) coded
 
--- what encoding gives was written, all of it
+-- the whole result of encoding was written
 abbrev pub Whole : Job → Pictures → EncodeEnd → Outputs → Outputs → Type 0
 Whole j ps end before after = (lists : Lists) × (e : Encodes j ps end lists) × PutsAll before after lists × All (IsNarrow j) e.coded
 
--- The run's answer, and what the sinks took. A fault of writing leaves fronts of what encoding gives; want of memory and a fault of
--- reading leave whole groups.
+-- The run's outcome, and what the sinks took. A write fault leaves prefixes of the result of encoding; out of
+-- memory and a read fault leave whole groups.
 abbrev pub Ran : Job → Pictures → EncodeEnd → Outputs → Outputs → Type 0
 Ran j ps ends.NoMemory before after = Stopped j ps before after
 Ran j ps ends.ReadFault before after = Stopped j ps before after
@@ -190,11 +190,11 @@ Ran j ps ends.Done before after = Whole j ps ends.Done before after
 Ran j ps (ends.BadPictures kind place) before after = Whole j ps (ends.BadPictures kind place) before after
 Ran j ps (ends.TooSmall frame least) before after = Whole j ps (ends.TooSmall frame least) before after
 
--- The head couldn't be read, since the port failed or memory ran out.
+-- The head couldn't be read: the port failed or memory ran out.
 abbrev pub StopsFirst : EncodeEnd → Outputs → Outputs → Type 0
 StopsFirst end before after = ((end ≡ ends.ReadFault) ⊎ (end ≡ ends.NoMemory)) × PutsAll before after nothing
 
--- What a run does with an input whose head was read: the head and the pictures for which it stands, or the fault of its head.
+-- What a run does with an input: `Ok` has the head and the pictures of its bytes, `Err` the error of its head.
 abbrev pub RanOn : EncodeWords → Result (Head × Pictures) (Fault PictureKind) → EncodeEnd → Outputs → Outputs → Type 0
 RanOn w (Err f) end before after = (end ≡ ends.BadPictures f.kind f.place) × PutsAll before after nothing
 RanOn w (Ok (head, ps)) end before after =
@@ -213,13 +213,13 @@ abbrev pub is_write_fault : EncodeEnd → Bool
 is_write_fault ends.WriteFault = true
 is_write_fault _ = false
 
--- the answers behind which all is settled
+-- the outcomes after which all is flushed
 abbrev pub is_settled : EncodeEnd → Bool
 is_settled ends.Done = true
 is_settled (ends.TooSmall _ _) = true
 is_settled _ = false
 
--- the answer to a fault of the pictures
+-- the outcome for an error of the pictures
 abbrev pub end_of_fault : PictureFault → EncodeEnd
 end_of_fault (faults.Bad kind place) = ends.BadPictures kind place
 end_of_fault faults.Failed = ends.ReadFault

@@ -1,4 +1,4 @@
--- What is fixed for a run, and its groups of pictures under one budget. Our own definitions.
+-- The parameters of a run, and its groups of pictures under one budget. Our own definitions.
 use Rattle.std.specs.Prelude.{◌≡◌, ℕ, ◌+◌, ◌-◌, ◌*◌, ◌/◌, ◌<◌, ◌≤◌, ◌^◌, Bool, ◌&&◌, nat_le, List, length, map, is_some, is_none, None, IfSome, if◌then◌else◌}
 use Rattle.std.specs.List.{All}
 use Rattle.pw_planes.specs.declared.picture.Picture.{Picture}
@@ -15,6 +15,7 @@ use Rattle.pic_y4m.specs.HeadLine.{IsHead}
 use Rattle.pic_y4m.specs.Frames.{Pictures}
 use Rattle.pic_raw.specs.Raw.{IsPicture}
 use Rattle.rate_table.specs.declared.entry.Entry.{Entry}
+use Rattle.rate_table.specs.declared.table.TheConstants.{MAX_TABLE_SLICES}
 use Rattle.rate_table.specs.Table.{Table}
 use Rattle.rate_build.specs.Coefficients.{FrameCoefficients, AreOfLayout, frame_coefficients}
 use Rattle.rate_build.specs.Coding.{IsHeaderOf}
@@ -26,7 +27,7 @@ use Rattle.rate_cert.specs.Files.{IsFormat}
 use Rattle.run_encode.specs.declared.job.Job.{Job}
 use Rattle.run_encode.specs.declared.job.EncodeWords.{EncodeWords}
 
--- ---- what is fixed for all frames of a run
+-- ---- the parameters that all frames of a run share
 
 -- the values that the command line allows
 pub record AreWords (w : EncodeWords) : Type 0 where
@@ -45,11 +46,11 @@ pub record AreWords (w : EncodeWords) : Type 0 where
 abbrev pub header_in : Job → FrameHeader
 header_in j = own_header_of j.head.width j.head.height j.head.chroma j.head.interlace j.head.alpha j.weights
 
--- how many slices a frame has, in all its pictures
+-- the number of slices in a frame, in all its pictures
 abbrev pub frame_slices : Job → ℕ
 frame_slices j = pictures_of j.layout.interlace * length (slices_of j.layout)
 
--- what the proof says of all its records
+-- the settings that the proof states for all its records
 abbrev pub settings_of : Job → Settings
 settings_of j = record {
   form = if j.raw then 1 else 0;
@@ -70,7 +71,7 @@ settings_of j = record {
   budget = j.budget;
 }
 
--- what holds of every run
+-- the invariant of a run's parameters
 pub record IsJob (j : Job) : Type 0 where
   pub head : IsHead j.head
   pub layout : IsLayoutOf j.layout j.head.width j.head.height j.layout.log2 j.head.interlace j.head.chroma
@@ -85,10 +86,10 @@ pub record IsJob (j : Job) : Type 0 where
   pub some_group : 1 ≤ j.group
   pub small_group : j.group ≤ 8
   pub budget : j.group * j.budget < 2 ^ 31
-  pub slices : j.group * frame_slices j ≤ 131070
+  pub slices : j.group * frame_slices j ≤ MAX_TABLE_SLICES
   pub format : IsFormat j.format
 
--- these are the words and the head
+-- the parameters of these options and this head
 pub record IsJobOf (w : EncodeWords) (h : Head) (j : Job) : Type 0 where
   pub head : j.head ≡ h
   pub layout : IsLayoutOf j.layout h.width h.height w.log2 h.interlace h.chroma
@@ -101,19 +102,19 @@ pub record IsJobOf (w : EncodeWords) (h : Head) (j : Job) : Type 0 where
   pub raw : j.raw ≡ is_some w.raw
   pub format : j.format ≡ w.proof
 
--- Pictures of this form have a layout, and the frames of a group have at most 131,070 slices together.
+-- Pictures of this format have a layout, and the frames of a group have at most MAX_TABLE_SLICES slices together.
 abbrev pub has_layout : EncodeWords → Head → Bool
 has_layout w head = is_none (first_fault head.width head.height w.log2 head.interlace)
-    && nat_le (w.group * (pictures_of head.interlace * slice_count head.width head.height w.log2 head.interlace)) 131070
+    && nat_le (w.group * (pictures_of head.interlace * slice_count head.width head.height w.log2 head.interlace)) MAX_TABLE_SLICES
 
 -- ---- groups
 
--- pictures of this form, and not too many
+-- pictures of this format, at most MAX_FRAMES
 pub record ArePictures (h : Head) (ps : Pictures) : Type 0 where
   pub each : All (IsPicture h) ps.pictures
   pub few : length ps.pictures ≤ MAX_FRAMES
 
--- how many groups the pictures make; where a fault ends them, a group that it cuts isn't one
+-- the number of groups; if an error ends the pictures, a group that it cuts isn't counted
 abbrev pub group_count : ℕ → Pictures → ℕ
 group_count size ps = if is_some ps.fault then length ps.pictures / size else (length ps.pictures + size - 1) / size
 
@@ -122,11 +123,12 @@ group_count size ps = if is_some ps.fault then length ps.pictures / size else (l
 abbrev pub coefficients_in : Job → Picture → FrameCoefficients
 coefficients_in j p = record { layout = j.layout; alpha = j.head.alpha; slices = frame_coefficients p j.layout }
 
--- what each slice of a frame costs at each index from `lo` to `hi`
+-- the size and error of each slice of a frame at each index from `lo` to `hi`
 abbrev pub slice_tables : Job → FrameCoefficients → List (List Entry)
 slice_tables j c = map (entries_of c.layout.interlace c.alpha j.weights j.lo j.hi) c.slices
 
--- The table of the frames of a group: of each frame the budget, the fixed bytes, and what each slice costs at each permitted index.
+-- The table of a group's frames: the budget and the fixed bytes of all frames together, and the size and error of
+-- each slice at each permitted index.
 unfoldable pub table_of_group : Job → List FrameCoefficients → Table
 table_of_group j cs = table_of_frames j.weights j.lo j.hi j.budget cs
 

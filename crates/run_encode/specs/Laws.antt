@@ -10,23 +10,23 @@ use Rattle.run_encode.specs.Outputs.{Lists, joined}
 use Rattle.run_encode.specs.Encoding.{Group, IsNarrow, AreFirst, Encodes, cut_lists}
 use Rattle.run_encode.specs.Headline.{Headline}
 
--- What encoding gives has the headline, where the layers of no group are too many.
+-- The result of encoding has the headline, if no group's Pareto frontiers have too many pairs.
 abbrev pub EncodedHasHeadline : Type 0
 EncodedHasHeadline = (j : Job) (ps : Pictures) (end : EncodeEnd) (lists : Lists) → IsJob j → ArePictures j.head ps
     → (e : Encodes j ps end lists) → All (IsNarrow j) e.coded → Headline j ps end lists.movie lists.proof
 
--- So has what was written of the first groups, in front of a group whose layers are too many.
+-- What was written of the first groups has the headline, if the next group's Pareto frontiers have too many pairs.
 abbrev pub CutHasHeadline : Type 0
 CutHasHeadline = (j : Job) (ps : Pictures) (frame : ℕ) (coded : List Group) → IsJob j → ArePictures j.head ps → AreFirst j ps coded
     → length coded < group_count j.group ps → Headline j ps (ends.LayersFull frame) (cut_lists j coded).movie (cut_lists j coded).proof
 
--- What was written of the first groups begins what encoding gives: encoding these pictures gives an answer and lists, and these
--- lists begin so.
+-- What was written of the first groups is a prefix of the result of encoding: these pictures have an outcome and
+-- lists, and these lists begin so.
 abbrev pub EncodingGoesOn : Type 0
 EncodingGoesOn = (j : Job) (ps : Pictures) (coded : List Group) → IsJob j → ArePictures j.head ps → AreFirst j ps coded
     → (end : EncodeEnd) × (lists : Lists) × Encodes j ps end lists × ((more : Lists) × (joined (cut_lists j coded) more ≡ lists))
 
--- Encoding gives one answer alone, and one list for each sink.
+-- The result of encoding is unique: one outcome, and one list for each sink.
 abbrev pub EncodingIsOne : Type 0
 EncodingIsOne = (j : Job) (ps : Pictures) (end end' : EncodeEnd) (lists lists' : Lists) → IsJob j → ArePictures j.head ps
     → Encodes j ps end lists → Encodes j ps end' lists' → (end ≡ end') × (lists ≡ lists')

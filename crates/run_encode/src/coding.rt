@@ -1,10 +1,11 @@
-//! The frames of a group: coded by the best choice, and written.
+//! Coding the frames of a group by the best choice, and writing them.
 
 ghost use Rattle.std.specs.Prelude.{◌≡◌, ◌+◌, ◌≤◌, ◌<◌, ◌++◌, length, map, false, IsTrue, OnOk, OnErr, is_err};
 ghost use Rattle.std.specs.List.{All};
 ghost use Rattle.pw_outside.specs.Ports.{CountsFault};
 ghost use Rattle.pw_outside.specs.Writing.{Puts, PutsFront};
 ghost use Rattle.pr_frame.specs.Written.{coded_bytes};
+ghost use Rattle.qt_tables.specs.declared.tables.TheConstants.{MAX_SAMPLES};
 ghost use Rattle.rate_table.specs.Records.{IsGoodFit};
 ghost use Rattle.rate_table.specs.Table.{least_bytes};
 ghost use Rattle.rate_cert.specs.Files.{record_bytes, IsPrintable, most_records};
@@ -48,13 +49,16 @@ fn write_group<K: ByteSink>(
     requires table { table ≡ table_of_group job.now frames.now }
     requires choice { HasFitting table fit.choice }
     requires printable { IsPrintable job.now.format table fit }
-    requires few { length movie.old.sizes + length frames.now ≤ 1000000 }
+    requires few { length movie.old.sizes + length frames.now ≤ MAX_SAMPLES }
     requires spare { length frames.now ≤ movie.old.spare }
     requires open { IsOpen job.now proof.old }
     requires room { proof.old.progress.count < most_records }
-    ensures ok { OnOk result (PutsAll (outputs K.held K.taken out.old cert.old text.old) (outputs K.held K.taken out.new cert.new text.new) (fit_lists job.now frames.now fit lines.now)) }
-    ensures err { OnErr result (PutsFronts (outputs K.held K.taken out.old cert.old text.old) (outputs K.held K.taken out.new cert.new text.new) (fit_lists job.now frames.now fit lines.now)) }
-    ensures sizes { OnOk result (movie.new.sizes ≡ movie.old.sizes ++ map length (map coded_bytes (coded_group job.now frames.now fit.choice))) }
+    ensures ok { OnOk result (PutsAll (outputs K.held K.taken out.old cert.old text.old)
+        (outputs K.held K.taken out.new cert.new text.new) (fit_lists job.now frames.now fit lines.now)) }
+    ensures err { OnErr result (PutsFronts (outputs K.held K.taken out.old cert.old text.old)
+        (outputs K.held K.taken out.new cert.new text.new) (fit_lists job.now frames.now fit lines.now)) }
+    ensures sizes { OnOk result (movie.new.sizes ≡ movie.old.sizes ++ map length
+        (map coded_bytes (coded_group job.now frames.now fit.choice))) }
     ensures records { OnOk result (proof.new.progress.count ≡ proof.old.progress.count + 1) }
     ensures open { OnOk result (length frames.now ≡ job.now.group → IsOpen job.now proof.new) }
     ensures head { movie.new.head ≡ movie.old.head }
@@ -66,7 +70,7 @@ fn write_group<K: ByteSink>(
     put_all(text, lines)
 }
 
-/// Takes the memory that is still wanting, and writes the frames of a choice that fits, its record and its lines.
+/// Allocates the rest of the memory, then writes the frames of a fitting choice, its record and its lines.
 fn write_fit<K: ByteSink>(
     alloc: Global,
     job: &Job,
@@ -89,15 +93,17 @@ fn write_fit<K: ByteSink>(
     requires narrow { PassesByBest table → ⊥ }
     requires group { length frames.now ≤ job.now.group }
     requires number { number ≡ length movie.old.sizes }
-    requires few { length movie.old.sizes + length frames.now ≤ 1000000 }
+    requires few { length movie.old.sizes + length frames.now ≤ MAX_SAMPLES }
     requires open { IsOpen job.now proof.old }
     requires room { proof.old.progress.count < most_records }
-    ensures ends { FramesEnd job.now number frames.now (counts_of movie.old proof.old) (counts_of movie.new proof.new) result
+    ensures ends { FramesEnd job.now number frames.now (counts_of movie.old proof.old)
+        (counts_of movie.new proof.new) result
         (outputs K.held K.taken out.old cert.old text.old) (outputs K.held K.taken out.new cert.new text.new) }
     ensures open { OnOk result (length frames.now ≡ job.now.group → IsOpen job.now proof.new) }
     ensures head { movie.new.head ≡ movie.old.head }
     ensures kinds { is_done_end result ≡ false }
-    ensures write { CountsAllFaults K.faults out.old cert.old text.old out.new cert.new text.new (is_write_end result) }
+    ensures write { CountsAllFaults K.faults out.old cert.old text.old out.new cert.new text.new
+        (is_write_end result) }
 {
     let lines = match lines_for(alloc, job, number, frames, &table, &fit.choice) {
         Ok(lines) => lines,
@@ -115,7 +121,7 @@ fn write_fit<K: ByteSink>(
     }
 }
 
-/// Writes the record that says that no choice fits.
+/// Writes a record that says that no choice fits.
 fn write_none<K: ByteSink>(
     table: FrameTable,
     least: u64,
@@ -124,8 +130,10 @@ fn write_none<K: ByteSink>(
 ) -> Result<(), Failed>
     requires more { IsTrue proof.old.progress.more }
     requires room { proof.old.progress.count < most_records }
-    ensures ok { OnOk result (Puts (state_of K.held K.taken cert.old) (state_of K.held K.taken cert.new) (record_bytes proof.old.format (record { table = table; said = none least }))) }
-    ensures err { OnErr result (PutsFront (state_of K.held K.taken cert.old) (state_of K.held K.taken cert.new) (record_bytes proof.old.format (record { table = table; said = none least }))) }
+    ensures ok { OnOk result (Puts (state_of K.held K.taken cert.old) (state_of K.held K.taken cert.new)
+        (record_bytes proof.old.format (record { table = table; said = none least }))) }
+    ensures err { OnErr result (PutsFront (state_of K.held K.taken cert.old) (state_of K.held K.taken cert.new)
+        (record_bytes proof.old.format (record { table = table; said = none least }))) }
     ensures records { OnOk result (proof.new.progress.count ≡ proof.old.progress.count + 1) }
     ensures cause { CountsFault (K.faults cert.old) (K.faults cert.new) (is_err result) }
 {
@@ -136,8 +144,8 @@ fn write_none<K: ByteSink>(
     proof.put(cert, &record)
 }
 
-/// Chooses the indices of these frames, and writes the frames, the record and the lines; or the record that says that no choice
-/// fits. All memory is taken before the first byte is written.
+/// Chooses the indices of `frames`, and writes the frames, the record and the lines; or, if no choice fits, a
+/// record that says so. All memory is allocated before the first byte is written.
 pub(crate) fn encode_frames<K: ByteSink>(
     alloc: Global,
     job: &Job,
@@ -154,15 +162,17 @@ pub(crate) fn encode_frames<K: ByteSink>(
     requires some { 1 ≤ length frames.now }
     requires group { length frames.now ≤ job.now.group }
     requires number { number ≡ length movie.old.sizes }
-    requires few { length movie.old.sizes + length frames.now ≤ 1000000 }
+    requires few { length movie.old.sizes + length frames.now ≤ MAX_SAMPLES }
     requires open { IsOpen job.now proof.old }
     requires room { proof.old.progress.count < most_records }
-    ensures ends { FramesEnd job.now number frames.now (counts_of movie.old proof.old) (counts_of movie.new proof.new) result
+    ensures ends { FramesEnd job.now number frames.now (counts_of movie.old proof.old)
+        (counts_of movie.new proof.new) result
         (outputs K.held K.taken out.old cert.old text.old) (outputs K.held K.taken out.new cert.new text.new) }
     ensures open { OnOk result (length frames.now ≡ job.now.group → IsOpen job.now proof.new) }
     ensures head { movie.new.head ≡ movie.old.head }
     ensures kinds { is_done_end result ≡ false }
-    ensures write { CountsAllFaults K.faults out.old cert.old text.old out.new cert.new text.new (is_write_end result) }
+    ensures write { CountsAllFaults K.faults out.old cert.old text.old out.new cert.new text.new
+        (is_write_end result) }
 {
     let table = match table_for(alloc, job, frames) {
         Ok(table) => table,

@@ -1,4 +1,4 @@
-//! What stands behind all groups.
+//! What is written after all groups.
 
 ghost use Rattle.std.specs.Prelude.{◌≡◌, [], length, OnOk, OnErr, is_err};
 ghost use Rattle.std.specs.Bool.{OnTrue};
@@ -16,10 +16,12 @@ use qt_movie::MovieWriter;
 use rate_cert::ProofWriter;
 use std::alloc::Global;
 
-/// Settles what the three sinks took.
+/// Flushes the three sinks.
 fn settle<K: ByteSink>(out: &mut K, cert: &mut K, text: &mut K) -> Result<(), Failed>
-    ensures same { PutsAll (outputs K.held K.taken out.old cert.old text.old) (outputs K.held K.taken out.new cert.new text.new) nothing }
-    ensures settled { OnOk result ((K.settled out.new ≡ K.taken out.new) × (K.settled cert.new ≡ K.taken cert.new) × (K.settled text.new ≡ K.taken text.new)) }
+    ensures same { PutsAll (outputs K.held K.taken out.old cert.old text.old)
+        (outputs K.held K.taken out.new cert.new text.new) nothing }
+    ensures settled { OnOk result ((K.settled out.new ≡ K.taken out.new) × (K.settled cert.new ≡ K.taken cert.new)
+        × (K.settled text.new ≡ K.taken text.new)) }
     ensures cause { CountsAllFaults K.faults out.old cert.old text.old out.new cert.new text.new (is_err result) }
 {
     out.flush()?;
@@ -27,17 +29,22 @@ fn settle<K: ByteSink>(out: &mut K, cert: &mut K, text: &mut K) -> Result<(), Fa
     text.flush()
 }
 
-/// Writes the proof's end and this line, and settles all.
-fn end_all<K: ByteSink>(
+/// Writes the proof's end and `line`, and flushes the three sinks.
+fn end_files<K: ByteSink>(
     proof: ProofWriter,
     line: &[u8],
     out: &mut K,
     cert: &mut K,
     text: &mut K,
 ) -> Result<(), Failed>
-    ensures ok { OnOk result (PutsAll (outputs K.held K.taken out.old cert.old text.old) (outputs K.held K.taken out.new cert.new text.new) (record { movie = []; proof = end_bytes proof.progress.count; text = line.now })) }
-    ensures err { OnErr result (PutsFronts (outputs K.held K.taken out.old cert.old text.old) (outputs K.held K.taken out.new cert.new text.new) (record { movie = []; proof = end_bytes proof.progress.count; text = line.now })) }
-    ensures settled { OnOk result ((K.settled out.new ≡ K.taken out.new) × (K.settled cert.new ≡ K.taken cert.new) × (K.settled text.new ≡ K.taken text.new)) }
+    ensures ok { OnOk result (PutsAll (outputs K.held K.taken out.old cert.old text.old)
+        (outputs K.held K.taken out.new cert.new text.new)
+        (record { movie = []; proof = end_bytes proof.progress.count; text = line.now })) }
+    ensures err { OnErr result (PutsFronts (outputs K.held K.taken out.old cert.old text.old)
+        (outputs K.held K.taken out.new cert.new text.new)
+        (record { movie = []; proof = end_bytes proof.progress.count; text = line.now })) }
+    ensures settled { OnOk result ((K.settled out.new ≡ K.taken out.new) × (K.settled cert.new ≡ K.taken cert.new)
+        × (K.settled text.new ≡ K.taken text.new)) }
     ensures cause { CountsAllFaults K.faults out.old cert.old text.old out.new cert.new text.new (is_err result) }
 {
     proof.end(cert)?;
@@ -45,7 +52,8 @@ fn end_all<K: ByteSink>(
     settle(out, cert, text)
 }
 
-/// Writes the movie atom, the proof's end and the last line, and settles all. All memory is taken before the first byte is written.
+/// Writes the movie atom, the proof's end and the last line, and flushes the three sinks. All memory is allocated
+/// before the first byte is written.
 pub(crate) fn finish<K: ByteSink>(
     alloc: Global,
     job: &Job,
@@ -58,8 +66,11 @@ pub(crate) fn finish<K: ByteSink>(
     requires head { movie.head ≡ job.now.head }
     ensures ends { Finishes job.now (counts_of movie proof) result
         (outputs K.held K.taken out.old cert.old text.old) (outputs K.held K.taken out.new cert.new text.new) }
-    ensures settled { OnTrue (is_settled result) ((K.settled out.new ≡ K.taken out.new) × (K.settled cert.new ≡ K.taken cert.new) × (K.settled text.new ≡ K.taken text.new)) }
-    ensures write { CountsAllFaults K.faults out.old cert.old text.old out.new cert.new text.new (is_write_fault result) }
+    ensures settled { OnTrue (is_settled result)
+        ((K.settled out.new ≡ K.taken out.new) × (K.settled cert.new ≡ K.taken cert.new)
+        × (K.settled text.new ≡ K.taken text.new)) }
+    ensures write { CountsAllFaults K.faults out.old cert.old text.old out.new cert.new text.new
+        (is_write_fault result) }
 {
     let line = match last_line(alloc, movie.frames()) {
         Ok(line) => line,
@@ -70,13 +81,13 @@ pub(crate) fn finish<K: ByteSink>(
         Err(WriteEnd::NoMemory) => return EncodeEnd::NoMemory,
         Err(WriteEnd::Failed) => return EncodeEnd::WriteFault,
     }
-    match end_all(proof, &line, out, cert, text) {
+    match end_files(proof, &line, out, cert, text) {
         Ok(()) => EncodeEnd::Done,
         Err(_) => EncodeEnd::WriteFault,
     }
 }
 
-/// Writes the end of a proof whose last record says that no choice fits, and settles all.
+/// Writes the end of a proof whose last record says that no choice fits, and flushes the three sinks.
 pub(crate) fn close<K: ByteSink>(
     proof: ProofWriter,
     frame: u32,
@@ -87,10 +98,13 @@ pub(crate) fn close<K: ByteSink>(
 ) -> EncodeEnd
     ensures ends { Closes proof.progress.count frame least result
         (outputs K.held K.taken out.old cert.old text.old) (outputs K.held K.taken out.new cert.new text.new) }
-    ensures settled { OnTrue (is_settled result) ((K.settled out.new ≡ K.taken out.new) × (K.settled cert.new ≡ K.taken cert.new) × (K.settled text.new ≡ K.taken text.new)) }
-    ensures write { CountsAllFaults K.faults out.old cert.old text.old out.new cert.new text.new (is_write_fault result) }
+    ensures settled { OnTrue (is_settled result)
+        ((K.settled out.new ≡ K.taken out.new) × (K.settled cert.new ≡ K.taken cert.new)
+        × (K.settled text.new ≡ K.taken text.new)) }
+    ensures write { CountsAllFaults K.faults out.old cert.old text.old out.new cert.new text.new
+        (is_write_fault result) }
 {
-    match end_all(proof, &[], out, cert, text) {
+    match end_files(proof, &[], out, cert, text) {
         Ok(()) => EncodeEnd::TooSmall { frame, least },
         Err(_) => EncodeEnd::WriteFault,
     }

@@ -11,14 +11,14 @@ ghost use Rattle.run_encode.specs.inner.Steps.{IsOpen, left_by, counts_of, Group
 
 use crate::end::EncodeEnd;
 use crate::job::Job;
-use crate::turn::{Turn, take_turn};
+use crate::turn::{Turn, encode_next_group};
 use pic_raw::AnyReader;
 use pw_outside::{ByteSink, ByteSource};
 use qt_movie::MovieWriter;
 use rate_cert::ProofWriter;
 use std::alloc::Global;
 
-/// Reads, codes and writes all groups, or up to the run's answer.
+/// Reads, codes and writes all groups. The error is the run's outcome.
 pub(crate) fn encode_groups<S: ByteSource, K: ByteSink>(
     alloc: Global,
     job: &Job,
@@ -37,17 +37,20 @@ pub(crate) fn encode_groups<S: ByteSource, K: ByteSink>(
     requires movie { movie.old.sizes ≡ [] }
     requires open { IsOpen job.now proof.old }
     requires proof { proof.old.progress.count ≡ 0 }
-    ensures ended { IsSome (S.left pictures.old) → GroupsEnd job.now (left_by reader.old (S.left pictures.old)) (counts_of movie.new proof.new) result
+    ensures ended { IsSome (S.left pictures.old)
+        → GroupsEnd job.now (left_by reader.old (S.left pictures.old)) (counts_of movie.new proof.new) result
         (outputs K.held K.taken out.old cert.old text.old) (outputs K.held K.taken out.new cert.new text.new) }
-    ensures extends { ExtendsAll (outputs K.held K.taken out.old cert.old text.old) (outputs K.held K.taken out.new cert.new text.new) }
+    ensures extends { ExtendsAll (outputs K.held K.taken out.old cert.old text.old)
+        (outputs K.held K.taken out.new cert.new text.new) }
     ensures head { movie.new.head ≡ movie.old.head }
     ensures end { OnOk result (IsAtEnd (S.left pictures.new)) }
     ensures kinds { is_done_end result ≡ false }
     ensures read { CountsFault (S.faults pictures.old) (S.faults pictures.new) (is_read_end result) }
-    ensures write { CountsAllFaults K.faults out.old cert.old text.old out.new cert.new text.new (is_write_end result) }
+    ensures write { CountsAllFaults K.faults out.old cert.old text.old out.new cert.new text.new
+        (is_write_end result) }
 {
     'groups: loop {
-        match take_turn(alloc, job, reader, pictures, movie, proof, out, cert, text) {
+        match encode_next_group(alloc, job, reader, pictures, movie, proof, out, cert, text) {
             Turn::Whole => {}
             Turn::Last => return Ok(()),
             Turn::End => return Ok(()),

@@ -11,7 +11,7 @@ use rate_cert::proof_is_read_again;
 use rate_layers::{kept_are_one, kept_exist, kept_is_good, multiplier_exists, multiplier_is_one};
 use rate_table::{best_exists, best_is_one, good_is_least, none_fits_below_least};
 
-/// What encoding gives has the headline, where the layers of no group are too many.
+/// The result of encoding has the headline, if no group's Pareto frontiers have too many pairs.
 pub fn encoded_has_headline()
     ensures { EncodedHasHeadline }
 {
@@ -31,7 +31,7 @@ pub fn encoded_has_headline()
     proof_is_read_again();
 }
 
-/// So has what was written of the first groups, in front of a group whose layers are too many.
+/// What was written of the first groups has the headline, if the next group's Pareto frontiers have too many pairs.
 pub fn cut_has_headline()
     ensures { CutHasHeadline }
 {
@@ -45,7 +45,8 @@ pub fn cut_has_headline()
     good_is_least();
 }
 
-/// What was written of the first groups begins what encoding gives, and encoding gives an answer for every list of pictures.
+/// What was written of the first groups is a prefix of the result of encoding, and every list of pictures has such
+/// a result.
 pub fn encoding_goes_on()
     ensures { EncodingGoesOn }
 {
@@ -57,7 +58,7 @@ pub fn encoding_goes_on()
     kept_exist();
 }
 
-/// Encoding gives one answer alone, and one list of bytes for each sink.
+/// The result of encoding is unique: one outcome, and one list of bytes for each sink.
 pub fn encoding_is_one()
     ensures { EncodingIsOne }
 {

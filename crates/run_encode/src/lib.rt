@@ -1,5 +1,5 @@
-//! The run of `encode`: pictures in, and out a movie of their frames, a proof that each group's choice is best, and a line for
-//! each frame.
+//! The run of `encode`: reads pictures; writes a movie of their frames, a proof that each group's choice is best,
+//! and a line for each frame.
 #![tactic(auto)]
 
 mod coding;
@@ -22,6 +22,3 @@ pub use end::EncodeEnd;
 pub use job::{EncodeWords, Job};
 pub use laws::{cut_has_headline, encoded_has_headline, encoding_goes_on, encoding_is_one};
 pub use run::encode_run;
-
-#[cfg(test)]
-mod tests;

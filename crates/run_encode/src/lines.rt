@@ -1,7 +1,8 @@
-//! The lines of frames.
+//! The printed lines of frames.
 
 ghost use Rattle.std.specs.Prelude.{◌≡◌, ◌+◌, ◌*◌, ◌++◌, ◌<◌, ◌≤◌, ◌^◌, List, length, map, IfOk, OnOk};
 ghost use Rattle.std.specs.List.{All};
+ghost use Rattle.qt_tables.specs.declared.tables.TheConstants.{MAX_SAMPLES};
 ghost use Rattle.rate_table.specs.declared.entry.Entry.{Entry};
 ghost use Rattle.rate_table.specs.Table.{IsChoice, indices};
 ghost use Rattle.rate_build.specs.Groups.{shares};
@@ -17,7 +18,7 @@ use rate_build::{Coefficients, fixed_size};
 use rate_table::FrameTable;
 use std::alloc::Global;
 
-/// Appends the line of a frame: its number, its bytes and its error.
+/// Appends the line of a frame: its number, its size in bytes and its error.
 #[tactic(auto, unfolding(crate::specs::Encoding::frame_line))]
 fn put_line(text: &mut Vec<u8>, number: u32, size: u64, error: u64) -> Result<(), NoMemory>
     ensures { OnOk result (text.new.items ≡ text.old.items ++ frame_line number size error) }
@@ -31,7 +32,7 @@ fn put_line(text: &mut Vec<u8>, number: u32, size: u64, error: u64) -> Result<()
     put_words(text, "\n")
 }
 
-/// The lines of the frames of a group, the first of which has this number.
+/// The lines of a group's frames, the first of which is frame `number`.
 pub(crate) fn lines_for(
     alloc: Global,
     job: &Job,
@@ -41,12 +42,14 @@ pub(crate) fn lines_for(
     choice: &[u8],
 ) -> Result<Vec<u8>, NoMemory>
     requires job { IsJob job.now }
-    requires number { number + length frames.now ≤ 1000000 }
+    requires number { number + length frames.now ≤ MAX_SAMPLES }
     requires frames { All (IsFrameOf job.now) frames.now }
     requires table { table.now ≡ table_of_group job.now frames.now }
     requires choice { HasFitting table.now choice.now }
-    ensures lines { IfOk result (λ lines. (entries : List Entry) → IsChoice table.now.slices entries → indices entries ≡ choice.now
-        → lines.items ≡ part_lines job.now number (map (λ p. p.1) (shares (frame_slices job.now) frames.now entries))) }
+    ensures lines { IfOk result (λ lines.
+        (entries : List Entry) → IsChoice table.now.slices entries → indices entries ≡ choice.now
+        → lines.items ≡ part_lines job.now number
+        (map (λ p. p.1) (shares (frame_slices job.now) frames.now entries))) }
 {
     let fixed = u64::from(fixed_size(&job.layout));
     let count = slices_in(job);

@@ -5,6 +5,7 @@ ghost use Rattle.std.specs.List.{All};
 ghost use Rattle.pr_frame.specs.Written.{coded_bytes};
 ghost use Rattle.rate_build.specs.Coding.{coded_frame};
 ghost use Rattle.rate_table.specs.declared.entry.Entry.{Entry};
+ghost use Rattle.rate_table.specs.declared.table.TheConstants.{MAX_TABLE_SLICES};
 ghost use Rattle.rate_table.specs.Table.{IsSliceTable, IsChoice, indices, size_of, error_of};
 ghost use Rattle.run_encode.specs.Groups.{IsJob, IsFrameOf, frame_slices, header_in, slice_tables};
 ghost use Rattle.run_encode.specs.inner.Over.{IsFrameChoice};
@@ -30,7 +31,7 @@ pub(crate) fn header_of(job: &Job) -> FrameHeader
     )
 }
 
-/// How many slices a frame has.
+/// Number of slices in a frame.
 pub(crate) fn slices_in(job: &Job) -> usize
     ensures value { result ≡ frame_slices job.now }
     ensures some { 1 ≤ result }
@@ -41,11 +42,13 @@ pub(crate) fn slices_in(job: &Job) -> usize
 /// The size in bytes and the error of a frame's part of a choice.
 pub(crate) fn part_sums(slices: &[SliceTable], choice: &[u8]) -> (u64, u64)
     requires some { 1 ≤ length slices.now }
-    requires few { length slices.now ≤ 131070 }
+    requires few { length slices.now ≤ MAX_TABLE_SLICES }
     requires each { All IsSliceTable slices.now }
     requires choice { (entries : List Entry) × IsChoice slices.now entries × (indices entries ≡ choice.now) }
-    ensures size { (entries : List Entry) → IsChoice slices.now entries → indices entries ≡ choice.now → result.0 ≡ size_of entries }
-    ensures error { (entries : List Entry) → IsChoice slices.now entries → indices entries ≡ choice.now → result.1 ≡ error_of entries }
+    ensures size { (entries : List Entry) → IsChoice slices.now entries → indices entries ≡ choice.now
+        → result.0 ≡ size_of entries }
+    ensures error { (entries : List Entry) → IsChoice slices.now entries → indices entries ≡ choice.now
+        → result.1 ≡ error_of entries }
     ensures small { result.0 < 2 ^ 33 }
 {
     indices_tell_choice();
@@ -55,7 +58,7 @@ pub(crate) fn part_sums(slices: &[SliceTable], choice: &[u8]) -> (u64, u64)
     }
 }
 
-/// The bytes of a frame whose slices have these tables, by its part of a choice.
+/// The size in bytes of a frame with slice tables `slices`, coded by its part of a choice.
 pub(crate) fn frame_size(
     job: &Job,
     frame: &Coefficients,
@@ -66,7 +69,7 @@ pub(crate) fn frame_size(
     requires frame { IsFrameOf job.now frame.now }
     requires slices { slices.now ≡ slice_tables job.now frame.now }
     requires some { 1 ≤ length slices.now }
-    requires few { length slices.now ≤ 131070 }
+    requires few { length slices.now ≤ MAX_TABLE_SLICES }
     requires each { All IsSliceTable slices.now }
     requires choice { IsFrameChoice job.now slices.now choice.now }
     ensures size { result ≡ length (coded_bytes (coded_frame frame.now (header_in job.now) choice.now)) }

@@ -18,7 +18,7 @@ use pw_outside::ByteSource;
 use rate_build::Coefficients;
 use std::alloc::Global;
 
-/// The answer to a fault of the pictures.
+/// The outcome for an error of the pictures.
 pub(crate) fn end_of(fault: PictureFault) -> EncodeEnd
     ensures { result ≡ end_of_fault fault }
 {
@@ -29,7 +29,8 @@ pub(crate) fn end_of(fault: PictureFault) -> EncodeEnd
     }
 }
 
-/// Reads the pictures of the next group, and makes their coefficients.
+/// Reads the pictures of the next group, and computes their coefficients. The group has fewer than `job.group`
+/// pictures only at the end of the input.
 pub(crate) fn read_group<S: ByteSource>(
     alloc: Global,
     job: &Job,
@@ -39,9 +40,11 @@ pub(crate) fn read_group<S: ByteSource>(
     requires job { IsJob job.now }
     requires head { head_of reader.old ≡ job.now.head }
     requires reader { IsReader reader.old }
-    ensures group { IfOk result (λ cs. ReadsGroup job.now reader.old reader.new (S.left pictures.old) (S.left pictures.new) cs.items) }
+    ensures group { IfOk result (λ cs.
+        ReadsGroup job.now reader.old reader.new (S.left pictures.old) (S.left pictures.new) cs.items) }
     ensures reader { IsReader reader.new }
-    ensures stops { IfErr result (λ end. IsSome (S.left pictures.old) → StopsGroup job.now (left_by reader.old (S.left pictures.old)) end) }
+    ensures stops { IfErr result (λ end.
+        IsSome (S.left pictures.old) → StopsGroup job.now (left_by reader.old (S.left pictures.old)) end) }
     ensures kinds { IfErr result (λ end. (is_write_fault end ≡ false) × (is_done end ≡ false)) }
     ensures cause { CountsFault (S.faults pictures.old) (S.faults pictures.new) (is_read_end result) }
 {

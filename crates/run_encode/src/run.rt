@@ -29,13 +29,15 @@ use pr_quant::laws::named_weights_are_in_range;
 use pw_outside::{ByteSink, ByteSource};
 use qt_movie::MovieWriter;
 use rate_cert::ProofWriter;
+use rate_table::MAX_TABLE_SLICES;
 use std::alloc::Global;
 
-/// What is fixed for all frames; none where the pictures have no layout.
+/// The parameters that all frames share; `None` if the pictures have no layout.
 fn job_of(words: &EncodeWords, head: &Head) -> Option<Job>
     requires words { AreWords words.now }
     requires head { IsHead head.now }
-    ensures some { IfSome result (λ j. IsJob j × IsJobOf words.now head.now j × (has_layout words.now head.now ≡ true)) }
+    ensures some { IfSome result (λ j.
+        IsJob j × IsJobOf words.now head.now j × (has_layout words.now head.now ≡ true)) }
     ensures none { IfNone result (has_layout words.now head.now ≡ false) }
 {
     let layout = match Layout::new(
@@ -50,7 +52,7 @@ fn job_of(words: &EncodeWords, head: &Head) -> Option<Job>
     };
     named_weights_are_in_range();
     let slices = u32::from(layout.pictures()) * layout.slices();
-    if u32::from(words.group) * slices > 131_070 {
+    if u32::from(words.group) * slices > MAX_TABLE_SLICES {
         return None;
     }
     Some(Job {
@@ -66,7 +68,8 @@ fn job_of(words: &EncodeWords, head: &Head) -> Option<Job>
     })
 }
 
-/// The first frame of the group for which no choice fits, and the least that it needs, where the answer says so.
+/// The first frame of the group for which no choice fits, and the size of its smallest choice, if that is the
+/// outcome.
 fn small_of(end: EncodeEnd) -> Option<(u32, u64)>
     ensures some { IfSome result (λ small. end ≡ ends.TooSmall small.0 small.1) }
     ensures none { IfNone result ((frame : ℕ) (least : ℕ) → end ≡ ends.TooSmall frame least → ⊥) }
@@ -82,8 +85,8 @@ fn small_of(end: EncodeEnd) -> Option<(u32, u64)>
     }
 }
 
-/// Encodes the pictures behind the head.
-fn run_job<S: ByteSource, K: ByteSink>(
+/// Encodes the pictures after the head.
+fn encode_pictures<S: ByteSource, K: ByteSink>(
     alloc: Global,
     job: &Job,
     reader: &mut AnyReader,
@@ -98,11 +101,15 @@ fn run_job<S: ByteSource, K: ByteSink>(
     requires fresh { frames_of reader.old ≡ 0 }
     ensures ran { IsSome (S.left pictures.old) → RanSo job.now (left_by reader.old (S.left pictures.old)) result
         (outputs K.held K.taken out.old cert.old text.old) (outputs K.held K.taken out.new cert.new text.new) }
-    ensures extends { ExtendsAll (outputs K.held K.taken out.old cert.old text.old) (outputs K.held K.taken out.new cert.new text.new) }
-    ensures settled { OnTrue (is_settled result) ((K.settled out.new ≡ K.taken out.new) × (K.settled cert.new ≡ K.taken cert.new) × (K.settled text.new ≡ K.taken text.new)) }
+    ensures extends { ExtendsAll (outputs K.held K.taken out.old cert.old text.old)
+        (outputs K.held K.taken out.new cert.new text.new) }
+    ensures settled { OnTrue (is_settled result)
+        ((K.settled out.new ≡ K.taken out.new) × (K.settled cert.new ≡ K.taken cert.new)
+        × (K.settled text.new ≡ K.taken text.new)) }
     ensures end { OnTrue (is_done result) (IsAtEnd (S.left pictures.new)) }
     ensures read { CountsFault (S.faults pictures.old) (S.faults pictures.new) (is_read_fault result) }
-    ensures write { CountsAllFaults K.faults out.old cert.old text.old out.new cert.new text.new (is_write_fault result) }
+    ensures write { CountsAllFaults K.faults out.old cert.old text.old out.new cert.new text.new
+        (is_write_fault result) }
 {
     let mut movie = match MovieWriter::begin(alloc, out, &job.head) {
         Ok(movie) => movie,
@@ -123,10 +130,10 @@ fn run_job<S: ByteSource, K: ByteSink>(
     }
 }
 
-/// Reads pictures, group by group, and writes a movie of their frames to `out`, a proof of the chosen indices to `cert`, and to
-/// `text` a line for each frame and a last one for their number.
+/// Reads pictures group by group. Writes a movie of their frames to `out`, a proof of the chosen indices to `cert`,
+/// and to `text` a line for each frame and a last line with their number.
 ///
-/// All memory of a group is taken before its first byte is written.
+/// All memory of a group is allocated before its first byte is written.
 pub fn encode_run<S: ByteSource, K: ByteSink>(
     alloc: Global,
     words: &EncodeWords,
@@ -136,25 +143,34 @@ pub fn encode_run<S: ByteSource, K: ByteSink>(
     text: &mut K,
 ) -> EncodeEnd
     requires words { AreWords words.now }
-    // Where the pictures' bytes are told, they decide the answer and all that is written. After every refusal but a fault of writing the
-    // sinks hold whole groups or nothing; after a fault of writing each has a front of what encoding gives.
+    // If the pictures' bytes are visible, they decide the outcome and all that is written. After a write fault each
+    // sink has a prefix of the result of encoding; after every other refusal the sinks hold whole groups or
+    // nothing.
     ensures ran { Told (S.left pictures.old) (λ bytes.
-        StopsFirst result (outputs K.held K.taken out.old cert.old text.old) (outputs K.held K.taken out.new cert.new text.new)
-        ⊎ RanOn words.now (pictures_of words.now.raw bytes) result (outputs K.held K.taken out.old cert.old text.old) (outputs K.held K.taken out.new cert.new text.new)) }
-    // What was appended has the headline: each group has at most its budget's bytes; each sample stands for its picture's coefficients
-    // quantised at the chosen indices; no choice that fits has less error; the printed records are good; where no choice fits, the last
-    // record says so.
-    ensures headline { Told (S.left pictures.old) (λ bytes. HasHeadline words.now (pictures_of words.now.raw bytes) result
+        StopsFirst result (outputs K.held K.taken out.old cert.old text.old)
+        (outputs K.held K.taken out.new cert.new text.new)
+        ⊎ RanOn words.now (pictures_of words.now.raw bytes) result (outputs K.held K.taken out.old cert.old text.old)
+        (outputs K.held K.taken out.new cert.new text.new)) }
+    // What was appended has the headline: each group has at most its budget's bytes; each sample stands for its
+    // picture's coefficients quantised at the chosen indices; no choice that fits has less error; the printed
+    // records are good; if no choice fits, the last record says so.
+    ensures headline { Told (S.left pictures.old) (λ bytes.
+        HasHeadline words.now (pictures_of words.now.raw bytes) result
         (outputs K.held K.taken out.old cert.old text.old) (outputs K.held K.taken out.new cert.new text.new)) }
-    // Whatever the answer, and whether the pictures' bytes are told or not, each sink extends what it held.
-    ensures extends { ExtendsAll (outputs K.held K.taken out.old cert.old text.old) (outputs K.held K.taken out.new cert.new text.new) }
-    // After Done, and after TooSmall, all that was written is settled.
-    ensures settled { OnTrue (is_settled result) ((K.settled out.new ≡ K.taken out.new) × (K.settled cert.new ≡ K.taken cert.new) × (K.settled text.new ≡ K.taken text.new)) }
+    // For every outcome, and whether the pictures' bytes are visible or opaque, each sink extends what it held.
+    ensures extends { ExtendsAll (outputs K.held K.taken out.old cert.old text.old)
+        (outputs K.held K.taken out.new cert.new text.new) }
+    // After Done and TooSmall all that was written is flushed.
+    ensures settled { OnTrue (is_settled result)
+        ((K.settled out.new ≡ K.taken out.new) × (K.settled cert.new ≡ K.taken cert.new)
+        × (K.settled text.new ≡ K.taken text.new)) }
     // Done says that the input was read to its end.
     ensures end { OnTrue (is_done result) (IsAtEnd (S.left pictures.new)) }
-    // A fault of a port is answered only where that port's count rose, and every other answer leaves the counts as they were.
+    // A port's fault is the outcome only if that port's fault count rose; every other outcome leaves the counts
+    // unchanged.
     ensures read { CountsFault (S.faults pictures.old) (S.faults pictures.new) (is_read_fault result) }
-    ensures write { CountsAllFaults K.faults out.old cert.old text.old out.new cert.new text.new (is_write_fault result) }
+    ensures write { CountsAllFaults K.faults out.old cert.old text.old out.new cert.new text.new
+        (is_write_fault result) }
 {
     encoded_has_headline();
     cut_has_headline();
@@ -165,7 +181,7 @@ pub fn encode_run<S: ByteSource, K: ByteSink>(
         Err(fault) => return end_of(fault),
     };
     match job_of(words, &reader.head()) {
-        Some(job) => run_job(alloc, &job, &mut reader, pictures, out, cert, text),
+        Some(job) => encode_pictures(alloc, &job, &mut reader, pictures, out, cert, text),
         None => EncodeEnd::BadPictures {
             kind: PictureKind::TooManySlices,
             place: 0,

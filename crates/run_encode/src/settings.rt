@@ -6,7 +6,7 @@ ghost use Rattle.run_encode.specs.Groups.{settings_of};
 use crate::job::Job;
 use rate_cert::Settings;
 
-/// What the proof of a run says of all its records.
+/// The settings that a run's proof states for all its records.
 pub(crate) fn settings_for(job: &Job) -> Settings
     ensures { result ≡ settings_of job.now }
 {

@@ -1,4 +1,4 @@
-//! The coefficients of a picture, and the table of a group of them.
+//! The coefficients of a picture, and the table of a group of pictures.
 
 ghost use Rattle.std.specs.Prelude.{◌≡◌, ◌≤◌, length, map, IfOk};
 ghost use Rattle.std.specs.List.{All};
@@ -13,7 +13,7 @@ use rate_build::{Coefficients, build_table, coefficients_of, group_table_is_tabl
 use rate_table::{FrameTable, join};
 use std::alloc::Global;
 
-/// The coefficients of a picture of the run's form.
+/// The coefficients of a picture of the run's format.
 pub(crate) fn coefficients_for(
     alloc: Global,
     job: &Job,
@@ -27,14 +27,15 @@ pub(crate) fn coefficients_for(
     coefficients_of(alloc, picture, &job.layout, job.head.alpha)
 }
 
-/// The tables of the frames of a group, one for each.
+/// The tables of a group's frames, one for each.
 fn frame_tables(
     alloc: Global,
     job: &Job,
     frames: &[Coefficients],
 ) -> Result<Vec<FrameTable>, NoMemory>
     requires job { IsJob job.now }
-    ensures { IfOk result (λ tables. tables.items ≡ map (λ c. table_of c job.now.weights job.now.lo job.now.hi job.now.budget) frames.now) }
+    ensures { IfOk result (λ tables.
+        tables.items ≡ map (λ c. table_of c job.now.weights job.now.lo job.now.hi job.now.budget) frames.now) }
 {
     let mut tables = Vec::new(alloc);
     'frames: for frame in frames {
@@ -47,7 +48,7 @@ fn frame_tables(
     Ok(tables)
 }
 
-/// The table of a group of frames, under one budget.
+/// The table of a group of frames under one budget.
 pub(crate) fn table_for(
     alloc: Global,
     job: &Job,

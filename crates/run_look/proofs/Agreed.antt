@@ -24,7 +24,7 @@ use Rattle.run_look.specs.Agreeing.{Given, given, AreBeside, TakesGroup, by_samp
 use Rattle.run_look.proofs.Alone.{answers_end}
 use Rattle.run_look.proofs.Alike.{step}
 
--- ---- what stands at a number
+-- ---- the items at a number
 
 none_at : (ps : List Picture) (n : ℕ) → [] ≡ drop n ps → slice_get ps n ≡ None
 none_at [] n e = refl
@@ -39,10 +39,6 @@ some_at (q ∷ qs) (suc n) p others e =
     let behind = some_at qs n p others e in
     let one : suc (n + 1) ≡ suc n + 1 = omega arith in
     (behind.0, behind.1 ∙ ap (λ k. drop k (q ∷ qs)) one)
-
--- the answer of a reader of pictures of which these are left
-picture_end : Fault PictureKind → LookEnd
-picture_end f = ends.BadPictures f.kind f.place
 
 pub left_fault : (g : Given) (n : ℕ) (f : Fault PictureKind) (others : Rest → Pictures) → AreLeft g n (first_and (Err f) others) → picture_in g n ≡ Err f
 left_fault g n f others e =
@@ -63,12 +59,12 @@ left_some g n p rest others e =
     let fault = ap (λ (x : Pictures). x.fault) e in
     (ap (λ o. picture_or o g.pictures.fault) some.0, λ i. record { pictures = some.1 i; fault = fault i })
 
--- no reader gives more frames than this
+-- no reader returns more frames than this
 few_frames : (r : AnyReader) → IsReader r → frames_of r ≤ MAX_FRAMES
 few_frames (Y4m r) is = is.few
 few_frames (Raw r) is = is.few
 
--- what a reader gives next
+-- the next result of a reader
 pub gives_fault : NextIsFirst → (r : AnyReader) (rest : Rest) (g : Given) (n : ℕ) (f : Fault PictureKind) → IsReader r → next_of r rest ≡ Err f → AreLeft g n (left_of r rest) → picture_in g n ≡ Err f
 gives_fault law r rest g n f is e left =
     let others : Rest → Pictures = λ rest. left_of (advanced r rest.place) rest in
@@ -95,7 +91,7 @@ same_sample o x y a b = cc
 same_picture : (o : Result (Option Picture) (Fault PictureKind)) (p q : Picture) → o ≡ Ok (Some p) → o ≡ Ok (Some q) → p ≡ q
 same_picture o p q a b = cc
 
--- a frame that isn't coded of the picture of its number doesn't agree
+-- a frame doesn't agree if it isn't that of the picture with its number
 pub disagrees : OneFrame → (g : Given) (l : Layout) (s : Settings) (r : Record) (first k : ℕ) (f : CodedFrame) (p : Picture) → HasFrame g (first + k) f
     → picture_in g (first + k) ≡ Ok (Some p) → (IsPictureOf l s r k f p → ⊥) → PictureAgrees g l s r first k → ⊥
 disagrees one g l s r first k f p (x, there, of) picture other agrees =
@@ -108,36 +104,13 @@ pub picture_agrees : (g : Given) (l : Layout) (s : Settings) (r : Record) (first
     → picture_in g (first + k) ≡ Ok (Some p) → IsPictureOf l s r k f p → PictureAgrees g l s r first k
 picture_agrees g l s r first k f p (x, there, of) picture is = record { picture = p; there = picture; sample = x; sample_there = there; frame = f; of = of; pictured = is }
 
-pub ends_there : (g : Given) (l : Layout) (s : Settings) (r : Record) (first k : ℕ) (end : LookEnd) (left : Pictures) → GivesPicture g (first + k) (Err end) left → AnswersEnd end (PictureEnds g l s r first k)
-ends_there g l s r first k ends.Done left h = absurd h
-ends_there g l s r first k ends.NoMemory left h = tt
-ends_there g l s r first k ends.ReadFault left h = tt
-ends_there g l s r first k ends.WriteFault left h = tt
-ends_there g l s r first k (ends.BadPictures kind place) left h = h
-ends_there g l s r first k (ends.BadMovie kind place) left h = absurd h
-ends_there g l s r first k (ends.BadFrame sample kind place) left h = absurd h
-ends_there g l s r first k (ends.BadProof kind place) left h = absurd h
-ends_there g l s r first k (ends.Refused frame clause) left h = absurd h
-
 -- ---- one sample
 
 pub sample_there : (g : Given) (s : Settings) (r : Record) (first k : ℕ) (x : Sample) (f : CodedFrame) → sample_in g (first + k) ≡ Some x → IsSampleOf g.file x f → IsAsSaid s r k x.size f
     → TakesSample g s r first k (Ok f)
 sample_there g s r first k x f there of said = (record { sample = x; there = there; frame = f; of = of; said = said }, (x, there, of))
 
-pub sample_ends : (g : Given) (s : Settings) (r : Record) (first k n : ℕ) (x : Sample) (end : LookEnd) → n ≡ first + k → sample_in g (first + k) ≡ Some x → ReadsSample g.file x n (Err end)
-    → AnswersEnd end (SampleEnds g s r first k)
-sample_ends g s r first k n x ends.Done is there h = absurd h
-sample_ends g s r first k n x ends.NoMemory is there h = tt
-sample_ends g s r first k n x ends.ReadFault is there h = tt
-sample_ends g s r first k n x ends.WriteFault is there h = tt
-sample_ends g s r first k n x (ends.BadPictures kind place) is there h = absurd h
-sample_ends g s r first k n x (ends.BadMovie kind place) is there h = (x, there, h)
-sample_ends g s r first k n x (ends.BadFrame number kind place) is there h = (h.0 ∙ is, x, there, h.1, h.2)
-sample_ends g s r first k n x (ends.BadProof kind place) is there h = absurd h
-sample_ends g s r first k n x (ends.Refused frame clause) is there h = absurd h
-
--- ---- frames in front of further ones
+-- ---- frames before further ones
 
 pub frames_more : (g : Given) (first : ℕ) (fs : List CodedFrame) (f : CodedFrame) → AreFrames g first fs → HasFrame g (first + length fs) f → AreFrames g first (fs ++ f ∷ [])
 frames_more g first fs f are is = All-push-at fs f first are is
@@ -173,7 +146,7 @@ samples_further b b' ss s r first k f e agree takes told ps =
     subst (λ x. Told x (λ file. (ps : Pictures) → TakesSample (given file ss ps) s r first k (Ok f))) e takes in
     step (λ j. SampleAgrees (given (bytes_of b) ss ps) s r first j) k (agree told ps) (here told ps).0
 
--- and its frame stands behind those in front of it
+-- and its frame comes after those before it
 pub frames_further : (b b' : Option (List ℕ)) (ss : List Sample) (s : Settings) (r : Record) (first k : ℕ) (fs fs' : List CodedFrame) (f : CodedFrame) → b' ≡ b → length fs ≡ k → fs' ≡ fs ++ f ∷ []
     → (IsSome b → (ps : Pictures) → AreFrames (given (bytes_of b) ss ps) first fs)
     → Told b' (λ file. (ps : Pictures) → TakesSample (given file ss ps) s r first k (Ok f)) → IsSome b → (ps : Pictures) → AreFrames (given (bytes_of b) ss ps) first fs'
@@ -208,27 +181,16 @@ pub group_by_pictures : (g : Given) (l : Layout) (s : Settings) (r : Record) (fi
 group_by_pictures g l s r first (Ok _) left agree h = ((agree, h.0), h.1)
 group_by_pictures g l s r first (Err end) left agree h = answers_end end (PicturesEnd g l s r first) (λ e. AreBeside g l s r first tt (ended e)) (λ e x. (x.0, x.1, inr (agree, x.2, x.3))) h
 
--- ---- behind the records
+-- ---- after the records
 
 no_sample : (ss : List Sample) (n : ℕ) → length ss ≤ n → slice_get ss n ≡ None
 no_sample [] n l = refl
 no_sample (x ∷ xs) zero l = absurd (omega (arith, l))
 no_sample (x ∷ xs) (suc n) l = no_sample xs n (omega (arith, l))
 
--- there is none, and this is what was answered of the next picture
+-- there is none, and this is the result of reading the next picture
 pub behind_samples : (g : Given) (ss : List Sample) (n : ℕ) → g.samples ≡ ss → length ss ≤ n → nothing_further g n tt ≡ by_picture n (picture_in g n)
 behind_samples g ss n e l = ap (λ l. by_sample g n (slice_get l n)) e ∙ ap (by_sample g n) (no_sample ss n l)
 
 pub further_picture : (g : Given) (ss : List Sample) (n : ℕ) (p : Picture) → g.samples ≡ ss → length ss ≤ n → picture_in g n ≡ Ok (Some p) → ends.Refused n 10 ≡ nothing_further g n tt
 further_picture g ss n p e l is = sym (behind_samples g ss n e l ∙ ap (by_picture n) is)
-
-pub fault_behind : (g : Given) (ss : List Sample) (n : ℕ) (end : LookEnd) (left : Pictures) → g.samples ≡ ss → length ss ≤ n → GivesPicture g n (Err end) left → AnswersEnd end (λ e. e ≡ nothing_further g n tt)
-fault_behind g ss n ends.Done left e l h = absurd h
-fault_behind g ss n ends.NoMemory left e l h = tt
-fault_behind g ss n ends.ReadFault left e l h = tt
-fault_behind g ss n ends.WriteFault left e l h = tt
-fault_behind g ss n (ends.BadPictures kind place) left e l h = sym (behind_samples g ss n e l ∙ ap (by_picture n) h)
-fault_behind g ss n (ends.BadMovie kind place) left e l h = absurd h
-fault_behind g ss n (ends.BadFrame sample kind place) left e l h = absurd h
-fault_behind g ss n (ends.BadProof kind place) left e l h = absurd h
-fault_behind g ss n (ends.Refused frame clause) left e l h = absurd h

@@ -21,50 +21,13 @@ use Rattle.rate_build.specs.Measures.{quantised_block, quantised_part}
 use Rattle.rate_build.specs.Coefficients.{FrameCoefficients}
 use Rattle.rate_build.specs.Coding.{coded_slice, coded_slices, coded_picture, coded_frame, weights_in}
 use Rattle.rate_build.proofs.Chosen.{picture_is}
-use Rattle.run_look.specs.Agreeing.{SameForm, SameCodes, SameWeights}
+pub use Rattle.rate_build.proofs.Lengths.{coded_number}
+use Rattle.rate_build.proofs.Straight.{coded_at}
 
 -- a test that decides
 pub decided : {P : Type 0} (b : Bool) → Decides b P → IsTrue b ↔ P
 decided true d = yes (d.0 refl)
 decided false d = no (λ p. let f : false ≡ true = d.1 p in absurd cc)
-
--- ---- headers
-
-pub headers_same : (a b : FrameHeader) → SameForm a b → SameCodes a b → SameWeights a b → a ≡ b
-headers_same a b f c w = λ i. record {
-  version = f.0 i;
-  encoder = f.1 i;
-  width = f.2 i;
-  height = f.3 i;
-  chroma = f.4 i;
-  interlace = f.5 i;
-  aspect = c.0 i;
-  rate = c.1 i;
-  primaries = c.2 i;
-  transfer = c.3 i;
-  matrix = c.4 i;
-  alpha = f.6 i;
-  luma = w.0 i;
-  chroma_weights = w.1 i;
-}
-
-pub form_of_same : (a b : FrameHeader) → a ≡ b → SameForm a b
-form_of_same a b e = (
-  ap (λ (h : FrameHeader). h.version) e,
-  ap (λ (h : FrameHeader). h.encoder) e,
-  ap (λ (h : FrameHeader). h.width) e,
-  ap (λ (h : FrameHeader). h.height) e,
-  ap (λ (h : FrameHeader). h.chroma) e,
-  ap (λ (h : FrameHeader). h.interlace) e,
-  ap (λ (h : FrameHeader). h.alpha) e,
-)
-
-pub codes_of_same : (a b : FrameHeader) → a ≡ b → SameCodes a b
-codes_of_same a b e =
-    (ap (λ (h : FrameHeader). h.aspect) e, ap (λ (h : FrameHeader). h.rate) e, ap (λ (h : FrameHeader). h.primaries) e, ap (λ (h : FrameHeader). h.transfer) e, ap (λ (h : FrameHeader). h.matrix) e)
-
-pub weights_of_same : (a b : FrameHeader) → a ≡ b → SameWeights a b
-weights_of_same a b e = (ap (λ (h : FrameHeader). h.luma) e, ap (λ (h : FrameHeader). h.chroma_weights) e)
 
 -- one more
 pub step : (P : ℕ → Type 0) (n : ℕ) → ((k : ℕ) → k < n → P k) → P n → (k : ℕ) → k < n + 1 → P k
@@ -100,18 +63,6 @@ pub slice_is : (w : Weights) (index : ℕ) (s : SliceCoefficients) (x : CodedSli
     → x.cr ≡ quantised_part w.chroma index s.cr → x.alpha ≡ s.alpha → x ≡ coded_slice w index s
 slice_is w index s x a b c d e = λ i. record { index = a i; y = b i; cb = c i; cr = d i; alpha = e i }
 
-pub coded_number : (w : Weights) (slices : List SliceCoefficients) (choice : List ℕ) → length choice ≡ length slices → length (coded_slices w slices choice) ≡ length slices
-coded_number w [] choice e = refl
-coded_number w (s ∷ slices) [] e = absurd (omega (arith, e))
-coded_number w (s ∷ slices) (index ∷ choice) e = ap suc (coded_number w slices choice (omega (arith, e)))
-
-pub coded_at : (w : Weights) (slices : List SliceCoefficients) (choice : List ℕ) (k : ℕ) (d : SliceCoefficients) (x : CodedSlice) → length choice ≡ length slices → k < length slices
-    → get_or (coded_slices w slices choice) k x ≡ coded_slice w (get_or choice k 0) (get_or slices k d)
-coded_at w [] choice k d x e l = absurd (omega (arith, l))
-coded_at w (s ∷ slices) [] k d x e l = absurd (omega (arith, e))
-coded_at w (s ∷ slices) (index ∷ choice) zero d x e l = refl
-coded_at w (s ∷ slices) (index ∷ choice) (suc k) d x e l = coded_at w slices choice k d x (omega (arith, e)) (omega (arith, l))
-
 pub coded_whole : (w : Weights) (slices : List SliceCoefficients) (choice : List ℕ) (coded : List CodedSlice) → length choice ≡ length slices → length coded ≡ length slices
     → ((k : ℕ) (d : SliceCoefficients) (x : CodedSlice) → k < length slices → get_or coded k x ≡ coded_slice w (get_or choice k 0) (get_or slices k d)) → coded ≡ coded_slices w slices choice
 coded_whole w slices choice coded number long each =
@@ -141,10 +92,6 @@ pub frame_at : (c : FrameCoefficients) (h : FrameHeader) (choice : List ℕ) (f 
 frame_at c h choice f k d l e =
     ap (λ (x : CodedFrame). get_or x.pictures k d) e
     ∙ get_or-map-range_with_len (coded_picture c (coded_slices (weights_in h) c.slices choice)) 0 (pictures_of c.layout.interlace) k k d l (omega arith)
-
-pub frame_number : (c : FrameCoefficients) (h : FrameHeader) (choice : List ℕ) (f : CodedFrame) → f ≡ coded_frame c h choice → length f.pictures ≡ pictures_of c.layout.interlace
-frame_number c h choice f e =
-    ap (λ (x : CodedFrame). length x.pictures) e ∙ length-map-range_with_len (coded_picture c (coded_slices (weights_in h) c.slices choice)) 0 (pictures_of c.layout.interlace)
 
 pub frame_whole : (c : FrameCoefficients) (h : FrameHeader) (choice : List ℕ) (f : CodedFrame) → f.header ≡ h → length f.pictures ≡ pictures_of c.layout.interlace
     → ((k : ℕ) (d : CodedPicture) → k < pictures_of c.layout.interlace → get_or f.pictures k d ≡ coded_picture c (coded_slices (weights_in h) c.slices choice) k) → f ≡ coded_frame c h choice

@@ -11,7 +11,7 @@ use Rattle.run_look.specs.declared.end.LookEnd.TheVariants as ends
 use Rattle.run_look.specs.Ends.{AnswersEnd}
 use Rattle.run_look.specs.Checking.{frames_in, Step, went, RecordIs, NextIs, RecordsAre, Alone, done_at_end, RecordsAlone, EndsThere, NextGood, Counts}
 
--- what is said of an end is said of it in other words
+-- a fact of an outcome, in other words
 pub answers_end : (end : LookEnd) (P Q : LookEnd → Type 0) → ((e : LookEnd) → P e → Q e) → AnswersEnd end P → AnswersEnd end Q
 answers_end ends.NoMemory P Q h p = tt
 answers_end ends.ReadFault P Q h p = tt
@@ -23,11 +23,11 @@ answers_end (ends.BadFrame sample kind place) P Q h p = h _ p
 answers_end (ends.BadProof kind place) P Q h p = h _ p
 answers_end (ends.Refused frame clause) P Q h p = h _ p
 
--- the records of a proof by itself, where at most so many are read
+-- the records of a proof by itself, if at most this many are read
 abbrev pub AloneFrom : ℕ → ℕ → Settings → Progress → ℕ → Rest → LookEnd → ℕ → Type 0
 AloneFrom most format s p frames rest end n = RecordsAre Alone done_at_end most format s p frames rest tt end n
 
--- how many marks may still be read
+-- the number of marks that may still be read
 abbrev pub marks_left : Progress → ℕ
 marks_left p = suc most_records - p.count
 
@@ -67,7 +67,7 @@ alone-stop format s p frames rest end le h =
     (stops s frames (next_at format p rest) end ((end ≡ ends.Done) × (0 ≡ p.count)) (λ r. Alone s r frames tt)
     (λ r behind more. RecordsAre Alone done_at_end (most_records - p.count) format s (after s p (Some r)) (frames + frames_in s r) behind more end 0) h)
 
--- the same where the code's numbers are said to be these
+-- the same for numbers of the code that equal these
 pub alone-further : (format format' : ℕ) (s s' : Settings) (p p' : Progress) (frames frames' : ℕ) (rest behind : Rest) (r : Record) (end : LookEnd) (n : ℕ)
     → format' ≡ format → s' ≡ s → p' ≡ after s p (Some r) → frames' ≡ frames + frames_in s r → p.count ≤ most_records
     → next_at format p rest ≡ Ok (Some r, behind) → IsGood s r
@@ -86,7 +86,7 @@ pub alone-start : (format : ℕ) (s : Settings) (p : Progress) (rest : Rest) (en
     → AloneFrom (marks_left p) format s p 0 rest end n → RecordsAlone format s rest end n
 alone-start format s p rest end n e h = subst (λ (q : Progress). AloneFrom (marks_left q) format s q 0 rest end n) e h
 
--- ---- over what was answered of the next record
+-- ---- by the result of reading the next record
 
 pub some_of : (o : Option Record) (r : Record) (P : Record → Type 0) → o ≡ Some r → IfSome o P → P r
 some_of o r P e h = subst (λ (x : Option Record). IfSome x P) e h

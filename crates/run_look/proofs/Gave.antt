@@ -1,4 +1,4 @@
--- What a read gave are bytes.
+-- The result of a read consists of bytes.
 use Rattle.std.proofs.Common.{◌≡◌, ℕ, zero, suc, List, [], ◌∷◌, ◌++◌, take, Option, Some, None, Result, Ok, Err, false, true, arith, refl, sym, subst, ◌∙◌}
 use Rattle.std.specs.Prelude.{IsSome}
 use Rattle.std.specs.Io.KnownBytes.{Consumes, Keeps, ReadConsumes, IsAtEnd}
@@ -11,7 +11,7 @@ bytes-append [] b ha hb i = hb i
 bytes-append (x ∷ a) b ha hb zero = ha 0
 bytes-append (x ∷ a) b ha hb (suc i) = bytes-append a b (λ k. ha (suc k)) hb i
 
--- nothing is told
+-- opaque bytes
 abbrev no_bytes : Option (List ℕ)
 no_bytes = None
 
@@ -39,7 +39,7 @@ gave_read old new (Err e) piece n fit c = kept_all old new n c
 pub gave_then : {N : Type 0} {a b c : Option (List ℕ)} {n m l : N} → GaveBytes a b n m → GaveBytes b c m l → GaveBytes a c n l
 gave_then p q = record { same = q.same ∙ p.same; told = λ t. q.told (p.told t); bytes = λ t h. p.bytes t (q.bytes (p.told t) h) }
 
--- all was given
+-- all bytes were read
 pub gave_all : {N : Type 0} (old new : Option (List ℕ)) (n m : N) → GaveBytes old new n m → IsAtEnd new → IsSome old → AreBytes (bytes_of old)
 gave_all old None n m g end t = g.bytes t none
   where

@@ -16,7 +16,7 @@ use Rattle.run_look.specs.Checking.{frames_in, ended, went, RecordsAre, EndsTher
 use Rattle.run_look.specs.Agreeing.{Given, given, AreBeside, AreLeft, TakesGroup, nothing_further, RecordsWith}
 use Rattle.run_look.proofs.Alone.{answers_end, marks_left, suc_left, stops}
 
--- what was answered beside a record, where the code's numbers are said to be these
+-- the result beside a record, for numbers of the code that equal these
 pub group_here : (b b' : Option (List ℕ)) (ss : List Sample) (o : Option (List ℕ)) (l : Layout) (s s' : Settings) (r : Record) (frames : ℕ) (result : Result (Unit {0}) LookEnd) (left left' : Pictures)
     → b' ≡ b → s' ≡ s → Told b' (λ file. IsSome o → (ps : Pictures) → AreLeft (given file ss ps) frames left → TakesGroup (given file ss ps) l s' r frames result left')
     → IsSome b → IsSome o → (ps : Pictures) → AreLeft (given (bytes_of b) ss ps) frames left → TakesGroup (given (bytes_of b) ss ps) l s r frames result left'
@@ -26,7 +26,7 @@ group_here b b' ss o l s s' r frames result left left' eb es takes =
     subst (λ x. Told b (λ file. IsSome o → (ps : Pictures) → AreLeft (given file ss ps) frames left → TakesGroup (given file ss ps) l x r frames result left')) es a
 
 module _ (g : Given) (l : Layout) where
-  -- the records from here on, where at most so many are read
+  -- the records from here on, if at most this many are read
   abbrev pub From : ℕ → ℕ → Settings → Progress → ℕ → Rest → LookEnd → ℕ → Type 0
   From most format s p frames rest end n = RecordsAre (AreBeside g l) (nothing_further g) most format s p frames rest tt end n
 
@@ -64,9 +64,9 @@ module _ (g : Given) (l : Layout) where
       (stops s frames (next_at format p rest) end ((end ≡ nothing_further g frames tt) × (0 ≡ p.count)) (λ r. AreBeside g l s r frames tt)
       (λ r behind more. RecordsAre (AreBeside g l) (nothing_further g) (most_records - p.count) format s (after s p (Some r)) (frames + frames_in s r) behind more end 0) h)
 
-  -- ---- over what was answered of the next record
+  -- ---- by the result of reading the next record
 
-  -- a good record was read, and its samples and pictures agree; the code's numbers are said to be these
+  -- a good record was read, and its samples and pictures agree; for numbers of the code that equal these
   pub from-on : (format format' : ℕ) (s s' : Settings) (p p' : Progress) (frames frames' : ℕ) (rest behind : Rest) (next : Option Record) (r : Record) (end : LookEnd) (n : ℕ)
       → next ≡ Some r → NextGood format s p frames rest (Ok next) behind → format' ≡ format → s' ≡ s → p' ≡ after s p next → frames' ≡ frames + frames_in s r → p.count ≤ most_records
       → AreBeside g l s r frames tt (went tt) → From (marks_left p') format' s' p' frames' behind end n → From (marks_left p) format s p frames rest end n
@@ -81,14 +81,14 @@ module _ (g : Given) (l : Layout) where
       subst (λ (k : ℕ). From (marks_left (after s p (Some r))) format s (after s p (Some r)) k behind end n) en c in
       from-more format s p frames rest behind r end n le here.0 here.1 beside d
 
-  -- the end was read, and nothing further stands behind it
+  -- the end was read, and nothing comes after it
   pub from-over : (format : ℕ) (s : Settings) (p : Progress) (frames : ℕ) (rest behind : Rest) (next : Option Record) (n : ℕ) → ((r : Record) → next ≡ Some r → ⊥)
       → NextGood format s p frames rest (Ok next) behind → p.count ≡ n → p.count ≤ most_records → nothing_further g frames tt ≡ ends.Done → From (marks_left p) format s p frames rest ends.Done n
   from-over format s p frames rest behind None n not is e le done =
       subst (λ (k : ℕ). From (marks_left p) format s p frames rest ends.Done k) e (from-end format s p frames rest behind ends.Done le is.0 (sym done))
   from-over format s p frames rest behind (Some r) n not is e le done = absurd (not r refl)
 
-  -- the end was read, and something further stands behind it
+  -- the end was read, and something comes after it
   pub from-further : (format : ℕ) (s : Settings) (p : Progress) (frames : ℕ) (rest behind : Rest) (next : Option Record) (end : LookEnd) (Is : LookEnd → ℕ → Type 0) → ((r : Record) → next ≡ Some r → ⊥)
       → NextGood format s p frames rest (Ok next) behind → p.count ≤ most_records → ((e : LookEnd) (n : ℕ) → From (marks_left p) format s p frames rest e n → Is e n)
       → AnswersEnd end (λ e. e ≡ nothing_further g frames tt) → Counts Is (Err end)

@@ -7,7 +7,6 @@ pub mod Rewriting
 pub mod Reproofed
 pub mod Alike
 pub mod Parts
-pub mod Placed
 pub mod OnceWith
 pub mod Agreed
 pub mod Going

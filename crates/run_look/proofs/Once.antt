@@ -1,4 +1,4 @@
--- Checking a proof ends in one way.
+-- Checking a proof ends in only one way.
 use Rattle.std.proofs.Common.{◌≡◌, ℕ, zero, suc, ◌+◌, inl, inr, List, Option, None, Some, Result, Ok, Err, refl, sym, ap, subst, ◌∙◌}
 use Rattle.std.specs.Bool.{OnTrue}
 use Rattle.pw_outside.specs.Reading.{Fault, Rest}
@@ -14,7 +14,7 @@ use Rattle.run_look.specs.declared.end.LookEnd.TheVariants as ends
 use Rattle.run_look.specs.Ends.{AnswersEnd, IsReadersEnd, is_read_fault, is_write_fault, is_stopped_by_source}
 use Rattle.run_look.specs.Checking.{frames_in, Goes, RecordIs, NextIs, RecordsAre, Alone, done_at_end, RecordsAlone, HeadIs, ChecksAlone, EndsOnce, CompletesCheck}
 
--- ---- the first clause that fails is one
+-- ---- the first clause that fails is unique
 
 asks_once : (k : ℕ) (P : Type 0) (behind : ℕ → Type 0) (n m : ℕ) → (behind n → behind m → n ≡ m) → Asks k P behind n → Asks k P behind m → n ≡ m
 asks_once k P behind n m h (inl a) (inl b) = a.0 ∙ sym b.0

@@ -1,8 +1,9 @@
--- Checking a proof with a movie and pictures, where it is done, ends in no other way.
+-- If checking a proof with a movie and pictures is done, it ends in no other way.
 use Rattle.std.proofs.Common.{◌≡◌, ℕ, zero, suc, ◌+◌, ◌*◌, ◌/◌, inl, inr, List, length, map, take, drop, Option, None, Some, Result, Ok, Err, Bool, true, false, ap, sym, subst, ◌∙◌}
 use Rattle.std.specs.Prelude.{◌==◌}
 use Rattle.std.specs.List.{flat_map, range_with_len}
 use Rattle.pw_outside.specs.Reading.{Fault, Rest, bad}
+use Rattle.pw_outside.proofs.Results.{none_not_some}
 use Rattle.pw_planes.specs.declared.picture.Picture.{Picture}
 use Rattle.pic_y4m.specs.declared.fault.PictureKind.{PictureKind}
 use Rattle.pic_y4m.specs.declared.head.Head.{Head}
@@ -22,6 +23,7 @@ use Rattle.qt_tables.specs.declared.fault.MovieKind.{MovieKind}
 use Rattle.qt_tables.specs.declared.runs.Sample.{Sample}
 use Rattle.qt_tables.specs.Samples.{samples}
 use Rattle.qt_movie.specs.Movie.{Movie, movie_in, span_in}
+use Rattle.qt_movie.proofs.Inside.{not_outside}
 use Rattle.rate_table.specs.declared.fault.ProofKind.{ProofKind}
 use Rattle.rate_build.specs.Coefficients.{frame_coefficients, picture_coefficients, slice_coefficients, coded_pictures, planes_of}
 use Rattle.rate_build.specs.Coding.{coded_slices, coded_picture, coded_frame, weights_in}
@@ -35,9 +37,8 @@ use Rattle.run_look.specs.declared.end.LookEnd.TheVariants as ends
 use Rattle.run_look.specs.Checking.{frames_in, ended, went, RecordIs, NextIs, RecordsAre, HeadIs}
 use Rattle.run_look.specs.Agreeing.{Given, given, weights_of, header_of, coefficients_in, picture_in, sample_in, sample_bytes, IsSampleOf, IsAsSaid, IsPictureOf, SampleAgrees, SampleEnds, PictureAgrees, PictureEnds, AreBeside, nothing_further, form_of, AreHeaded, HasPictures, IsMovie, RecordsWith, ChecksOn, Checks}
 use Rattle.run_look.proofs.Once.{fails_none}
-use Rattle.run_look.proofs.Placed.{not_outside}
 
--- ---- layouts of the same settings say the same
+-- ---- layouts of the same settings have the same parts
 
 module _ (l m : Layout) (w h n : ℕ) (mode : Interlace) (format : Chroma) (a : IsLayoutOf l w h n mode format) (b : IsLayoutOf m w h n mode format) where
   width : l.width ≡ m.width
@@ -84,14 +85,8 @@ module _ (l m : Layout) (w h n : ℕ) (mode : Interlace) (format : Chroma) (a : 
 
 -- ---- the samples and the pictures of a record
 
-no_fault : (o : Option (Fault FrameKind)) (f : Fault FrameKind) → o ≡ Some f → o ≡ None → ⊥
-no_fault o f a b = cc
-
 same_sample : (o : Option Sample) (x y : Sample) → o ≡ Some x → o ≡ Some y → x ≡ y
 same_sample o x y a b = cc
-
-none_some : (o : Option Sample) (x : Sample) → o ≡ None → o ≡ Some x → ⊥
-none_some o x a b = cc
 
 wanting : (o : Result (Option Picture) (Fault PictureKind)) (p : Picture) → o ≡ Ok None → o ≡ Ok (Some p) → ⊥
 wanting o p a b = cc
@@ -111,10 +106,10 @@ module _ (fine : FrameHasNoFault) (one : OneFrame) (g : Given) (s : Settings) (r
       not_outside g.file a.sample kind place a.of.inside (subst (λ y. span_in g.file y ≡ bad kind place) (sym same) outside)
   sample_stays k (ends.BadFrame number kind place) a (n, x, there, inside, fault) =
       let same = same_sample (sample_in g (first + k)) a.sample x a.there there in
-      no_fault (frame_fault (sample_bytes g.file x)) (record { kind = kind; place = place }) fault
-      (fine (sample_bytes g.file x) a.frame (subst (λ y. IsSampleOf g.file y a.frame) same a.of).stands)
+      none_not_some (frame_fault (sample_bytes g.file x)) (record { kind = kind; place = place })
+      (fine (sample_bytes g.file x) a.frame (subst (λ y. IsSampleOf g.file y a.frame) same a.of).stands) fault
   sample_stays k (ends.BadProof kind place) a e = e
-  sample_stays k (ends.Refused number clause) a (n, c, inl none) = none_some (sample_in g (first + k)) a.sample none a.there
+  sample_stays k (ends.Refused number clause) a (n, c, inl none) = none_not_some (sample_in g (first + k)) a.sample none a.there
   sample_stays k (ends.Refused number clause) a (n, c, inr (x, there, f, of, other)) =
       let same = same_sample (sample_in g (first + k)) a.sample x a.there there in
       let frame : a.frame ≡ f = one (sample_bytes g.file x) a.frame f (subst (λ y. IsSampleOf g.file y a.frame) same a.of).stands of.stands in

@@ -12,6 +12,7 @@ use Rattle.rate_table.specs.Laws.{IndicesTellChoice}
 use Rattle.rate_cert.specs.declared.settings.Settings.{Settings}
 use Rattle.rate_cert.specs.Settings.{frame_slices}
 use Rattle.rate_table.specs.Records.{Printed}
+use Rattle.rate_table.specs.declared.table.TheConstants.{MAX_TABLE_SLICES}
 use Rattle.rate_cert.specs.Settings.{IsSettings}
 use Rattle.rate_cert.specs.Records.{Record, Said, fits, none, IsGood, IsGoodVerdict, HasIndices}
 use Rattle.rate_build.specs.Coding.{IsIndex}
@@ -27,16 +28,10 @@ part_inside s r n k g e some there =
     let all : length r.table.slices ≡ g.table.frames * n = g.table.slices ∙ ap (λ x. g.table.frames * x) (sym e) in
     omega (arith, all, mul-le (k + 1) n g.table.frames n (omega (arith, frames, there)) (omega arith))
 
--- a part of a list that is cut out
-pub cut_is : {A : Type 0} (n m k : ℕ) (l : List A) → n ≡ m → take (n * k + n - n * k) (drop (n * k) l) ≡ part_of m l k
-cut_is {A} n m k l e =
-    let long : n * k + n - n * k ≡ n = omega arith in
-    ap (λ x. take x (drop (n * k) l)) long ∙ ap (λ x. take x (drop (x * k) l)) e
-
 pub cut_long : {A : Type 0} (n k : ℕ) (l : List A) → n * k + n ≤ length l → length (part_of n l k) ≡ n
 cut_long {A} n k l inside = length-take-le n (drop (n * k) l) (omega (arith, length-drop (n * k) l, inside))
 
--- the parts of one choice are one
+-- the parts of one choice are equal
 pub one_part : (s : Settings) (said : Said) (k : ℕ) (part part' : List ℕ) → HasPart s said k part → HasPart s said k part' → part ≡ part'
 one_part s (fits p) k part part' a b = a ∙ sym b
 one_part s (none least) k part part' a b = absurd a
@@ -81,7 +76,7 @@ part_indices s r (fits p) k part is g v h =
 -- ---- the size of a part
 
 -- a choice with these indices has this size
-pub size_one : IndicesTellChoice → (slices : List (List Entry)) → 1 ≤ length slices → length slices ≤ 131070 → All IsSliceTable slices → (chosen : List ℕ) (size error : ℕ) → HasSums slices chosen size error
+pub size_one : IndicesTellChoice → (slices : List (List Entry)) → 1 ≤ length slices → length slices ≤ MAX_TABLE_SLICES → All IsSliceTable slices → (chosen : List ℕ) (size error : ℕ) → HasSums slices chosen size error
     → (share n : ℕ) → HasSize slices chosen share n → n ≡ share + size
 size_one tell slices some few each chosen size error (choice, is, has, s, e) share n (entries, is', has', sized) =
     let t : Table = record { budget = 1; fixed = 0; slices = slices } in
@@ -95,7 +90,7 @@ size_has slices chosen size error share n (choice, is, has, s, e) sized = (choic
 eq_test : (a b : ℕ) → IsTrue (nat_eq a b) ↔ (a ≡ b)
 eq_test a b = ((λ t. eqb-true a b (search rules)), (λ e. let t : nat_eq a b ≡ true = eq-eqb a b e in search rules))
 
-pub size_test : IndicesTellChoice → (slices : List (List Entry)) → 1 ≤ length slices → length slices ≤ 131070 → All IsSliceTable slices → (chosen : List ℕ) (size error : ℕ) → HasSums slices chosen size error
+pub size_test : IndicesTellChoice → (slices : List (List Entry)) → 1 ≤ length slices → length slices ≤ MAX_TABLE_SLICES → All IsSliceTable slices → (chosen : List ℕ) (size error : ℕ) → HasSums slices chosen size error
     → (a b share n : ℕ) → a ≡ n → b ≡ share → IsTrue (nat_eq a (b + size)) ↔ HasSize slices chosen share n
 size_test tell slices some few each chosen size error has a b share n ea eb =
     let test = eq_test a (b + size) in (

@@ -1,4 +1,4 @@
--- A whole proof that is written again.
+-- A whole proof that is rewritten.
 use Rattle.std.proofs.Common.{◌≡◌, ℕ, zero, suc, Bool, true, false, Option, None, Some, Result, Ok, Err, List, [], ◌∷◌, ◌++◌, length, refl, sym, ap, subst, arith, append-nil, if◌then◌else◌, ◌∙◌}
 use Rattle.std.specs.List.{flat_map}
 use Rattle.pw_outside.specs.Reading.{Fault, Rest, bind, Fails}
@@ -63,12 +63,12 @@ same_said bytes format s rest head is e are =
       ap (λ (x : Reproofed). proved x.cert) new ∙ ap proved (cert_done s w e) ∙ proof-again 2 s w.records (omega arith, omega arith) is are,
     )
 
--- the head was read
+-- the header was read
 pub by_head : (bytes : List ℕ) (format : ℕ) (s : Settings) (rest : Rest) → head_at (record { place = 0; bytes = bytes }) ≡ Ok ((format, s), rest) → reproofed bytes ≡ reproofed_of s (rewritten_at (suc most_records) format s no_records rest)
 unfolding reproofed
 by_head bytes format s rest e = ap reproofed_by e
 
--- the head has a fault
+-- the header has a fault
 pub by_fault : (bytes : List ℕ) (fault : TableFault) → Fails told_fault fault (head_at (record { place = 0; bytes = bytes })) → AnswersUnlessOutside (fault_end fault) (reproofed bytes).end
 unfolding reproofed
 by_fault bytes (faults.Bad kind place) h = sym (ap (λ x. (reproofed_by x).end) h)
@@ -82,11 +82,11 @@ fault_cert bytes (faults.Bad kind place) before h none = subst (Puts before befo
 fault_cert bytes faults.Failed before h none = record { out = 0; front = none }
 fault_cert bytes faults.NoMemory before h none = record { out = 0; front = none }
 
--- a front of the head was written
+-- a prefix of the header was written
 pub head_part : (s : Settings) (w : Rewritten) (a b : SinkState) → PutsFront a b (head_bytes 2 s) → PutsFront a b (reproofed_of s w).cert
 head_part s w a b p = front_more _ p
 
--- the head was written, and a front of the records
+-- the header was written, and a prefix of the records
 records_part : (s : Settings) (w : Rewritten) (a b c : SinkState) → Puts a b (head_bytes 2 s) → PutsFront b c (flat_map (record_bytes 2) w.records) → PutsFront a c (reproofed_of s w).cert
 records_part s w a b c p q = then_front p (front_more _ q)
 
@@ -120,7 +120,7 @@ err_cert s w (ends.BadFrame sample kind place) a b c p not e q = records_whole s
 err_cert s w (ends.BadProof kind place) a b c p not e q = records_whole s w _ a b c not e p q
 err_cert s w (ends.Refused frame clause) a b c p not e q = records_whole s w _ a b c not e p q
 
--- all records were written, and a front of the end
+-- all records were written, and a prefix of the end
 cert_is : (s : Settings) (w : Rewritten) (n : ℕ) → EndsAs (Ok n) w → (reproofed_of s w).cert ≡ head_bytes 2 s ++ (flat_map (record_bytes 2) w.records ++ end_bytes n)
 cert_is s w n e = ap (λ (x : LookEnd). head_bytes 2 s ++ (flat_map (record_bytes 2) w.records ++ where_done x (end_bytes (length w.records)))) e.0
     ∙ ap (λ (k : ℕ). head_bytes 2 s ++ (flat_map (record_bytes 2) w.records ++ end_bytes k)) (sym e.1)
@@ -138,7 +138,7 @@ text_done s w n e = ap (λ (x : LookEnd). where_done x (reproof_text (length w.r
 
 -- ---- the line that is printed
 
--- Where it ended by a fault of the input, no line is printed.
+-- If a fault of the input ended it, no line is printed.
 pub no_text : (bytes : List ℕ) (end : LookEnd) (before : SinkState) → is_done end ≡ false → AnswersUnlessOutside end (reproofed bytes).end → Puts before before [] → PutsUntil end (reproofed bytes).text before before
 unfolding reproofed
 no_text bytes end before not e none = by_end end not e
@@ -172,18 +172,6 @@ no_text bytes end before not e none = by_end end not e
     by_end (ends.BadProof kind place) not e = whole _ not e
     by_end (ends.Refused frame clause) not e = whole _ not e
 
--- the line was printed, or a front of it
-pub printed_text : (end : LookEnd) (line : List ℕ) (before after : SinkState) → AnswersUnlessOutside end ends.Done → PrintsLine end line before after → PutsUntil end line before after
-printed_text ends.Done line before after e p = p
-printed_text ends.NoMemory line before after e p = record { out = 0; front = p }
-printed_text ends.ReadFault line before after e p = record { out = 0; front = p }
-printed_text ends.WriteFault line before after e p = p
-printed_text (ends.BadPictures kind place) line before after e p = absurd cc
-printed_text (ends.BadMovie kind place) line before after e p = absurd cc
-printed_text (ends.BadFrame sample kind place) line before after e p = absurd cc
-printed_text (ends.BadProof kind place) line before after e p = absurd cc
-printed_text (ends.Refused frame clause) line before after e p = absurd cc
-
 -- all that is written before the line was written
 pub printed_cert : (end : LookEnd) (cert : List ℕ) (before after : SinkState) → Puts before after cert → PutsUntil end cert before after
 printed_cert ends.Done cert before after p = p
@@ -195,7 +183,3 @@ printed_cert (ends.BadMovie kind place) cert before after p = p
 printed_cert (ends.BadFrame sample kind place) cert before after p = p
 printed_cert (ends.BadProof kind place) cert before after p = p
 printed_cert (ends.Refused frame clause) cert before after p = p
-
--- where it is done, it is what reading gives
-pub printed_end : (end end' : LookEnd) → AnswersUnlessOutside end ends.Done → ends.Done ≡ end' → AnswersUnlessOutside end end'
-printed_end end end' e h = subst (AnswersUnlessOutside end) h e

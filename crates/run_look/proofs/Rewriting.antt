@@ -1,10 +1,10 @@
--- Writing the records of a proof again, one after the other.
+-- Rewriting the records of a proof, one after the other.
 use Rattle.std.proofs.Common.{◌≡◌, ℕ, suc, ◌+◌, ◌-◌, ◌≤◌, true, Option, None, Some, Result, Ok, Err, List, [], ◌∷◌, ◌++◌, length, refl, sym, ap, subst, arith, append_assoc, append-nil, ◌∙◌}
 use Rattle.std.specs.List.{flat_map}
 use Rattle.std.proofs.lemmas.List.Concat.{flat_map-append, flat_map-cons}
 use Rattle.pw_outside.specs.Reading.{Fault, Rest}
 use Rattle.pw_outside.specs.Writing.{SinkState, Puts, PutsFront, Extends}
-use Rattle.pw_outside.proofs.Puts.{puts_then, puts_front, front_more, then_front}
+use Rattle.pw_outside.proofs.Puts.{puts_then, puts_front, front_more, then_front, front_extends}
 use Rattle.rate_table.specs.declared.fault.ProofKind.{ProofKind}
 use Rattle.rate_cert.specs.declared.settings.Settings.{Settings}
 use Rattle.rate_cert.specs.Records.{Record}
@@ -14,11 +14,10 @@ use Rattle.run_look.specs.declared.end.LookEnd.{LookEnd}
 use Rattle.run_look.specs.declared.end.LookEnd.TheVariants as ends
 use Rattle.run_look.specs.Reproofing.{keeps_order, Rewritten, with_first, rewritten_by, rewritten_at, StopsThere, NextInOrder, EndsAs, PutsUntil}
 use Rattle.run_look.proofs.Alone.{marks_left, suc_left}
-use Rattle.run_look.proofs.Texts.{front_extends}
 
 -- ---- records that were written
 
--- how far reading is behind these records
+-- the progress of reading after these records
 abbrev pub behind_all : Settings → Progress → List Record → Progress
 behind_all s p [] = p
 behind_all s p (r ∷ rs) = behind_all s (further s p r) rs
@@ -35,7 +34,7 @@ written_push : (format : ℕ) (s : Settings) (p : Progress) (rs : List Record) (
 written_push format s p [] r are may is = (may, is, tt)
 written_push format s p (x ∷ rs) r are may is = (are.0, are.1, written_push format s (further s p x) rs r are.2 may is)
 
--- ---- what is found of the records that are left
+-- ---- the result for the records that are left
 
 abbrev pub with_all : List Record → Rewritten → Rewritten
 with_all front w = record { end = w.end; records = front ++ w.records }
@@ -46,7 +45,7 @@ nothing end = record { end = end; records = [] }
 with_all-push : (front : List Record) (r : Record) (w : Rewritten) → with_all front (with_first r w) ≡ with_all (front ++ r ∷ []) w
 with_all-push front r w = ap (λ (l : List Record). record { end = w.end; records = l }) (sym (append_assoc front (r ∷ []) w.records))
 
--- the records that are left, where so many marks may still be read
+-- the records that are left, if this number of marks may still be read
 abbrev pub rewritten_from : ℕ → Settings → Progress → Rest → Rewritten
 rewritten_from format s p rest = rewritten_at (marks_left p) format s p rest
 
@@ -86,9 +85,10 @@ from-stop format s p rest end le h =
     ap (λ (k : ℕ). rewritten_at k format s p rest) (suc_left p le)
     ∙ by_stop s p (next_at format p rest) end (λ r behind. rewritten_at (most_records - p.count) format s (after s p (Some r)) behind) h
 
--- ---- what the loop keeps
+-- ---- the loop's invariant
 
--- So many records were written: the sink took them, and, where the bytes are told, they stand in front of what is still to be found.
+-- These records were written: the sink took them; if the bytes are visible, they come before those still to be
+-- read.
 pub record SoFar (Known : Type 0) (s : Settings) (p : Progress) (before now : SinkState) (all here : Rewritten) : Type 0 where
   pub front : List Record
   pub are : AreWritten 2 s no_records front
@@ -136,7 +136,7 @@ module _ {Known : Type 0} {s : Settings} {p : Progress} {before now : SinkState}
   pub so_far-ends : (n : ℕ) → Known → here ≡ nothing ends.Done → p.count ≡ n → EndsAs (Ok n) all
   so_far-ends n h e count = (all_end ends.Done h e, let k = so_far-count in omega (arith, k, count, ap length (all_is ends.Done h e)))
 
-  -- a record was read, and a front of it was written
+  -- a record was read, and a prefix of it was written
   pub so_far-part : (now' : SinkState) (here' : Rewritten) (r : Record) → Known → here ≡ with_first r here' → PutsFront now now' (record_bytes 2 r) → PutsFront before now' (flat_map (record_bytes 2) all.records)
   so_far-part now' here' r h e part =
       let rest = flat_map (record_bytes 2) here'.records in
@@ -158,7 +158,7 @@ so_far-none Known format s p rest before e none = record {
   whole = λ h. ap (λ (q : Progress). rewritten_from format s q rest) (sym e);
 }
 
--- ---- over what was answered of the next record
+-- ---- by the result of reading the next record
 
 pub from-on : (format format' : ℕ) (s s' : Settings) (p p' : Progress) (rest behind : Rest) (next : Option Record) (r : Record) → next ≡ Some r → NextInOrder format s p rest (Ok next) behind
     → format' ≡ format → s' ≡ s → p' ≡ after s p next → p.count ≤ most_records → rewritten_from format s p rest ≡ with_first r (rewritten_from format' s' p' behind)
@@ -188,7 +188,7 @@ so_far-err format s p rest behind (ends.BadFrame sample kind place) f h le is = 
 so_far-err format s p rest behind (ends.BadProof kind place) f h le is = let e = from-stop format s p rest (ends.BadProof kind place) le is in (sym (all_end f _ h e), so_far-whole f _ h e)
 so_far-err format s p rest behind (ends.Refused frame clause) f h le is = let e = from-stop format s p rest (ends.Refused frame clause) le is in (sym (all_end f _ h e), so_far-whole f _ h e)
 
--- how far writing is behind a record
+-- the progress of writing after a record
 pub written_on : (s : Settings) (p : Progress) (w w' : Writing) (p' : Progress) (r : Record) → w' ≡ record { settings = w.settings; format = w.format; progress = further w.settings w.progress r }
     → w ≡ record { settings = s; format = 2; progress = p } → p' ≡ further s p r → w' ≡ record { settings = s; format = 2; progress = p' }
 written_on s p w w' p' r e is reached =

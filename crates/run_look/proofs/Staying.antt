@@ -1,4 +1,4 @@
--- A proof in format 2 comes out byte for byte.
+-- A proof in format 2 is rewritten byte for byte.
 use Rattle.std.proofs.Common.{◌≡◌, ℕ, zero, suc, true, Option, None, Some, Ok, List, [], ◌∷◌, refl, sym, ap, subst, ◌∙◌}
 use Rattle.pw_outside.specs.Reading.{Rest, AreBytes}
 use Rattle.pw_outside.specs.Writing.{SinkState, Puts}
@@ -22,7 +22,7 @@ use Rattle.run_look.proofs.Reproofed.{by_head, cert_done}
 abbrev done : List Record → Rewritten
 done rs = record { end = ends.Done; records = rs }
 
--- what can be said in format 2 keeps the order
+-- a verdict that can be written in format 2 keeps the order
 keeps : (t : Table) (s : Said) → CanBeSaid 2 t s → keeps_order s ≡ true
 keeps t (fits p) can = all-ordered p.layers (can.order refl)
 keeps t (none least) can = refl
@@ -72,6 +72,6 @@ stays bytes fit (p, e, two) =
           ∙ sym (proof-spelled bytes p fit e two),
     )
 
--- so the bytes that were read were written
+-- so the bytes that were read are the bytes written
 pub same_put : (bytes : List ℕ) (before after : SinkState) → AreBytes bytes → IsProofIn 2 bytes → Puts before after (reproofed bytes).cert → Puts before after bytes
 same_put bytes before after fit is puts = subst (Puts before after) (stays bytes fit is).1 puts

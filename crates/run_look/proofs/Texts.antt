@@ -2,20 +2,13 @@
 use Rattle.std.proofs.Common.{ℕ, ◌≤◌, List, [], ◌++◌, take}
 use Rattle.pw_outside.specs.Ports.{last}
 use Rattle.pw_outside.specs.Writing.{SinkState, Puts, PutsFront, Extends}
-use Rattle.pw_outside.proofs.Puts.{puts_none, puts_then}
+pub use Rattle.pw_outside.proofs.Puts.{none_extends, front_extends}
+use Rattle.pw_outside.proofs.Puts.{puts_then}
 use Rattle.run_look.specs.declared.end.LookEnd.{LookEnd}
 use Rattle.run_look.specs.declared.end.LookEnd.TheVariants as ends
 use Rattle.run_look.specs.Ends.{PrintsLine}
 
--- the first bytes of some lines were appended
-pub front_extends : (before after : SinkState) (lines : List ℕ) → PutsFront before after lines → Extends before after
-front_extends before after lines p = (take p.out lines, p.front)
-
--- nothing was appended
-pub none_extends : (before : SinkState) → before.taken ≤ last → Extends before before
-none_extends before h = ([], puts_none before h)
-
--- a line, a front of it, or nothing was appended
+-- a line, a prefix of it, or nothing was appended
 pub printed_extends : (end : LookEnd) (line : List ℕ) (before after : SinkState) → PrintsLine end line before after → Extends before after
 printed_extends ends.Done line before after p = (line, p)
 printed_extends ends.WriteFault line before after p = front_extends before after line p
@@ -30,6 +23,3 @@ printed_extends (ends.Refused frame clause) line before after p = ([], p)
 -- one thing was appended, and then another
 pub extends_then : (a b c : SinkState) (bytes : List ℕ) → Puts a b bytes → Extends b c → Extends a c
 extends_then a b c bytes p q = (bytes ++ q.0, puts_then p q.1)
-
-pub extends_both : (a b c : SinkState) → Extends a b → Extends b c → Extends a c
-extends_both a b c p q = (p.0 ++ q.0, puts_then p.1 q.1)

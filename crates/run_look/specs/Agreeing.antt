@@ -1,5 +1,5 @@
--- When a movie and pictures agree with the records of a proof, and how checking a proof with both ends. Our own definitions, over frames
--- as SMPTE RDD 36 codes them. Everything stands in the order in which it is asked.
+-- When a movie and pictures agree with the records of a proof, and the outcome of checking a proof with both. Our
+-- own definitions, over frames as SMPTE RDD 36 codes them. Faults and clauses come in the order of checking.
 use Rattle.std.specs.Prelude.{◌≡◌, ℕ, suc, ◌+◌, ◌*◌, ◌/◌, ◌<◌, ◌≤◌, ◌⊎◌, ◌==◌, Bool, true, false, if◌then◌else◌, List, map, take, drop, length, slice_get, get_or, Option, None, Some, Result, Ok, Err}
 use Rattle.std.specs.Bool.{OnTrue, OnFalse}
 use Rattle.std.specs.List.{All, flat_map}
@@ -42,7 +42,7 @@ use Rattle.run_look.specs.Checking.{frames_in, Step, ended, went, RecordsAre, He
 
 -- ---- what a proof is checked with
 
--- a movie's bytes and samples, and pictures with the fault that ends them, if one does
+-- a movie's bytes and samples, and pictures with the fault that ends them, if there is one
 pub record Given : Type 0 where
   pub file : List ℕ
   pub samples : List Sample
@@ -51,7 +51,7 @@ pub record Given : Type 0 where
 abbrev pub given : List ℕ → List Sample → Pictures → Given
 given file ss ps = record { file = file; samples = ss; pictures = ps }
 
--- the sample of a number, if there is one
+-- the sample with this number, if there is one
 abbrev pub sample_in : Given → ℕ → Option Sample
 sample_in g number = slice_get g.samples number
 
@@ -63,13 +63,13 @@ picture_or (Some p) fault = Ok (Some p)
 picture_or None None = Ok None
 picture_or None (Some f) = Err f
 
--- the picture of a number; where there is none, the fault that ends the pictures, if one does
+-- the picture with this number; without one, the fault that ends the pictures, if there is one
 abbrev pub picture_in : Given → ℕ → Result (Option Picture) (Fault PictureKind)
 picture_in g number = picture_or (slice_get g.pictures.pictures number) g.pictures.fault
 
--- ---- what a record says of its frames
+-- ---- a record's frames
 
--- part k of a list, n things each
+-- part k of a list that is cut into parts of n items
 abbrev pub part_of : {A : Type 0} → ℕ → List A → ℕ → List A
 part_of n things k = take n (drop (n * k) things)
 
@@ -77,7 +77,7 @@ part_of n things k = take n (drop (n * k) things)
 abbrev pub slices_in : Settings → Record → ℕ → List (List Entry)
 slices_in s r k = part_of (frame_slices s) r.table.slices k
 
--- The indices of frame k are this part of the choice; where no choice fits, no frame has indices.
+-- The indices of frame k are this part of the choice; if no choice fits, no frame has indices.
 abbrev pub HasPart : Settings → Said → ℕ → List ℕ → Type 0
 HasPart s (fits p) k part = part ≡ part_of (frame_slices s) p.choice k
 HasPart s (none least) k part = ⊥
@@ -85,7 +85,7 @@ HasPart s (none least) k part = ⊥
 abbrev pub weights_of : Settings → Weights
 weights_of s = record { luma = s.luma; chroma = s.chroma_weights }
 
--- the header that frames of these settings have
+-- the header of frames with these settings
 abbrev pub header_of : Settings → FrameHeader
 header_of s = own_header_of s.width s.height s.chroma s.interlace s.alpha (weights_of s)
 
@@ -98,12 +98,13 @@ indices_of x = map (λ (slice : CodedSlice). slice.index) x.slices
 abbrev pub indices_in : CodedFrame → List ℕ
 indices_in f = flat_map indices_of f.pictures
 
--- A part of a choice has entries, whose sizes with the frame's share of the fixed bytes are this size.
+-- A part of a choice has entries, and their sizes with the frame's share of the fixed bytes sum to `size`.
 abbrev pub HasSize : List (List Entry) → List ℕ → (share size : ℕ) → Type 0
 HasSize slices part share size = (entries : List Entry) × IsChoice slices entries × (indices entries ≡ part) × (size ≡ share + size_of entries)
 
--- The coded frame of a sample of so many bytes is what the settings and the record say of frame k: its whole header, the slicing of each
--- picture, its size, which is the frame's share of the fixed bytes and the sizes of its part of the choice, and its indices.
+-- The coded frame of a sample of `size` bytes is frame k of the settings and the record: by its whole header; the
+-- slicing of each picture; its size, which is the frame's share of the fixed bytes and the sizes of its part of the
+-- choice; and its indices.
 pub record IsAsSaid (s : Settings) (r : Record) (k : ℕ) (size : ℕ) (f : CodedFrame) : Type 0 where
   pub header : f.header ≡ header_of s
   pub slicing : All (λ (x : CodedPicture). x.log2 ≡ s.log2) f.pictures
@@ -117,7 +118,7 @@ pub record IsSampleOf (file : List ℕ) (x : Sample) (f : CodedFrame) : Type 0 w
   pub inside : x.at + x.size ≤ length file
   pub stands : FrameStands (sample_bytes file x) f
 
--- Frame k of a record behind so many frames has a sample, which stands for a frame that is as the record says.
+-- Frame k of a record with `first` frames before it has a sample, and the sample's frame is that of the record.
 pub record SampleAgrees (g : Given) (s : Settings) (r : Record) (first k : ℕ) : Type 0 where
   pub sample : Sample
   pub there : sample_in g (first + k) ≡ Some sample
@@ -125,8 +126,8 @@ pub record SampleAgrees (g : Given) (s : Settings) (r : Record) (first k : ℕ) 
   pub of : IsSampleOf g.file sample frame
   pub said : IsAsSaid s r k sample.size frame
 
--- How checking ends at the sample of frame k: it lies outside the file, or its frame has a fault; or there is none, or it is another
--- than the record says.
+-- The outcomes at the sample of frame k: it lies outside the file, or its frame has a fault; or there is none, or
+-- it isn't that of the record.
 abbrev pub SampleEnds : Given → Settings → Record → (first k : ℕ) → LookEnd → Type 0
 SampleEnds g s r first k (ends.BadMovie kind place) = (x : Sample) × (sample_in g (first + k) ≡ Some x) × (span_in g.file x ≡ bad kind place)
 SampleEnds g s r first k (ends.BadFrame number kind place) =
@@ -142,9 +143,9 @@ SampleEnds g s r first k _ = ⊥
 abbrev pub coefficients_in : Layout → Settings → Picture → FrameCoefficients
 coefficients_in l s p = record { layout = l; alpha = s.alpha; slices = frame_coefficients p l }
 
--- The record and a coded frame say of frame k what this picture is: the fixed bytes are those of its form, the frame's slices of the
--- table are what its coefficients cost at each index, and the coded frame is its coefficients quantised by the frame's part of the
--- choice, with its alpha.
+-- The picture is frame k of the record and of a coded frame: the fixed bytes are those of its form, the frame's
+-- slices of the table are the costs of its coefficients at each index, and the coded frame is its coefficients
+-- quantised by the frame's part of the choice, with its alpha.
 pub record IsPictureOf (l : Layout) (s : Settings) (r : Record) (k : ℕ) (f : CodedFrame) (p : Picture) : Type 0 where
   pub fixed : r.table.fixed ≡ frames_in s r * fixed_bytes l
   pub slices : slices_in s r k ≡ map (entries_of s.interlace s.alpha (weights_of s) s.lo s.hi) (frame_coefficients p l)
@@ -152,7 +153,7 @@ pub record IsPictureOf (l : Layout) (s : Settings) (r : Record) (k : ℕ) (f : C
   pub said : HasPart s r.said k part
   pub coded : f ≡ coded_frame (coefficients_in l s p) (header_of s) part
 
--- Frame k of a record behind so many frames has a picture, which is the one of its sample.
+-- Frame k of a record with `first` frames before it has a picture, and it is that of its sample.
 pub record PictureAgrees (g : Given) (l : Layout) (s : Settings) (r : Record) (first k : ℕ) : Type 0 where
   pub picture : Picture
   pub there : picture_in g (first + k) ≡ Ok (Some picture)
@@ -162,7 +163,8 @@ pub record PictureAgrees (g : Given) (l : Layout) (s : Settings) (r : Record) (f
   pub of : IsSampleOf g.file sample frame
   pub pictured : IsPictureOf l s r k frame picture
 
--- How checking ends at the picture of frame k: its fault ends the pictures; or there is none, or it is another.
+-- The outcomes at the picture of frame k: a fault ends the pictures there; or there is none, or it isn't that of
+-- its sample.
 abbrev pub PictureEnds : Given → Layout → Settings → Record → (first k : ℕ) → LookEnd → Type 0
 PictureEnds g l s r first k (ends.BadPictures kind place) = picture_in g (first + k) ≡ bad kind place
 PictureEnds g l s r first k (ends.Refused number clause) =
@@ -176,18 +178,19 @@ PictureEnds g l s r first k _ = ⊥
 abbrev pub SamplesAgree : Given → Settings → Record → (first n : ℕ) → Type 0
 SamplesAgree g s r first n = (k : ℕ) → k < n → SampleAgrees g s r first k
 
--- and their pictures
+-- the pictures of the first n frames of a record agree with it
 abbrev pub PicturesAgree : Given → Layout → Settings → Record → (first n : ℕ) → Type 0
 PicturesAgree g l s r first n = (k : ℕ) → k < n → PictureAgrees g l s r first k
 
--- The samples of a record's frames are asked in order, and then their pictures. The first that doesn't agree ends checking.
+-- The samples of a record's frames are checked in order, then their pictures. The first that doesn't agree ends
+-- checking.
 abbrev pub AreBeside : Given → Layout → Settings → Record → ℕ → Unit {0} → Step (Unit {0}) → Type 0
 AreBeside g l s r first x (went y) = SamplesAgree g s r first (frames_in s r) × PicturesAgree g l s r first (frames_in s r)
 AreBeside g l s r first x (ended end) = (k : ℕ) × (k < frames_in s r)
     × ((SamplesAgree g s r first k × SampleEnds g s r first k end)
     ⊎ (SamplesAgree g s r first (frames_in s r) × PicturesAgree g l s r first k × PictureEnds g l s r first k end))
 
--- ---- behind the records
+-- ---- after the records
 
 abbrev pub by_picture : ℕ → Result (Option Picture) (Fault PictureKind) → LookEnd
 by_picture frames (Err f) = ends.BadPictures f.kind f.place
@@ -198,21 +201,21 @@ abbrev pub by_sample : Given → ℕ → Option Sample → LookEnd
 by_sample g frames (Some x) = ends.Refused frames 9
 by_sample g frames None = by_picture frames (picture_in g frames)
 
--- behind the proof's end there is no further sample, and then no further picture
+-- after the proof's end there is no further sample, and then no further picture
 abbrev pub nothing_further : Given → ℕ → Unit {0} → LookEnd
 nothing_further g frames x = by_sample g frames (sample_in g frames)
 
--- ---- in front of the records
+-- ---- before the records
 
--- the head of the pictures of these settings
+-- the header of the pictures with these settings
 abbrev pub pictures_head : Settings → Head
 pictures_head s = record { width = s.width; height = s.height; chroma = s.chroma; depth = s.depth; alpha = s.alpha; interlace = s.interlace; num = s.num; den = s.den }
 
--- Raw planar pictures have no head of their own: the settings say their form.
+-- Raw planar pictures have no header of their own: the settings determine their form.
 abbrev pub form_of : Settings → Option Head
 form_of s = if s.form == 1 then Some (pictures_head s) else None
 
--- The head of the pictures is read, and has all eight fields of the settings.
+-- The header of the pictures is read, and has all eight fields of the settings.
 abbrev pub AreHeaded : Settings → LookEnd → (Pictures → Type 0) → Result (Head × Pictures) (Fault PictureKind) → Type 0
 AreHeaded s end Behind (Err f) = end ≡ ends.BadPictures f.kind f.place
 AreHeaded s end Behind (Ok (h, ps)) = ((h ≡ pictures_head s → ⊥) × (end ≡ ends.Refused 0 10)) ⊎ ((h ≡ pictures_head s) × Behind ps)
@@ -228,31 +231,31 @@ IsMovie end Behind (Ok m) = Behind m
 
 -- ---- the whole
 
--- the records with what is given, from the first one on, by the layout of the settings
+-- the records checked with what is given, from the first one on, by the layout of the settings
 abbrev pub RecordsWith : Given → ℕ → Settings → Rest → LookEnd → ℕ → Type 0
 RecordsWith g format s rest end records = (l : Layout) × IsLayoutOf l s.width s.height s.log2 s.interlace s.chroma
     × RecordsAre (AreBeside g l) (nothing_further g) (suc most_records) format s no_records 0 rest tt end records
 
--- behind the head of a proof, the tables of the movie and then the head of the pictures
+-- after the header of a proof, the tables of the movie and then the header of the pictures
 abbrev pub ChecksOn : (file shown : List ℕ) → ℕ → Settings → Rest → LookEnd → ℕ → Type 0
 ChecksOn file shown format s rest end records =
     IsMovie end (λ m. HasPictures s end (AreHeaded s end
     (λ ps. RecordsWith (given file (samples m.tables) ps) format s rest end records)
     (pictures_of (form_of s) shown)) (s.form == 2)) (movie_in file)
 
--- How checking the bytes of a proof with those of a movie and of pictures ends, where no port fails and memory lasts; and where it is
--- done, of how many records.
+-- The outcome of checking the bytes of a proof with those of a movie and of pictures, if no port fails and memory
+-- lasts; if it is done, with the number of records.
 abbrev pub Checks : (bytes file shown : List ℕ) → LookEnd → ℕ → Type 0
 Checks bytes file shown end records = HeadIs end (λ head rest. ChecksOn file shown head.0 head.1 rest end records) (head_at (record { place = 0; bytes = bytes }))
 
--- Where checking a proof with a movie and pictures is done, it ends in no other way.
+-- If checking a proof with a movie and pictures is done, it ends in no other way.
 abbrev pub DoneOnce : Type 0
 DoneOnce = (bytes file shown : List ℕ) (end : LookEnd) (m n : ℕ) → Checks bytes file shown end m → Checks bytes file shown ends.Done n → end ≡ ends.Done
 
--- ---- what a run does
+-- ---- the effect of a run
 
--- The counts of faults of three ports that are read never fall. One of them has risen where reading failed, and else all are as they
--- were.
+-- The counts of faults of three ports that are read never fall. One of them rose if reading failed, and all are
+-- unchanged otherwise.
 pub record CountsReads (before now before' now' before'' now'' : ℕ) (failed : Bool) : Type 0 where
   pub later : before ≤ now
   pub later' : before' ≤ now'
@@ -262,17 +265,7 @@ pub record CountsReads (before now before' now' before'' now'' : ℕ) (failed : 
 
 -- ---- the parts of a run
 
--- headers with the same fields
-abbrev pub SameForm : FrameHeader → FrameHeader → Type 0
-SameForm a b = (a.version ≡ b.version) × (a.encoder ≡ b.encoder) × (a.width ≡ b.width) × (a.height ≡ b.height) × (a.chroma ≡ b.chroma) × (a.interlace ≡ b.interlace) × (a.alpha ≡ b.alpha)
-
-abbrev pub SameCodes : FrameHeader → FrameHeader → Type 0
-SameCodes a b = (a.aspect ≡ b.aspect) × (a.rate ≡ b.rate) × (a.primaries ≡ b.primaries) × (a.transfer ≡ b.transfer) × (a.matrix ≡ b.matrix)
-
-abbrev pub SameWeights : FrameHeader → FrameHeader → Type 0
-SameWeights a b = (a.luma ≡ b.luma) × (a.chroma_weights ≡ b.chroma_weights)
-
--- What was read of the sample of a number: the frame that it stands for, or its fault.
+-- The result of reading the sample with this number: its frame, or its fault.
 abbrev pub ReadsSample : List ℕ → Sample → ℕ → Result CodedFrame LookEnd → Type 0
 ReadsSample file x n (Ok f) = IsSampleOf file x f
 ReadsSample file x n (Err (ends.BadMovie kind place)) = span_in file x ≡ bad kind place
@@ -282,20 +275,20 @@ ReadsSample file x n (Err ends.NoMemory) = Unit {0}
 ReadsSample file x n (Err ends.ReadFault) = Unit {0}
 ReadsSample file x n (Err _) = ⊥
 
--- the frame of a sample of this number
+-- the frame of the sample with this number
 abbrev pub HasFrame : Given → ℕ → CodedFrame → Type 0
 HasFrame g number f = (x : Sample) × (sample_in g number ≡ Some x) × IsSampleOf g.file x f
 
--- what was answered of the sample of frame k
+-- the result of checking the sample of frame k
 abbrev pub TakesSample : Given → Settings → Record → (first k : ℕ) → Result CodedFrame LookEnd → Type 0
 TakesSample g s r first k (Ok f) = SampleAgrees g s r first k × HasFrame g (first + k) f
 TakesSample g s r first k (Err end) = AnswersEnd end (SampleEnds g s r first k)
 
--- these are the frames of the samples from a number on
+-- these are the frames of the samples from number `first` on
 abbrev pub AreFrames : Given → ℕ → List CodedFrame → Type 0
 AreFrames g first fs = (k : ℕ) (d : CodedFrame) → k < length fs → HasFrame g (first + k) (get_or fs k d)
 
--- how checking ends at one of the samples of a record
+-- the outcome at one of the samples of a record
 abbrev pub SamplesEnd : Given → Settings → Record → ℕ → LookEnd → Type 0
 SamplesEnd g s r first end = (k : ℕ) × (k < frames_in s r) × SamplesAgree g s r first k × SampleEnds g s r first k end
 
@@ -303,15 +296,15 @@ SamplesEnd g s r first end = (k : ℕ) × (k < frames_in s r) × SamplesAgree g 
 abbrev pub TakesSamples : Given → Settings → Record → ℕ → List CodedFrame → Type 0
 TakesSamples g s r first fs = SamplesAgree g s r first (frames_in s r) × AreFrames g first fs × (length fs ≡ frames_in s r)
 
--- what a reader has left of a source
+-- the pictures that a reader has left in a source
 abbrev pub left_by : AnyReader → Option (List ℕ) → Pictures
 left_by r left = left_of r (rest_of (place_of r) left)
 
--- the pictures from a number on are what is left
+-- the pictures from number n on are left
 abbrev pub AreLeft : Given → ℕ → Pictures → Type 0
 AreLeft g n left = left ≡ record { pictures = drop n g.pictures.pictures; fault = g.pictures.fault }
 
--- what was answered of the picture of a number, and what is then left
+-- the result of reading picture n, and what is then left
 abbrev pub GivesPicture : Given → ℕ → Result (Option Picture) LookEnd → Pictures → Type 0
 GivesPicture g n (Ok (Some p)) left = (picture_in g n ≡ Ok (Some p)) × AreLeft g (n + 1) left
 GivesPicture g n (Ok None) left = picture_in g n ≡ Ok None
@@ -320,26 +313,26 @@ GivesPicture g n (Err ends.NoMemory) left = Unit {0}
 GivesPicture g n (Err ends.ReadFault) left = Unit {0}
 GivesPicture g n (Err _) left = ⊥
 
--- what was answered of the picture of frame k, and what is then left
+-- the result of checking the picture of frame k, and what is then left
 abbrev pub TakesPicture : Given → Layout → Settings → Record → (first k : ℕ) → Result (Unit {0}) LookEnd → Pictures → Type 0
 TakesPicture g l s r first k (Ok _) left = PictureAgrees g l s r first k × AreLeft g (first + k + 1) left
 TakesPicture g l s r first k (Err end) left = AnswersEnd end (PictureEnds g l s r first k)
 
--- how checking ends at one of the pictures of a record
+-- the outcome at one of the pictures of a record
 abbrev pub PicturesEnd : Given → Layout → Settings → Record → ℕ → LookEnd → Type 0
 PicturesEnd g l s r first end = (k : ℕ) × (k < frames_in s r) × PicturesAgree g l s r first k × PictureEnds g l s r first k end
 
--- what was answered of the pictures of a record, and what is then left
+-- the result of checking the pictures of a record, and what is then left
 abbrev pub TakesPictures : Given → Layout → Settings → Record → ℕ → Result (Unit {0}) LookEnd → Pictures → Type 0
 TakesPictures g l s r first (Ok _) left = PicturesAgree g l s r first (frames_in s r) × AreLeft g (first + frames_in s r) left
 TakesPictures g l s r first (Err end) left = AnswersEnd end (PicturesEnd g l s r first)
 
--- what was answered of a record's samples and pictures, and what is then left
+-- the result of checking a record's samples and pictures, and what is then left
 abbrev pub TakesGroup : Given → Layout → Settings → Record → ℕ → Result (Unit {0}) LookEnd → Pictures → Type 0
 TakesGroup g l s r first (Ok _) left = AreBeside g l s r first tt (went tt) × AreLeft g (first + frames_in s r) left
 TakesGroup g l s r first (Err end) left = AnswersEnd end (λ e. AreBeside g l s r first tt (ended e))
 
--- what was answered behind the records
+-- the result of checking after the records
 abbrev pub TakesEnd : Given → ℕ → Result (Unit {0}) LookEnd → Type 0
 TakesEnd g frames (Ok _) = nothing_further g frames tt ≡ ends.Done
 TakesEnd g frames (Err end) = AnswersEnd end (λ e. e ≡ nothing_further g frames tt)

@@ -1,4 +1,5 @@
--- Checking a proof: how it ends, and what is printed. Our own definitions. Everything stands in the order in which it is asked.
+-- Checking a proof: its outcome, and what is printed. Our own definitions. Faults and clauses come in the order of
+-- checking.
 use Rattle.std.specs.Prelude.{◌≡◌, ℕ, zero, suc, ◌+◌, ◌/◌, ◌⊎◌, List, [], ◌++◌, length, Option, None, Some, Result, Ok, Err, codes}
 use Rattle.std.specs.Fmt.{decimal}
 use Rattle.pw_outside.specs.Reading.{Fault, Rest}
@@ -15,11 +16,11 @@ use Rattle.run_look.specs.Ends.{AnswersEnd}
 
 -- ---- the records
 
--- how many frames a record is of
+-- the number of frames of a record
 abbrev pub frames_in : Settings → Record → ℕ
 frames_in s r = length r.table.slices / frame_slices s
 
--- either checking ends so, or it goes on with this
+-- checking ends with this outcome, or continues with this value
 pub data Step (X : Type 0) : Type 0 where
   ended : LookEnd → Step X
   went : X → Step X
@@ -28,21 +29,22 @@ abbrev pub Goes : {X : Type 0} → LookEnd → (X → Type 0) → Step X → Typ
 Goes end Behind (ended e) = end ≡ e
 Goes end Behind (went x) = Behind x
 
--- A record behind so many frames ends checking with the first of its clauses that fails, at its first frame. A good one goes on to
--- what stands beside it.
+-- A record with `frames` frames before it ends checking with the first of its clauses that fails, at its first
+-- frame. A good one continues with what is checked beside it.
 abbrev pub RecordIs : {X : Type 0} → Settings → ℕ → LookEnd → Record → (Step X → Type 0) → (X → Type 0) → Type 0
 RecordIs {X} s frames end r Beside Behind =
     ((clause : ℕ) × Fails s r clause × (end ≡ ends.Refused frames clause))
     ⊎ (IsGood s r × (step : Step X) × Beside step × Goes end Behind step)
 
--- what reading the next record gives, and what is asked then
+-- the result of reading the next record, and what is checked then
 abbrev pub NextIs : LookEnd → Type 0 → (Record → Rest → Type 0) → Result (Option Record × Rest) (Fault ProofKind) → Type 0
 NextIs end Whole Behind (Err f) = end ≡ ends.BadProof f.kind f.place
 NextIs end Whole Behind (Ok (None, rest)) = Whole
 NextIs end Whole Behind (Ok (Some r, rest)) = Behind r rest
 
--- The records from here on, at most so many, behind so many frames: each is read, then judged by its clauses, then with what stands
--- beside it (`Beside` tells how that goes from x on). At the end `at_end` is asked, and there are as many records as were read.
+-- The records from here on, at most this number, with `frames` frames before them: each is read, then validated by
+-- its clauses, then by `Beside`, a relation between `x` and the step from it. At the end `at_end` determines the
+-- outcome, and `records` is the number of records that were read.
 unfoldable pub RecordsAre : {X : Type 0} → (Settings → Record → ℕ → X → Step X → Type 0) → (ℕ → X → LookEnd) → ℕ → ℕ → Settings → Progress → ℕ → Rest → X → LookEnd → ℕ → Type 0
 RecordsAre Beside at_end zero format s p frames rest x end records = ⊥
 RecordsAre Beside at_end (suc most) format s p frames rest x end records =
@@ -53,7 +55,7 @@ RecordsAre Beside at_end (suc most) format s p frames rest x end records =
 
 -- ---- a proof by itself
 
--- beside the records of a proof by itself nothing stands
+-- a proof by itself has nothing beside its records
 abbrev pub Alone : Settings → Record → ℕ → Unit {0} → Step (Unit {0}) → Type 0
 Alone s r frames x step = step ≡ went tt
 
@@ -68,7 +70,8 @@ abbrev pub HeadIs : LookEnd → (ℕ × Settings → Rest → Type 0) → Result
 HeadIs end Behind (Err f) = end ≡ ends.BadProof f.kind f.place
 HeadIs end Behind (Ok (head, rest)) = Behind head rest
 
--- How checking the bytes of a proof by themselves ends, where no port fails and memory lasts; and where it is done, of how many records.
+-- The outcome of checking the bytes of a proof by themselves, if no port fails and memory lasts; if it is done,
+-- with the number of records.
 abbrev pub ChecksAlone : List ℕ → LookEnd → ℕ → Type 0
 ChecksAlone bytes end records = HeadIs end (λ head rest. RecordsAlone head.0 head.1 rest end records) (head_at (record { place = 0; bytes = bytes }))
 
@@ -77,8 +80,8 @@ ChecksAlone bytes end records = HeadIs end (λ head rest. RecordsAlone head.0 he
 abbrev pub check_text : ℕ → List ℕ
 check_text records = codes "records " ++ decimal records ++ codes " yes\n"
 
--- After Done the line with the number of records was appended, after a fault of writing a front of it, and after every other answer
--- nothing.
+-- After Done the line with the number of records was appended, after a fault of writing a prefix of it, and after
+-- any other result nothing.
 abbrev pub PrintsCheck : LookEnd → (ℕ → Type 0) → SinkState → SinkState → Type 0
 PrintsCheck ends.Done Of before after = (records : ℕ) × Of records × Puts before after (check_text records)
 PrintsCheck ends.WriteFault Of before after = (records : ℕ) × Of records × PutsFront before after (check_text records)
@@ -86,12 +89,13 @@ PrintsCheck _ Of before after = Puts before after []
 
 -- ---- the parts of a run
 
--- What was counted is the number of records where checking is done; an error is how it ends, unless a port failed or memory ran out.
+-- The count is the number of records if checking is done; an error is the outcome, unless a port failed or memory
+-- ran out.
 abbrev pub Counts : (LookEnd → ℕ → Type 0) → Result ℕ LookEnd → Type 0
 Counts Is (Ok records) = Is ends.Done records
 Counts Is (Err end) = AnswersEnd end (λ e. (records : ℕ) × Is e records)
 
--- how checking ends at the next record behind so many frames
+-- the outcome at the next record, with `frames` frames before it
 abbrev pub EndsThere : Settings → ℕ → Result (Option Record × Rest) (Fault ProofKind) → LookEnd → Type 0
 EndsThere s frames (Err f) end = end ≡ ends.BadProof f.kind f.place
 EndsThere s frames (Ok (None, behind)) end = ⊥
@@ -101,14 +105,14 @@ abbrev pub IsGoodIf : Settings → Option Record → Type 0
 IsGoodIf s None = Unit {0}
 IsGoodIf s (Some r) = IsGood s r
 
--- What was answered of the next record: a good one, or that there is none, and the rest behind it; or how checking ends there.
+-- The result of reading the next record: a good one or none, and the rest after it; or the outcome there.
 abbrev pub NextGood : ℕ → Settings → Progress → ℕ → Rest → Result (Option Record) LookEnd → Rest → Type 0
 NextGood format s p frames rest (Ok next) behind = (next_at format p rest ≡ Ok (next, behind)) × IsGoodIf s next
 NextGood format s p frames rest (Err end) behind = AnswersEnd end (EndsThere s frames (next_at format p rest))
 
 -- ---- laws
 
--- Checking a proof ends in one way, and where it is done, the records are counted in one way.
+-- Checking a proof ends in only one way; if it is done, the number of records is unique.
 abbrev pub EndsOnce : Type 0
 EndsOnce = (bytes : List ℕ) (e f : LookEnd) (m n : ℕ) → ChecksAlone bytes e m → ChecksAlone bytes f n → (e ≡ f) × (e ≡ ends.Done → m ≡ n)
 

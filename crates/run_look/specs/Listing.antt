@@ -1,8 +1,9 @@
--- What listing a movie prints and answers. Our own definitions.
+-- Listing a movie: its text and its outcome. Our own definitions.
 use Rattle.std.specs.Prelude.{ℕ, ◌+◌, Bool, true, false, List, [], ◌∷◌, ◌++◌, length, Result, Ok, Err, codes}
 use Rattle.std.specs.Fmt.{decimal}
 use Rattle.pw_outside.specs.Reading.{Fault}
 use Rattle.pw_outside.specs.Writing.{SinkState, Puts, PutsFront}
+use Rattle.pw_text.specs.Numbered.{numbered}
 use Rattle.qt_tables.specs.declared.fault.MovieKind.{MovieKind}
 use Rattle.qt_tables.specs.declared.runs.Sample.{Sample}
 use Rattle.qt_tables.specs.Samples.{samples}
@@ -18,7 +19,7 @@ use Rattle.run_look.specs.declared.listing.Stop.TheVariants as stops
 abbrev pub track_words : Movie → List ℕ
 track_words m = codes "track " ++ decimal m.number ++ codes " timescale " ++ decimal m.tables.timescale ++ codes " kind " ++ m.kind
 
--- width and height by its first description
+-- width and height of its first description
 abbrev pub size_words : Movie → List ℕ
 size_words m = codes " width " ++ decimal m.width ++ codes " height " ++ decimal m.height
 
@@ -26,28 +27,27 @@ size_words m = codes " width " ++ decimal m.width ++ codes " height " ++ decimal
 abbrev pub track_line : Movie → List ℕ
 track_line m = track_words m ++ size_words m ++ codes " samples " ++ decimal (length m.tables.sizes) ++ codes "\n"
 
--- the line of the sample of this number
+-- the line of the sample with this number
 abbrev pub sample_line : ℕ → Sample → List ℕ
 sample_line number s = codes "sample " ++ decimal number ++ codes " at " ++ decimal s.at ++ codes " size " ++ decimal s.size
     ++ codes " duration " ++ decimal s.duration ++ codes "\n"
 
--- the lines of samples, whose numbers begin with this one
+-- the lines of samples, numbered from this number on
 abbrev pub sample_lines : ℕ → List Sample → List ℕ
-sample_lines number [] = []
-sample_lines number (s ∷ ss) = sample_line number s ++ sample_lines (number + 1) ss
+sample_lines number ss = numbered sample_line number ss
 
 -- a line for the track, and one for each of its samples
 abbrev pub list_text : Movie → List ℕ
 list_text m = track_line m ++ sample_lines 0 (samples m.tables)
 
--- ---- the answer, by what reading the movie gives
+-- ---- the outcome, by the result of reading the movie
 
--- whether writing stopped since the sink failed
+-- whether writing stopped because the sink failed
 abbrev pub is_stopped_by_sink : {X : Type 0} → Result X Stop → Bool
 is_stopped_by_sink (Err stops.Failed) = true
 is_stopped_by_sink _ = false
 
--- the answer where no port fails and memory lasts
+-- the result if no port fails and memory lasts
 abbrev pub list_end : Result Movie (Fault MovieKind) → LookEnd
 list_end (Err f) = ends.BadMovie f.kind f.place
 list_end (Ok m) = ends.Done
@@ -57,7 +57,7 @@ abbrev pub PrintsList : Result Movie (Fault MovieKind) → SinkState → SinkSta
 PrintsList (Err f) before after = ⊥
 PrintsList (Ok m) before after = Puts before after (list_text m)
 
--- The first bytes of the movie's text were appended; of a file that is no such movie none.
+-- A prefix of the movie's text was appended; of a file that is no such movie nothing.
 abbrev pub PrintsListFront : Result Movie (Fault MovieKind) → SinkState → SinkState → Type 0
 PrintsListFront (Err f) before after = Puts before after []
 PrintsListFront (Ok m) before after = PutsFront before after (list_text m)

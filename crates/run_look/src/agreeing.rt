@@ -1,4 +1,4 @@
-//! Checking a proof with the movie and the pictures that it is of.
+//! Checking a proof with its movie and its pictures.
 
 ghost use Rattle.std.specs.Prelude.{◌≡◌, ◌+◌, ◌*◌, ◌<◌, ◌≤◌, ◌^◌, ℕ, Some, IsSome, IsTrue, ◌↔◌, OnOk, OnErr, IfOk, IfErr, IfSome, IfNone, false, length, slice_get, take, drop};
 ghost use Rattle.std.specs.Bool.{OnTrue};
@@ -40,7 +40,7 @@ use qt_tables::{MovieFault, Sample, samples_are_counted};
 use rate_cert::{FrameProof, ProofReader, Settings};
 use std::alloc::Global;
 
-/// The coded frame that a part of the movie's file stands for.
+/// The coded frame in `size` bytes of the movie's file from offset `at` on.
 fn read_part<M: ByteStore>(
     alloc: Global,
     movie: &mut M,
@@ -58,7 +58,7 @@ fn read_part<M: ByteStore>(
     read_frame(alloc, &mut span, size)
 }
 
-/// The coded frame of a sample: its place, its reading, its frame's fault.
+/// The coded frame of a sample. Errors in this order: its place in the file, its reading, its frame's fault.
 fn read_sample<M: ByteStore>(
     alloc: Global,
     reader: &MovieReader,
@@ -92,7 +92,7 @@ fn read_sample<M: ByteStore>(
     }
 }
 
-/// Reads the sample of frame k of a good record behind so many frames, and asks whether it is as the record says.
+/// Reads the sample of frame k of a good record with `first` frames before it, and compares it with the record.
 ///
 /// The error is how checking ends there.
 fn take_sample<M: ByteStore>(
@@ -133,7 +133,7 @@ fn take_sample<M: ByteStore>(
     }
 }
 
-/// Reads the samples of a good record behind so many frames; the answer is their coded frames.
+/// Reads the samples of a good record with `first` frames before it. Returns their coded frames.
 ///
 /// The error is how checking ends there.
 fn take_samples<M: ByteStore>(
@@ -192,7 +192,7 @@ fn next_picture<S: ByteSource>(
     }
 }
 
-/// Reads the picture of frame k of a good record behind so many frames, and asks whether it is the one of its sample.
+/// Reads the picture of frame k of a good record with `first` frames before it, and compares it with its sample.
 ///
 /// The error is how checking ends there.
 fn take_picture<S: ByteSource>(
@@ -237,7 +237,7 @@ fn take_picture<S: ByteSource>(
     }
 }
 
-/// Reads the pictures of a good record behind so many frames, whose samples stand for these frames.
+/// Reads the pictures of a good record with `first` frames before it, whose samples stand for these frames.
 ///
 /// The error is how checking ends there.
 fn take_pictures<S: ByteSource>(
@@ -274,7 +274,8 @@ fn take_pictures<S: ByteSource>(
     Ok(())
 }
 
-/// Reads the samples of a good record behind so many frames, and then their pictures, and asks whether they agree with it.
+/// Reads the samples of a good record with `first` frames before it, then their pictures, and compares them with
+/// the record.
 ///
 /// The error is how checking ends there.
 fn take_group<S: ByteSource, M: ByteStore>(
@@ -310,7 +311,7 @@ fn take_group<S: ByteSource, M: ByteStore>(
     )
 }
 
-/// Asks whether there is no further sample, and then no further picture, behind so many frames.
+/// Checks that no further sample, and then no further picture, comes after `frames` frames.
 ///
 /// The error is how checking ends there.
 fn take_end<S: ByteSource>(
@@ -343,7 +344,7 @@ fn take_end<S: ByteSource>(
     })
 }
 
-/// Checks all records with their samples and pictures; the answer is how many there are.
+/// Checks all records with their samples and pictures. Returns the number of records.
 ///
 /// The error is how checking ends.
 fn check_groups<S: ByteSource, M: ByteStore>(
@@ -385,7 +386,7 @@ fn check_groups<S: ByteSource, M: ByteStore>(
     Ok(count)
 }
 
-/// The head of pictures of these settings.
+/// The header of pictures with these settings.
 fn head_for(settings: &Settings) -> Head
     ensures { result ≡ pictures_head settings.now }
 {
@@ -401,7 +402,7 @@ fn head_for(settings: &Settings) -> Head
     }
 }
 
-/// The form of the pictures, where it is the settings that say it.
+/// The form of the pictures, if the settings determine it.
 fn form_for(settings: &Settings) -> Option<Head>
     requires settings { IsSettings settings.now }
     ensures form { result ≡ form_of settings.now }
@@ -414,14 +415,14 @@ fn form_for(settings: &Settings) -> Option<Head>
     }
 }
 
-/// Whether a head of pictures has all fields of these settings.
+/// Whether a header of pictures has all fields of these settings.
 fn has_head(settings: &Settings, head: &Head) -> bool
     ensures { IsTrue result ↔ (head.now ≡ pictures_head settings.now) }
 {
     *head == head_for(settings)
 }
 
-/// How pictures of these settings are cut into slices.
+/// The layout of slices of pictures with these settings.
 fn layout_for(settings: &Settings) -> Layout
     requires { IsSettings settings.now }
     ensures { IsLayoutOf result settings.now.width settings.now.height settings.now.log2 settings.now.interlace settings.now.chroma }
@@ -438,7 +439,8 @@ fn layout_for(settings: &Settings) -> Layout
     }
 }
 
-/// Reads the movie's tables and the head of the pictures, and checks all records with them; the answer is how many there are.
+/// Reads the movie's tables and the header of the pictures, and checks all records with them. Returns the number of
+/// records.
 ///
 /// The error is how checking ends.
 fn check_with<S: ByteSource, M: ByteStore>(
@@ -489,7 +491,7 @@ fn check_with<S: ByteSource, M: ByteStore>(
     )
 }
 
-/// Reads a proof to its end, and checks it with a movie and pictures; the answer is how many records it has.
+/// Reads a proof to its end, and checks it with a movie and pictures. Returns the number of records.
 fn check_given<S: ByteSource, M: ByteStore>(
     alloc: Global,
     proof: &mut S,
@@ -507,13 +509,13 @@ fn check_given<S: ByteSource, M: ByteStore>(
     check_with(alloc, &mut records, proof, pictures, movie)
 }
 
-/// Checks a proof with the movie and the pictures that it is of: its records, in order, by all clauses. Behind the proof's head the
-/// movie's tables are read, and then the head of the pictures. Behind each record come the samples of its frames, each with its
-/// frame's fault and clause 9, and then their pictures, each with clause 10.
+/// Checks a proof with its movie and its pictures: its records, in order, by all clauses. After the proof's header
+/// the movie's tables are read, then the header of the pictures. After each record come the samples of its frames,
+/// each with its frame's fault and clause 9, then their pictures, each with clause 10.
 ///
-/// Clause 9 asks that a frame's sample has the header, the slicing, the size and the indices that the settings and the choice say.
-/// Clause 10 asks that its picture has the record's table, and that the sample stands for its coefficients quantised by the choice,
-/// with its alpha. One record, the coded frames of its group and one picture are held at a time.
+/// Clause 9: a frame's sample has the header, the slicing, the size and the indices of the settings and the choice.
+/// Clause 10: its picture has the record's table, and the sample stands for its coefficients quantised by the
+/// choice, with its alpha. Holds one record, the coded frames of its group and one picture at a time.
 pub fn check_run<S: ByteSource, M: ByteStore, K: ByteSink>(
     alloc: Global,
     proof: &mut S,
@@ -521,26 +523,28 @@ pub fn check_run<S: ByteSource, M: ByteStore, K: ByteSink>(
     movie: &mut M,
     text: &mut K,
 ) -> LookEnd
-    // Where the bytes of the proof, the movie and the pictures are told, they decide the answer: BadProof, BadMovie, BadPictures and
-    // BadFrame come with the first fault, and Refused with the first clause that fails at its frame, whichever comes first.
+    // If the bytes of the proof, the movie and the pictures are visible, they determine the result: BadProof,
+    // BadMovie, BadPictures and BadFrame come with the first fault, Refused with the first clause that fails at its
+    // frame, whichever comes first.
     ensures answer { Told (S.left proof.old) (λ bytes. Told (M.bytes movie.old) (λ file. Told (S.left pictures.old) (λ shown.
         AnswersEnd result (λ end. (records : ℕ) × Checks bytes file shown end records)))) }
-    // After Done the line with the number of records was appended, whole; after a fault of writing a front of it, and after every
-    // other answer nothing.
+    // After Done the whole line with the number of records was appended; after a fault of writing a prefix of it,
+    // and after any other result nothing.
     ensures text { Told (S.left proof.old) (λ bytes. Told (M.bytes movie.old) (λ file. Told (S.left pictures.old) (λ shown.
         PrintsCheck result (Checks bytes file shown ends.Done) (sink_state (K.held text.old) (K.taken text.old)) (sink_state (K.held text.new) (K.taken text.new))))) }
-    // Where no port failed, a proof whose records are good and agree with the movie and the pictures is done, unless memory runs out.
+    // If no port failed and memory lasted, a proof whose records are good and agree with the movie and the pictures
+    // is done.
     ensures complete { Told (S.left proof.old) (λ bytes. Told (M.bytes movie.old) (λ file. Told (S.left pictures.old) (λ shown.
         (records : ℕ) → Checks bytes file shown ends.Done records
         → (Rose (S.faults proof.old) (S.faults proof.new) → ⊥) → (Rose (M.faults movie.old) (M.faults movie.new) → ⊥)
         → (Rose (S.faults pictures.old) (S.faults pictures.new) → ⊥) → (Rose (K.faults text.old) (K.faults text.new) → ⊥) → CompletesCheck result))) }
-    // Whether the bytes are told or not, the text extends what was held.
+    // Visible or opaque, the text extends what was held.
     ensures extends { Extends (sink_state (K.held text.old) (K.taken text.old)) (sink_state (K.held text.new) (K.taken text.new)) }
     ensures settled { OnTrue (is_done result) (K.settled text.new ≡ K.taken text.new) }
-    // After Done the proof and the pictures were read to their ends, whether their bytes are told or not.
+    // After Done the proof and the pictures were read to their ends, visible or opaque.
     ensures end { OnTrue (is_done result) (IsAtEnd (S.left proof.new) × IsAtEnd (S.left pictures.new)) }
     ensures bytes { M.bytes movie.new ≡ M.bytes movie.old }
-    // A fault of a port is answered only where that port's count rose, and every other answer leaves the counts as they were.
+    // A port fault is returned only if that port's counter rose; every other result leaves the counters unchanged.
     ensures read { CountsReads (S.faults proof.old) (S.faults proof.new) (M.faults movie.old) (M.faults movie.new) (S.faults pictures.old) (S.faults pictures.new) (is_read_fault result) }
     ensures write { CountsFault (K.faults text.old) (K.faults text.new) (is_write_fault result) }
 {

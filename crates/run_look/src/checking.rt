@@ -21,7 +21,7 @@ use rate_cert::{FrameProof, ProofReader, Settings};
 use rate_check::check_record;
 use std::alloc::Global;
 
-/// How many frames a good record is of, 1 to 8.
+/// The number of frames of a good record, 1 to 8.
 pub(crate) fn frames_of(settings: &Settings, group: &FrameProof) -> u32
     requires settings { IsSettings settings.now }
     requires good { IsGood settings.now group.now }
@@ -31,7 +31,7 @@ pub(crate) fn frames_of(settings: &Settings, group: &FrameProof) -> u32
     group.table.slices.as_slice().len() as u32 / settings.frame_slices()
 }
 
-/// Reads the next record, behind so many frames, and judges it; `None` behind the end of the proof.
+/// Reads the next record, with `frames` frames before it, and validates it; `None` after the end of the proof.
 ///
 /// The error is how checking ends there.
 pub(crate) fn next_good<S: ByteSource>(
@@ -47,7 +47,7 @@ pub(crate) fn next_good<S: ByteSource>(
         (rest_of reader.old.place (S.left proof.old)) result (rest_of reader.new.place (S.left proof.new)) }
     ensures good { IfOk result (λ p. IfSome p (λ p. IsGood reader.old.settings p × MayStand reader.old.progress)) }
     ensures end { IfErr result IsReadersEnd }
-    // Behind the last record the proof was read to its end.
+    // After the last record the proof was read to its end.
     ensures whole { IfOk result (λ p. IfNone p (IsAtEnd (S.left proof.new))) }
     ensures after { IfOk result (λ p. (reader.new.settings ≡ reader.old.settings) × (reader.new.format ≡ reader.old.format)
         × (reader.new.progress ≡ after reader.old.settings reader.old.progress p)) }
@@ -66,7 +66,7 @@ pub(crate) fn next_good<S: ByteSource>(
     }
 }
 
-/// Checks all records by themselves; the answer is how many there are.
+/// Checks all records by themselves. Returns the number of records.
 ///
 /// The error is how checking ends.
 fn check_records<S: ByteSource>(
@@ -93,7 +93,7 @@ fn check_records<S: ByteSource>(
     Ok(records)
 }
 
-/// Reads a proof to its end, and checks all its records by themselves; the answer is how many there are.
+/// Reads a proof to its end, and checks all its records by themselves. Returns the number of records.
 fn check_alone<S: ByteSource>(alloc: Global, proof: &mut S) -> Result<u32, LookEnd>
     ensures answer { Told (S.left proof.old) (λ bytes. Counts (ChecksAlone bytes) result) }
     ensures few { IfOk result (λ n. n ≤ most_records) }
@@ -105,7 +105,7 @@ fn check_alone<S: ByteSource>(alloc: Global, proof: &mut S) -> Result<u32, LookE
     check_records(alloc, &mut reader, proof)
 }
 
-/// Appends the number of records, and what stands behind it.
+/// Appends the number of records, and the words after it.
 fn put_records(text: &mut Vec<u8>, records: u32, behind: &str) -> Result<(), NoMemory>
     ensures { OnOk result (text.new.items ≡ text.old.items ++ (codes "records " ++ decimal records ++ behind.now)) }
 {
@@ -114,7 +114,7 @@ fn put_records(text: &mut Vec<u8>, records: u32, behind: &str) -> Result<(), NoM
     put_words(text, behind)
 }
 
-/// Writes the line with the number of records and what stands behind it, and settles it.
+/// Writes the line with the number of records and the words after it, and flushes it.
 pub(crate) fn print_records<K: ByteSink>(
     alloc: Global,
     records: u32,
@@ -140,30 +140,29 @@ pub(crate) fn print_records<K: ByteSink>(
     }
 }
 
-/// Checks a proof by itself: its records, in order, by the clauses that speak of no pictures and no movie.
-#[tactic(auto, using(crate::proofs::Texts::none_extends, crate::proofs::Texts::printed_extends, crate::proofs::Once::completes))]
+/// Checks a proof by itself: its records, in order, by the clauses that need no pictures and no movie.
+#[tactic(auto, using(pw_outside::proofs::Puts::none_extends, crate::proofs::Texts::printed_extends, crate::proofs::Once::completes))]
 pub fn check_proof_run<S: ByteSource, K: ByteSink>(
     alloc: Global,
     proof: &mut S,
     text: &mut K,
 ) -> LookEnd
-    // Where the proof's bytes are told, they decide the answer: BadProof comes with their first fault and Refused with the first
-    // clause that fails at the first frame of its record, whichever comes first.
+    // If the proof's bytes are visible, they determine the result: BadProof comes with their first fault, Refused
+    // with the first clause that fails at the first frame of its record, whichever comes first.
     ensures answer { Told (S.left proof.old) (λ bytes. AnswersEnd result (λ end. (records : ℕ) × ChecksAlone bytes end records)) }
-    // After Done the line with the number of records was appended, whole; after a fault of writing a front of it, and after every
-    // other answer nothing.
+    // After Done the whole line with the number of records was appended; after a fault of writing a prefix of it,
+    // and after any other result nothing.
     ensures text { Told (S.left proof.old) (λ bytes.
         PrintsCheck result (ChecksAlone bytes ends.Done) (sink_state (K.held text.old) (K.taken text.old)) (sink_state (K.held text.new) (K.taken text.new))) }
-    // Where no port failed, a proof without a fault whose records are good is done, unless memory runs out.
+    // If no port failed and memory lasted, a proof without a fault whose records are good is done.
     ensures complete { Told (S.left proof.old) (λ bytes. (records : ℕ) → ChecksAlone bytes ends.Done records
         → (Rose (S.faults proof.old) (S.faults proof.new) → ⊥) → (Rose (K.faults text.old) (K.faults text.new) → ⊥) → CompletesCheck result) }
-    // Whether the proof's bytes are told or not, the text extends what was held.
+    // Visible or opaque, the text extends what was held.
     ensures extends { Extends (sink_state (K.held text.old) (K.taken text.old)) (sink_state (K.held text.new) (K.taken text.new)) }
     ensures settled { OnTrue (is_done result) (K.settled text.new ≡ K.taken text.new) }
-    // After Done the proof was read to its end, whether its bytes are told or not.
+    // After Done the proof was read to its end, visible or opaque.
     ensures end { OnTrue (is_done result) (IsAtEnd (S.left proof.new)) }
-    // A fault of a port is answered only where that port's count rose, and every other answer leaves both counts as they
-    // were.
+    // A port fault is returned only if that port's counter rose; every other result leaves both counters unchanged.
     ensures read { CountsFault (S.faults proof.old) (S.faults proof.new) (is_read_fault result) }
     ensures write { CountsFault (K.faults text.old) (K.faults text.new) (is_write_fault result) }
 {

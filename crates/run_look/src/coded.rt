@@ -1,36 +1,22 @@
-//! Whether a coded frame is made of coefficients by a choice: block by block, without memory.
+//! Whether a coded frame consists of coefficients quantised by a choice: block by block, without memory.
 
 ghost use Rattle.std.specs.Prelude.{◌≡◌, ◌↔◌, ◌+◌, ◌*◌, ◌≤◌, ◌<◌, ℕ, length, IsTrue, get_or, nat_abs};
 ghost use Rattle.std.specs.List.{All};
 ghost use Rattle.pr_dct.specs.Transform.{AreWithin};
 ghost use Rattle.pr_frame.specs.Coded.{IsWritableHeader};
 ghost use Rattle.pr_geom.specs.Layout.{slices_of};
-ghost use Rattle.pr_quant.specs.Errors.{multipliers};
 ghost use Rattle.pr_quant.specs.Matrices.{IsWeight};
 ghost use Rattle.pr_quant.specs.Quantised.{quantised, greatest_coefficient};
 ghost use Rattle.rate_build.specs.Measures.{quantised_block, quantised_part, IsFrameMultiplier, ArePart};
 ghost use Rattle.rate_build.specs.Coding.{coded_slice, coded_slices, coded_picture, coded_frame, weights_in, IsIndex};
 ghost use Rattle.rate_build.specs.Tables.{HasParts};
-ghost use Rattle.run_look.specs.Agreeing.{SameForm, SameCodes, SameWeights};
+ghost use Rattle.run_look.specs.inner.Headers.{SameForm, SameCodes, SameWeights};
 
 use pr_coeff::Block;
 use pr_frame::{CodedFrame, CodedPicture, CodedSlice};
 use pr_head::FrameHeader;
-use pr_quant::{quantise, scale};
+use pr_quant::{multipliers_of, quantise};
 use rate_build::{Coefficients, SliceCoefficients};
-
-/// The multiplier at each place of a block.
-fn multipliers_for(weights: &[u8; 64], index: u8) -> [u32; 64]
-    requires { IsIndex index }
-    ensures { result ≡ multipliers weights.now index }
-{
-    let factor = scale(index);
-    let mut products = [0; 64];
-    for place in 0..64 {
-        products[place] = u32::from(weights[place]) * factor;
-    }
-    products
-}
 
 /// A coefficient quantised.
 fn quantise_value(value: i16, multiplier: u32) -> i16
@@ -44,7 +30,7 @@ fn quantise_value(value: i16, multiplier: u32) -> i16
     size as i16
 }
 
-/// A block quantised, each coefficient by the multiplier at its place.
+/// A block quantised, each coefficient by the multiplier at its position.
 fn quantise_block(block: &Block, multipliers: &[u32; 64]) -> Block
     requires block { AreWithin greatest_coefficient block.now }
     requires multipliers { (p : ℕ) → p < 64 → IsFrameMultiplier (get_or multipliers.now p 0) }
@@ -64,7 +50,7 @@ fn same_block(some: &Block, other: &Block) -> bool
     some == other
 }
 
-/// Whether two headers say the same of a frame's form.
+/// Whether two headers have the same form.
 fn same_form(some: &FrameHeader, other: &FrameHeader) -> bool
     ensures { IsTrue result ↔ SameForm some.now other.now }
 {
@@ -102,7 +88,7 @@ pub(crate) fn same_header(some: &FrameHeader, other: &FrameHeader) -> bool
     same_form(some, other) && same_codes(some, other) && same_weights(some, other)
 }
 
-/// Whether this is a block quantised, each coefficient by the multiplier at its place.
+/// Whether this is a block quantised, each coefficient by the multiplier at its position.
 fn is_quantised(coded: &Block, block: &Block, multipliers: &[u32; 64]) -> bool
     requires block { AreWithin greatest_coefficient block.now }
     requires multipliers { (p : ℕ) → p < 64 → IsFrameMultiplier (get_or multipliers.now p 0) }
@@ -121,7 +107,7 @@ fn is_part_at(coded: &[Block], blocks: &[Block], weights: &[u8; 64], index: u8) 
     if coded.len() != blocks.len() {
         return false;
     }
-    let multipliers = multipliers_for(weights, index);
+    let multipliers = multipliers_of(weights, index);
     for i in 0..blocks.len() {
         if !is_quantised(&coded[i], &blocks[i], &multipliers) {
             return false;
@@ -174,7 +160,7 @@ fn are_slices_at(
     true
 }
 
-/// Whether this is the coded picture of a number, each slice quantised at its own index.
+/// Whether this is the coded picture with this number, each slice quantised at its own index.
 fn is_picture_at(
     coded: &CodedPicture,
     coefficients: &Coefficients,
@@ -200,7 +186,7 @@ fn is_picture_at(
         )
 }
 
-/// Whether this frame has this header, and is made of the coefficients, each slice quantised at its own index.
+/// Whether this frame has this header, and consists of the coefficients, each slice quantised at its own index.
 pub(crate) fn is_coded(
     frame: &CodedFrame,
     coefficients: &Coefficients,

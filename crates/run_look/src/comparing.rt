@@ -1,10 +1,11 @@
-//! Comparing a frame's sample and its picture with what a record says of the frame.
+//! Comparing a frame's sample and its picture with the frame's record.
 
 ghost use Rattle.std.specs.Prelude.{◌≡◌, ◌↔◌, ◌++◌, ◌*◌, ◌/◌, ◌<◌, ◌≤◌, ℕ, List, length, map, take, drop, ◌+◌, IfOk, IfSome, IfNone, IsTrue, OnOk};
 ghost use Rattle.std.specs.List.{All};
 ghost use Rattle.pic_raw.specs.Raw.{IsPicture};
 ghost use Rattle.pr_frame.specs.declared.coded.CodedPicture.{CodedPicture};
 ghost use Rattle.pr_geom.specs.Layout.{IsLayoutOf};
+ghost use Rattle.rate_table.specs.declared.table.TheConstants.{MAX_TABLE_SLICES};
 ghost use Rattle.rate_table.specs.Table.{IsSliceTable};
 ghost use Rattle.rate_build.specs.Tables.{fixed_bytes, entries_of};
 ghost use Rattle.rate_cert.specs.Settings.{IsSettings, frame_slices};
@@ -25,7 +26,7 @@ use rate_cert::{FrameProof, Settings, Verdict};
 use rate_table::{Entry, SliceTable, indices_tell_choice, part_total};
 use std::alloc::{AllocError, Global};
 
-/// The weights of frames of these settings.
+/// The weights of frames with these settings.
 fn weights_for(settings: &Settings) -> Weights
     ensures { result ≡ weights_of settings.now }
 {
@@ -35,7 +36,7 @@ fn weights_for(settings: &Settings) -> Weights
     }
 }
 
-/// The header of frames of these settings.
+/// The header of frames with these settings.
 fn header_for(settings: &Settings) -> FrameHeader
     ensures { result ≡ header_of settings.now }
 {
@@ -49,7 +50,7 @@ fn header_for(settings: &Settings) -> FrameHeader
     )
 }
 
-/// So many slices from a place on.
+/// `count` slices from index `from` on.
 fn cut_slices(slices: &[SliceTable], from: usize, count: usize) -> &[SliceTable]
     requires { from + count ≤ length slices.now }
     ensures { result.now ≡ take count (drop from slices.now) }
@@ -57,7 +58,7 @@ fn cut_slices(slices: &[SliceTable], from: usize, count: usize) -> &[SliceTable]
     &slices[from..from + count]
 }
 
-/// So many indices from a place on.
+/// `count` quantisation indices from index `from` on.
 fn cut_choice(choice: &[u8], from: usize, count: usize) -> &[u8]
     requires { from + count ≤ length choice.now }
     ensures { result.now ≡ take count (drop from choice.now) }
@@ -78,7 +79,7 @@ fn slices_for<'a>(settings: &Settings, group: &'a FrameProof, k: u32) -> &'a [Sl
     cut_slices(group.table.slices.as_slice(), count * k as usize, count)
 }
 
-/// The part that frame k of a good record has of the choice; none where no choice fits.
+/// The part of the choice of frame k of a good record; none if no choice fits.
 fn part_for<'a>(settings: &Settings, group: &'a FrameProof, k: u32) -> Option<&'a [u8]>
     requires settings { IsSettings settings.now }
     requires good { IsGood settings.now group.now }
@@ -96,7 +97,7 @@ fn part_for<'a>(settings: &Settings, group: &'a FrameProof, k: u32) -> Option<&'
 
 // ---- the sample
 
-/// Whether each picture is cut into slices of this width.
+/// Whether each picture is cut into slices of width 2 ^ `log2`.
 fn have_slicing(pictures: &[CodedPicture], log2: u8) -> bool
     ensures { IsTrue result ↔ All (λ (x : CodedPicture). x.log2 ≡ log2) pictures.now }
 {
@@ -108,7 +109,7 @@ fn have_slicing(pictures: &[CodedPicture], log2: u8) -> bool
     true
 }
 
-/// Puts the indices of a picture's slices behind others.
+/// Appends the indices of a picture's slices.
 fn put_indices(picture: &CodedPicture, found: &mut Vec<u8>) -> Result<(), AllocError>
     ensures { OnOk result (found.new.items ≡ found.old.items ++ indices_of picture.now) }
 {
@@ -129,10 +130,10 @@ fn indices_for(alloc: Global, frame: &CodedFrame) -> Result<Vec<u8>, AllocError>
     Ok(found)
 }
 
-/// Whether a part of a choice has entries whose sizes, with a frame's share of the fixed bytes, are this size.
+/// Whether a part of a choice has entries, and their sizes with a frame's share of the fixed bytes sum to `size`.
 fn has_size(slices: &[SliceTable], part: &[u8], share: u32, size: u32) -> bool
     requires some { 1 ≤ length slices.now }
-    requires few { length slices.now ≤ 131070 }
+    requires few { length slices.now ≤ MAX_TABLE_SLICES }
     requires each { All IsSliceTable slices.now }
     ensures { IsTrue result ↔ HasSize slices.now part.now share size }
 {
@@ -153,14 +154,14 @@ fn share_of(settings: &Settings, group: &FrameProof) -> u32
     group.table.fixed / frames_of(settings, group)
 }
 
-/// Whether two lists of indices are the same.
+/// Whether two lists of indices are equal.
 fn same_indices(some: &[u8], others: &[u8]) -> bool
     ensures { IsTrue result ↔ (some.now ≡ others.now) }
 {
     some == others
 }
 
-/// Whether the coded frame of a sample of so many bytes is what the settings and a good record say of its frame k.
+/// Whether the coded frame of a sample of `size` bytes is frame k of the settings and a good record.
 ///
 /// The error says that memory ran out.
 pub(crate) fn is_as_said(
@@ -195,14 +196,14 @@ pub(crate) fn is_as_said(
 
 // ---- the picture
 
-/// Whether two entries are the same.
+/// Whether two entries are equal.
 fn same_entry(some: &Entry, other: &Entry) -> bool
     ensures { IsTrue result ↔ (some.now ≡ other.now) }
 {
     some.index == other.index && some.size == other.size && some.error == other.error
 }
 
-/// Whether two slices have the same entries.
+/// Whether two slices have equal entries.
 fn same_entries(some: &[Entry], others: &[Entry]) -> bool
     ensures { IsTrue result ↔ (some.now ≡ others.now) }
 {
@@ -217,7 +218,7 @@ fn same_entries(some: &[Entry], others: &[Entry]) -> bool
     true
 }
 
-/// Whether two lists of slices have the same entries.
+/// Whether two lists of slices have equal entries.
 fn same_slices(some: &[SliceTable], others: &[SliceTable]) -> bool
     ensures { IsTrue result ↔ (some.now ≡ others.now) }
 {
@@ -232,7 +233,7 @@ fn same_slices(some: &[SliceTable], others: &[SliceTable]) -> bool
     true
 }
 
-/// Whether the record's table says of frame k what these coefficients cost.
+/// Whether the record's table of frame k is what these coefficients cost.
 fn has_table(
     alloc: Global,
     settings: &Settings,
@@ -261,7 +262,8 @@ fn has_table(
     Ok(same_slices(slices_for(settings, group, k), table.slices.as_slice()))
 }
 
-/// Whether a good record and a coded frame say of its frame k what this picture is. The frame is what the settings and the record say.
+/// Whether this picture is frame k of a good record and of a coded frame, which is the frame of the settings and
+/// the record.
 ///
 /// The error says that memory ran out.
 pub(crate) fn is_picture_of(

@@ -1,43 +1,43 @@
-//! How a run that looks at files ended.
+//! The outcome of a run that looks at files.
 
 use pic_y4m::PictureKind;
 use pr_head::FrameKind;
 use qt_tables::MovieKind;
 use rate_table::{ProofKind, TableFault};
 
-/// How a run ended.
+/// The outcome of a run.
 #[derive(Clone, Copy, Debug, PartialEq, Eq)]
 pub enum LookEnd {
-    /// The whole run was done.
+    /// The run is complete.
     Done,
     /// Memory ran out.
     NoMemory,
-    /// A port that the run reads failed.
+    /// A port that the run reads from failed.
     ReadFault,
-    /// A port that the run writes failed.
+    /// A port that the run writes to failed.
     WriteFault,
-    /// The pictures have this first fault, at this byte.
+    /// The first fault of the pictures, and its offset.
     BadPictures {
         kind: PictureKind,
         place: u64,
     },
-    /// The movie has this first fault, at this byte.
+    /// The movie's first fault, and its offset.
     BadMovie {
         kind: MovieKind,
         place: u64,
     },
-    /// The sample of this number, from 0, has this first fault, at this byte of the sample.
+    /// The first fault of the sample with this number, from 0, and its offset in the sample.
     BadFrame {
         sample: u32,
         kind: FrameKind,
         place: u64,
     },
-    /// The proof has this first fault, at this byte.
+    /// The proof's first fault, and its offset.
     BadProof {
         kind: ProofKind,
         place: u64,
     },
-    /// This clause is the first that fails, at the frame of this number, from 0.
+    /// The first clause that fails, and the number of its frame, from 0.
     Refused {
         frame: u32,
         clause: u8,

@@ -6,12 +6,12 @@ ghost use Rattle.run_look.specs.Reproofing.{StaysAsItIs};
 
 use pr_frame::{frame_has_no_fault, one_frame};
 
-/// Checking a proof ends in one way, and where it is done, its records are counted in one way.
+/// Checking a proof ends in only one way; if it is done, the number of records is unique.
 pub fn checking_ends_once()
     ensures { EndsOnce }
 {}
 
-/// Where checking a proof with a movie and pictures is done, it ends in no other way.
+/// If checking a proof with a movie and pictures is done, it ends in no other way.
 pub fn agreeing_is_done_once()
     ensures { DoneOnce }
 {
@@ -19,7 +19,7 @@ pub fn agreeing_is_done_once()
     frame_has_no_fault();
 }
 
-/// A proof of format 2 without a fault comes out byte for byte, and no clause is refused.
+/// A proof of format 2 without a fault is rewritten byte for byte, and no clause is refused.
 pub fn proof_stays_as_it_is()
     ensures { StaysAsItIs }
 {}

@@ -1,4 +1,4 @@
-//! The commands that look at files: listing a movie, checking a proof, and writing one again.
+//! The commands that look at files: listing a movie, checking a proof, and rewriting one.
 #![tactic(auto)]
 
 mod agreeing;
@@ -10,8 +10,6 @@ mod laws;
 mod lines;
 mod listing;
 mod reproof;
-#[cfg(test)]
-mod tests;
 mod through;
 
 pub use agreeing::check_run;

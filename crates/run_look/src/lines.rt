@@ -28,7 +28,7 @@ fn put_kind(text: &mut Vec<u8>, kind: [u8; 4]) -> Result<(), NoMemory>
     }
 }
 
-/// Appends what stands in front of the track's width.
+/// Appends the words before the track's width.
 fn put_track_words(text: &mut Vec<u8>, reader: &MovieReader) -> Result<(), NoMemory>
     ensures { OnOk result (text.new.items ≡ text.old.items ++ track_words reader.now) }
 {
@@ -69,7 +69,7 @@ fn put_sample(text: &mut Vec<u8>, number: u32, sample: &Sample) -> Result<(), No
     put_words(text, "\n")
 }
 
-/// Appends the lines of the samples from one number up to another.
+/// Appends the lines of the samples from number `from` up to `end`, which is left out.
 pub(crate) fn put_samples(
     text: &mut Vec<u8>,
     reader: &MovieReader,

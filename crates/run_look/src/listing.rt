@@ -18,7 +18,7 @@ use qt_movie::MovieReader;
 use qt_tables::MovieFault;
 use std::alloc::Global;
 
-/// So many lines are written at once.
+/// The number of lines that are written at once.
 const LINES: u32 = 256;
 
 /// Why writing stopped.
@@ -85,7 +85,7 @@ fn put_list<K: ByteSink>(alloc: Global, reader: &MovieReader, sink: &mut K) -> R
     put_all_samples(alloc, reader, sink)
 }
 
-/// Writes all lines, and settles them.
+/// Writes all lines, and flushes them.
 fn print<K: ByteSink>(alloc: Global, reader: &MovieReader, sink: &mut K) -> LookEnd
     ensures answer { AnswersUnlessOutside result ends.Done }
     ensures reads { is_read_fault result ≡ false }
@@ -104,25 +104,24 @@ fn print<K: ByteSink>(alloc: Global, reader: &MovieReader, sink: &mut K) -> Look
     }
 }
 
-/// Reads a QuickTime movie, and writes a line for its first track of ProRes and one for each of the track's samples.
-/// The text isn't held in memory.
-#[tactic(auto, using(crate::proofs::Texts::none_extends, crate::proofs::Texts::front_extends))]
+/// Reads a QuickTime movie, and writes a line for its first ProRes track and one for each of the track's samples.
+/// Doesn't hold the text in memory.
+#[tactic(auto, using(pw_outside::proofs::Puts::none_extends, pw_outside::proofs::Puts::front_extends))]
 pub fn list_run<M: ByteStore, K: ByteSink>(alloc: Global, movie: &mut M, text: &mut K) -> LookEnd
-    // Where the movie's bytes are told, they decide the answer: BadMovie comes with their first fault exactly where they
-    // are no movie with a track of ProRes.
+    // If the movie's bytes are visible, they determine the result: BadMovie is their first fault, and comes exactly
+    // if they are no movie with a ProRes track.
     ensures answer { Told (M.bytes movie.old) (λ file. AnswersUnlessOutside result (list_end (movie_in file))) }
-    // After Done the movie's text was appended, whole.
+    // After Done the whole text of the movie was appended.
     ensures text { Told (M.bytes movie.old) (λ file. OnTrue (is_done result)
         (PrintsList (movie_in file) (sink_state (K.held text.old) (K.taken text.old)) (sink_state (K.held text.new) (K.taken text.new)))) }
-    // After every answer the first bytes of it were appended, or none where the file is no such movie.
+    // After any result a prefix of it was appended, or nothing if the file is no such movie.
     ensures part { Told (M.bytes movie.old) (λ file.
         PrintsListFront (movie_in file) (sink_state (K.held text.old) (K.taken text.old)) (sink_state (K.held text.new) (K.taken text.new))) }
-    // Whether the movie's bytes are told or not, the text extends what was held.
+    // Visible or opaque, the text extends what was held.
     ensures extends { Extends (sink_state (K.held text.old) (K.taken text.old)) (sink_state (K.held text.new) (K.taken text.new)) }
     ensures settled { OnTrue (is_done result) (K.settled text.new ≡ K.taken text.new) }
     ensures bytes { M.bytes movie.new ≡ M.bytes movie.old }
-    // A fault of a port is answered only where that port's count rose, and every other answer leaves both counts as they
-    // were.
+    // A port fault is returned only if that port's counter rose; every other result leaves both counters unchanged.
     ensures read { CountsFault (M.faults movie.old) (M.faults movie.new) (is_read_fault result) }
     ensures write { CountsFault (K.faults text.old) (K.faults text.new) (is_write_fault result) }
 {

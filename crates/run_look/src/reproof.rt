@@ -1,4 +1,4 @@
-//! Writing a proof again in format 2.
+//! Rewriting a proof in format 2.
 
 ghost use Rattle.std.specs.Prelude.{◌≡◌, ◌↔◌, ◌≤◌, suc, IsSome, IsTrue, OnOk, OnErr, is_err, IfOk, IfErr, IfSome, IfNone, Ok, false};
 ghost use Rattle.std.specs.Bool.{OnTrue};
@@ -22,7 +22,7 @@ use rate_cert::{FrameProof, ProofReader, ProofWriter, Verdict};
 use rate_check::are_in_order;
 use std::alloc::Global;
 
-/// Whether sizes rise and errors fall in each layer, as clause 6 asks.
+/// Whether sizes rise and errors fall in each layer (clause 6).
 fn keeps_order(group: &FrameProof) -> bool
     ensures value { result ≡ keeps_order group.now.said }
     ensures clause { IsTrue result ↔ KeepsOrder group.now.said }
@@ -33,9 +33,10 @@ fn keeps_order(group: &FrameProof) -> bool
     }
 }
 
-/// Reads the next record, behind so many records; `None` behind the end of the proof. What was read can be written in format 2.
+/// Reads the next record, with `records` records before it; `None` after the end of the proof. A record that
+/// is returned can be written in format 2.
 ///
-/// The error is how writing again ends there.
+/// The error is how rewriting ends there.
 fn next_in_order<S: ByteSource>(
     alloc: Global,
     reader: &mut ProofReader,
@@ -51,7 +52,7 @@ fn next_in_order<S: ByteSource>(
         (rest_of reader.old.place (S.left proof.old)) result (rest_of reader.new.place (S.left proof.new)) }
     ensures written { IfOk result (λ p. IfSome p (λ p. MayStand reader.old.progress × IsWritten 2 p)) }
     ensures end { IfErr result IsReadersEnd }
-    // Behind the last record the proof was read to its end.
+    // After the last record the proof was read to its end.
     ensures whole { IfOk result (λ p. IfNone p (IsAtEnd (S.left proof.new))) }
     ensures after { IfOk result (λ p. (reader.new.settings ≡ reader.old.settings) × (reader.new.format ≡ reader.old.format)
         × (reader.new.progress ≡ after reader.old.settings reader.old.progress p)) }
@@ -70,9 +71,9 @@ fn next_in_order<S: ByteSource>(
     }
 }
 
-/// Reads all records, and writes each in format 2; the answer is how many there are.
+/// Reads all records, and writes each in format 2. Returns the number of records.
 ///
-/// The error is how writing again ends.
+/// The error is how rewriting ends.
 fn rewrite_records<S: ByteSource, K: ByteSink>(
     alloc: Global,
     reader: &mut ProofReader,
@@ -108,7 +109,7 @@ fn rewrite_records<S: ByteSource, K: ByteSink>(
     Ok(records)
 }
 
-/// Writes the end, and settles all that was written.
+/// Writes the end, and flushes all that was written.
 fn close<K: ByteSink>(writer: ProofWriter, cert: &mut K) -> Result<(), Failed>
     ensures ok { OnOk result (Puts (sink_state (K.held cert.old) (K.taken cert.old)) (sink_state (K.held cert.new) (K.taken cert.new)) (end_bytes writer.progress.count)) }
     ensures err { OnErr result (PutsFront (sink_state (K.held cert.old) (K.taken cert.old)) (sink_state (K.held cert.new) (K.taken cert.new)) (end_bytes writer.progress.count)) }
@@ -119,9 +120,9 @@ fn close<K: ByteSink>(writer: ProofWriter, cert: &mut K) -> Result<(), Failed>
     cert.flush()
 }
 
-/// Reads a proof to its end, and writes it in format 2; the answer is how many records it has.
+/// Reads a proof to its end, and writes it in format 2. Returns the number of records.
 ///
-/// The error is how writing again ends.
+/// The error is how rewriting ends.
 fn rewrite<S: ByteSource, K: ByteSink>(
     alloc: Global,
     proof: &mut S,
@@ -152,35 +153,36 @@ fn rewrite<S: ByteSource, K: ByteSink>(
     }
 }
 
-/// Writes a proof again in format 2, whichever format it has.
-#[tactic(auto, using(crate::proofs::Texts::none_extends, crate::proofs::Texts::printed_extends))]
+/// Rewrites a proof of either format in format 2.
+#[tactic(auto, using(pw_outside::proofs::Puts::none_extends, crate::proofs::Texts::printed_extends))]
 pub fn reproof_run<S: ByteSource, K: ByteSink>(
     alloc: Global,
     proof: &mut S,
     cert: &mut K,
     text: &mut K,
 ) -> LookEnd
-    // Where the proof's bytes are told, they decide the answer: BadProof comes with their first fault, and Refused with clause 6 at
-    // the first frame of the first record that fails it, whichever comes first.
+    // If the proof's bytes are visible, they determine the result: BadProof comes with their first fault, Refused
+    // with clause 6 at the first frame of the first record that fails it, whichever comes first.
     ensures answer { Told (S.left proof.old) (λ bytes. AnswersUnlessOutside result (reproofed bytes).end) }
-    // They decide all that is written, too: after Done the proof in format 2 and the line with the number of records; after a fault
-    // of the input the records in front of it. Where a port failed or memory ran out a front of these bytes was written.
+    // They determine the bytes written, too: after Done the proof in format 2 and the line with the number of
+    // records; after a fault of the input the records before it; if a port failed or memory ran out, a prefix of
+    // these bytes.
     ensures cert { Told (S.left proof.old) (λ bytes. PutsUntil result (reproofed bytes).cert
         (sink_state (K.held cert.old) (K.taken cert.old)) (sink_state (K.held cert.new) (K.taken cert.new))) }
     ensures text { Told (S.left proof.old) (λ bytes. PutsUntil result (reproofed bytes).text
         (sink_state (K.held text.old) (K.taken text.old)) (sink_state (K.held text.new) (K.taken text.new))) }
-    // After Done what was written has the settings and the records of what was read.
+    // After Done the written proof has the settings and the records of the input.
     ensures same { Told (S.left proof.old) (λ bytes. OnTrue (is_done result) (SaysTheSame bytes (reproofed bytes).cert)) }
-    // A proof of format 2 comes out byte for byte: after Done what was written is what was read.
+    // A proof of format 2 is rewritten byte for byte: after Done the written bytes are the input.
     ensures unchanged { Told (S.left proof.old) (λ bytes. OnTrue (is_done result) (IsProofIn 2 bytes
         → Puts (sink_state (K.held cert.old) (K.taken cert.old)) (sink_state (K.held cert.new) (K.taken cert.new)) bytes)) }
-    // Whether the proof's bytes are told or not, both outputs extend what was held.
+    // Visible or opaque, both outputs extend what was held.
     ensures cert_extends { Extends (sink_state (K.held cert.old) (K.taken cert.old)) (sink_state (K.held cert.new) (K.taken cert.new)) }
     ensures text_extends { Extends (sink_state (K.held text.old) (K.taken text.old)) (sink_state (K.held text.new) (K.taken text.new)) }
     ensures settled { OnTrue (is_done result) ((K.settled cert.new ≡ K.taken cert.new) × (K.settled text.new ≡ K.taken text.new)) }
-    // After Done the proof was read to its end, whether its bytes are told or not.
+    // After Done the proof was read to its end, visible or opaque.
     ensures end { OnTrue (is_done result) (IsAtEnd (S.left proof.new)) }
-    // A fault of a port is answered only where that port's count rose, and every other answer leaves the counts as they were.
+    // A port fault is returned only if that port's counter rose; every other result leaves the counters unchanged.
     ensures read { CountsFault (S.faults proof.old) (S.faults proof.new) (is_read_fault result) }
     ensures write { CountsFaults (K.faults cert.old) (K.faults cert.new) (K.faults text.old) (K.faults text.new) (is_write_fault result) }
 {

@@ -4,8 +4,8 @@ ghost use Rattle.std.specs.Prelude.{◌≡◌};
 
 use pw_outside::{ByteSource, Failed};
 
-/// A source that borrows another one and gives what that gives. Of the bytes that it gave it is known that each is below 256, since they
-/// came in a piece of bytes; of those that a source tells that isn't said.
+/// A source that borrows another one and returns the other's bytes. Its contract says that each byte that it
+/// returned is below 256, since it came in a slice of `u8`; a source's visible bytes have no such bound.
 #[derive(Drop)]
 pub(crate) struct Through<'a, S> {
     source: &'a mut S,

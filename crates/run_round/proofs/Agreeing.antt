@@ -1,5 +1,6 @@
 -- The records of groups, with their samples and their pictures.
 use Rattle.std.proofs.Common.{◌≡◌, refl, ℕ, ◌+◌, ◌<◌, ◌≤◌, List, [], ◌∷◌, ◌++◌, None, Some, arith, length, map, ap, sym, subst, ◌∙◌, append_assoc, append-nil, length-append}
+use Rattle.std.proofs.lemmas.Slice.Zip.{AllZip-long}
 use Rattle.std.specs.Prelude.{slice_get}
 use Rattle.std.specs.List.{flat_map, AllByRecursion, AllZip}
 use Rattle.std.proofs.lemmas.List.{length-map}
@@ -20,12 +21,12 @@ use Rattle.run_look.specs.declared.end.LookEnd.TheVariants as ends
 use Rattle.run_look.specs.Checking.{frames_in as frames_of_record, went, Alone, done_at_end}
 use Rattle.run_look.specs.Agreeing.{Given, given, SampleAgrees, PictureAgrees, AreBeside, nothing_further, by_sample, by_picture, picture_or}
 use Rattle.run_round.specs.Laws.{frames_in}
-use Rattle.run_round.proofs.Beside.{get-behind, get-front, get-within, zip-get, zip-length}
+use Rattle.run_round.proofs.Beside.{get-behind, get-front, get-within, zip-get}
 use Rattle.run_round.proofs.Following.{Follow}
 use Rattle.run_round.proofs.Movies.{IsWrittenSample}
 use Rattle.run_round.proofs.Parts.{IsReadyGroup, frame, frames-number as record-frames, as-said, is-pictured, frame-there}
 
--- a part of a list, behind the items in front of it
+-- a part of a list, after `front` items
 part-there : {A : Type 0} (front here rest all : List A) (k : ℕ) (x : A) → all ≡ front ++ (here ++ rest) → slice_get here k ≡ Some x → slice_get all (length front + k) ≡ Some x
 part-there front here rest all k x e h = ap (λ l. slice_get l (length front + k)) e ∙ get-behind front (here ++ rest) k ∙ get-front here rest k x h
 
@@ -45,7 +46,7 @@ module _ (frame-size : FrameHasTableSize) (frame-length : WrittenHasLength) (fra
   abbrev coded : Group → List CodedFrame
   coded g = coded_group j (map (coefficients_in j) g.pictures) (indices g.choice)
 
-  -- ---- one group, behind pictures and as many frames
+  -- ---- one group, after pictures and as many frames
 
   module _ (g : Group) (fit : IsReadyGroup j g) (pictures pictures' : List Picture) (frames frames' : List CodedFrame) (same : length frames ≡ length pictures)
       (pictures-are : ps.pictures ≡ pictures ++ (g.pictures ++ pictures')) (frames-are : fs ≡ frames ++ (coded g ++ frames')) where
@@ -84,7 +85,7 @@ module _ (frame-size : FrameHasTableSize) (frame-length : WrittenHasLength) (fra
   coded-number : (g : Group) → length (coded g) ≡ length g.pictures
   coded-number g = sym (length-map (coded g) bytes-of) ∙ frames-number j g
 
-  -- behind the last group there is no sample and no picture
+  -- after the last group there is no sample and no picture
   none-further : (n : ℕ) → length ss ≤ n → length ps.pictures ≤ n → ps.fault ≡ None → nothing_further all n tt ≡ ends.Done
   none-further n few few' end =
       ap (by_sample all n) (slice_get_past ss n few)
@@ -94,7 +95,7 @@ module _ (frame-size : FrameHasTableSize) (frame-length : WrittenHasLength) (fra
       → fs ≡ frames ++ frames_in j gs → ps.fault ≡ None → AllByRecursion (IsReadyGroup j) gs
       → Follow (AreBeside all j.layout) (nothing_further all) (settings_of j) (length pictures) (map (record_in j) gs)
   all-beside pictures frames [] same pictures-are frames-are end h =
-      let n = zip-length (IsWrittenSample file) ss fs written in
+      let n = sym (AllZip-long (IsWrittenSample file) ss fs written) in
       let m : length fs ≡ length frames = ap length (frames-are ∙ append-nil frames) in
       let k : length ps.pictures ≡ length pictures = ap length (pictures-are ∙ append-nil pictures) in
       none-further (length pictures) (omega (arith, n, m, same)) (omega (arith, k)) end

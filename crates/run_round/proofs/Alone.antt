@@ -20,7 +20,7 @@ use Rattle.run_look.specs.Checking.{frames_in, Step, ended, went, Goes, RecordIs
 use Rattle.run_look.specs.Agreeing.{Given, given, AreBeside, nothing_further, form_of, IsMovie, HasPictures, AreHeaded, RecordsWith, ChecksOn}
 use Rattle.run_round.specs.Laws.{CheckedIsCheckedAlone, CheckedIsCountedOnce}
 
--- what stands beside a record doesn't end checking by saying that it is done
+-- the samples and pictures of a record don't end checking with Done
 never-done : (g : Given) (l : Layout) (s : Settings) (r : Record) (first : ℕ) → AreBeside g l s r first tt (ended ends.Done) → ⊥
 never-done g l s r first (k, lt, inl h) = h.1
 never-done g l s r first (k, lt, inr h) = h.2

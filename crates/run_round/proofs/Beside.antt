@@ -1,10 +1,10 @@
--- Things that stand side by side in lists.
+-- Lists side by side.
 use Rattle.std.proofs.Common.{◌≡◌, refl, ℕ, zero, suc, ◌+◌, ◌*◌, ◌<◌, List, [], ◌∷◌, ◌++◌, Some, arith, length, map, take, drop, ap, sym, subst, ◌∙◌}
 use Rattle.std.specs.Prelude.{slice_get}
 use Rattle.std.specs.List.{flat_map, AllByRecursion, AllZip}
 use Rattle.std.proofs.lemmas.List.{take_at, drop_at, drop-drop}
 
--- ---- the item of a number
+-- ---- the item at an index
 
 pub get-behind : {A : Type 0} (xs ys : List A) (k : ℕ) → slice_get (xs ++ ys) (length xs + k) ≡ slice_get ys k
 get-behind [] ys k = ap (slice_get ys) (let e : 0 + k ≡ k = omega arith in e)
@@ -41,35 +41,9 @@ zip-get R (a ∷ xs) [] k y h e = absurd h
 zip-get R (a ∷ xs) (b ∷ ys) zero y h e = let same : b ≡ y = cc in (a, refl, subst (R a) same h.0)
 zip-get R (a ∷ xs) (b ∷ ys) (suc k) y h e = zip-get R xs ys k y h.1 e
 
-pub zip-take : {A B : Type 0} (R : A → B → Type 0) (n : ℕ) (xs : List A) (ys : List B) → AllZip R xs ys → AllZip R (take n xs) (take n ys)
-zip-take R zero xs ys h = tt
-zip-take R (suc n) [] [] h = tt
-zip-take R (suc n) [] (y ∷ ys) h = absurd h
-zip-take R (suc n) (x ∷ xs) [] h = absurd h
-zip-take R (suc n) (x ∷ xs) (y ∷ ys) h = (h.0, zip-take R n xs ys h.1)
+-- ---- parts of equally many items
 
-pub zip-drop : {A B : Type 0} (R : A → B → Type 0) (n : ℕ) (xs : List A) (ys : List B) → AllZip R xs ys → AllZip R (drop n xs) (drop n ys)
-zip-drop R zero xs ys h = h
-zip-drop R (suc n) [] [] h = tt
-zip-drop R (suc n) [] (y ∷ ys) h = absurd h
-zip-drop R (suc n) (x ∷ xs) [] h = absurd h
-zip-drop R (suc n) (x ∷ xs) (y ∷ ys) h = zip-drop R n xs ys h.1
-
-pub zip-both : {A B : Type 0} (R : A → B → Type 0) (xs xs' : List A) (ys ys' : List B) → AllZip R xs ys → AllZip R xs' ys' → AllZip R (xs ++ xs') (ys ++ ys')
-zip-both R [] xs' [] ys' h k = k
-zip-both R [] xs' (y ∷ ys) ys' h k = absurd h
-zip-both R (x ∷ xs) xs' [] ys' h k = absurd h
-zip-both R (x ∷ xs) xs' (y ∷ ys) ys' h k = (h.0, zip-both R xs xs' ys ys' h.1 k)
-
-pub zip-length : {A B : Type 0} (R : A → B → Type 0) (xs : List A) (ys : List B) → AllZip R xs ys → length xs ≡ length ys
-zip-length R [] [] h = refl
-zip-length R [] (y ∷ ys) h = absurd h
-zip-length R (x ∷ xs) [] h = absurd h
-zip-length R (x ∷ xs) (y ∷ ys) h = ap suc (zip-length R xs ys h.1)
-
--- ---- parts of so many things each
-
--- part 0 is the front
+-- part 0 begins the list
 pub part-first : {A : Type 0} (n : ℕ) (l : List A) → drop (n * 0) l ≡ l
 part-first n l = ap (λ m. drop m l) (let e : n * 0 ≡ 0 = omega arith in e)
 
@@ -77,7 +51,7 @@ part-first n l = ap (λ m. drop m l) (let e : n * 0 ≡ 0 = omega arith in e)
 pub part-next : {A : Type 0} (n k : ℕ) (l : List A) → drop (n * suc k) l ≡ drop (n * k) (drop n l)
 part-next n k l = ap (λ m. drop m l) (let e : n * suc k ≡ n + n * k = omega arith in e) ∙ sym (drop-drop (n * k) n l)
 
--- of pieces of n things each, part k is piece k
+-- part k of pieces of n items each is piece k
 pub part-of-pieces : {A X : Type 0} (f : X → List A) (n : ℕ) (xs : List X) (k : ℕ) (x : X) → AllByRecursion (λ x. length (f x) ≡ n) xs → slice_get xs k ≡ Some x
     → take n (drop (n * k) (flat_map f xs)) ≡ f x
 part-of-pieces f n [] k x h e = absurd cc

@@ -1,4 +1,4 @@
--- What encoding gives is checked: its proof by itself, and with its movie and the pictures.
+-- The result of encoding passes the check: its proof by itself, and with its movie and the pictures.
 use Rattle.std.proofs.Common.{◌≡◌, refl, ℕ, suc, ◌+◌, ◌<◌, inr, Bool, true, false, cond, Option, None, Some, Ok, List, [], length, map, arith, sym, ap, subst, ◌∙◌}
 use Rattle.std.specs.Prelude.{◌==◌, is_some, if◌then◌else◌}
 use Rattle.std.specs.List.{All}
@@ -34,9 +34,9 @@ use Rattle.run_round.proofs.Movies.{is-movie, written-samples}
 use Rattle.run_round.proofs.Groups.{all-are-ready, all-pictures, few-frames, small-frames, few-records}
 use Rattle.run_round.proofs.Agreeing.{alone-follow, all-beside}
 
--- ---- the form of the pictures
+-- ---- the format of the pictures
 
--- The settings say the form of raw pictures, and none of Y4M.
+-- The settings state the format of raw pictures, and none for Y4M.
 form-is : (raw : Bool) (form : Option Head) (h : Head) → raw ≡ is_some form → ((x : Head) → form ≡ Some x → x ≡ h)
     → (if cond raw 1 0 == 1 then Some h else None) ≡ form
 form-is true None h e of = absurd cc
@@ -44,7 +44,7 @@ form-is true (Some x) h e of = ap Some (sym (of x refl))
 form-is false None h e of = refl
 form-is false (Some x) h e of = absurd cc
 
--- what was encoded are pictures
+-- the encoded pictures are pictures of that format
 are-no-products : (raw : Bool) (s : Settings) (end : LookEnd) (P : Type 0) → P → HasPictures s end P (cond raw 1 0 == 2)
 are-no-products true s end P p = p
 are-no-products false s end P p = p

@@ -1,5 +1,6 @@
--- What encoding gives is decoded: each sample shows its coded frame.
+-- The result of encoding is decoded: each sample shows its coded frame.
 use Rattle.std.proofs.Common.{◌≡◌, refl, ℕ, zero, suc, ◌≤◌, List, [], ◌∷◌, ◌++◌, length, map, drop, arith, sym, ap, subst, ◌∙◌}
+use Rattle.std.proofs.lemmas.Slice.Zip.{AllZip-long}
 use Rattle.std.specs.Prelude.{◌==◌, if◌then◌else◌}
 use Rattle.std.specs.List.{All, AllByRecursion, AllZip}
 use Rattle.std.proofs.lemmas.List.{length-map}
@@ -35,7 +36,6 @@ use Rattle.run_decode.specs.declared.job.Job.{Job as DecodeJob}
 use Rattle.run_decode.specs.declared.end.DecodeEnd.TheVariants as decodes
 use Rattle.run_decode.specs.Decoding.{AreShown, IsLike, Decodes, job_in, head_of, first_duration}
 use Rattle.run_round.specs.Laws.{frames_in, all_shown, ShowsAll, EncodedIsDecoded}
-use Rattle.run_round.proofs.Beside.{zip-length}
 use Rattle.run_round.proofs.Jobs.{is-job, are-pictures}
 use Rattle.run_round.proofs.Movies.{IsWrittenSample, frames-are, is-movie, samples-are, written-samples}
 use Rattle.run_round.proofs.Groups.{few-frames, small-frames, frames-number}
@@ -54,7 +54,7 @@ headers : (j : Job) (gs : List Group) → AllByRecursion (HasHeader (header_in j
 headers j [] = tt
 headers j (g ∷ gs) = group-headers (header_in j) (frame_slices j) (map (coefficients_in j) g.pictures) (indices g.choice) (frames_in j gs) (headers j gs)
 
--- ---- what is shown
+-- ---- the decoded pictures
 
 are-shown : (d : Depth) (file : List ℕ) (ss : List Sample) (fs : List CodedFrame) → AllZip (IsWrittenSample file) ss fs → AreShown d file (all_shown d fs) ss
 are-shown d file [] [] h = tt
@@ -63,7 +63,7 @@ are-shown d file (s ∷ ss) [] h = absurd h
 are-shown d file (s ∷ ss) (f ∷ fs) h =
     (record { inside = h.0.of.inside; shown = record { frame = f; stands = h.0.of.stands; is = refl } }, are-shown d file ss fs h.1)
 
--- frames with one header are alike
+-- frames with the same header are alike
 likes : (job : DecodeJob) (d : Depth) (h h' : FrameHeader) (fs : List CodedFrame) → h' ≡ h → AllByRecursion (HasHeader h) fs
     → AllByRecursion (λ (p : Shown). head_of job h' ≡ head_of job p.header) (all_shown d fs)
 likes job d h h' [] e all = tt
@@ -75,7 +75,7 @@ are-alike job d h (f ∷ fs) all = likes job d h f.header (f ∷ fs) all.0 all
 
 -- ---- the rate
 
--- the rate that is told of samples that all have this duration, where there are any
+-- the rate that is reported for samples of equal duration, if there are any
 abbrev told : ℕ → ℕ → ℕ
 told duration timescale = if duration == 0 then 0 else timescale
 
@@ -111,14 +111,14 @@ module _ (j : Job) (is : IsJob j) (ps : Pictures) (are : ArePictures j.head ps) 
   decodes-all : (form : Form) (d : Depth) → Decodes (job_in form d movie) file (samples movie.tables) (all_shown d fs) decodes.Done
   decodes-all form d = record {
     first = record { shown = are-shown d file (samples movie.tables) fs written-are; alike = are-alike (job_in form d movie) d (header_in j) fs (headers j coded) };
-    ends = length-map fs (shown_of d) ∙ sym (zip-length (IsWrittenSample file) (samples movie.tables) fs written-are);
+    ends = length-map fs (shown_of d) ∙ AllZip-long (IsWrittenSample file) (samples movie.tables) fs written-are;
   }
 
-  -- where there is a sample, its head is the pictures'
+  -- if there is a sample, its head is the pictures'
   den-is : 1 ≤ length fs → first_duration (samples movie.tables) ≡ j.head.den
   den-is some =
       let es = extents (map length (all_frames j coded)) in
-      let n = zip-length (IsWrittenSample file) (samples movie.tables) fs written-are in
+      let n = sym (AllZip-long (IsWrittenSample file) (samples movie.tables) fs written-are) in
       let m = ap length samples-written ∙ length-map es (λ (e : Extent). record { at = e.at; size = e.size; duration = j.head.den; description = 1 }) in
       ap first_duration samples-written ∙ duration-is es j.head.den (omega (arith, n, m, some))
 

@@ -1,4 +1,5 @@
--- The records of a proof that is read whole: each is read, is good and agrees with what stands beside it, and then the proof ends.
+-- The records of a proof that is read whole: each is read, is good and agrees with its samples and pictures, and
+-- then the proof ends.
 use Rattle.std.proofs.Common.{◌≡◌, refl, ℕ, zero, suc, ◌+◌, ◌<◌, inr, List, [], ◌∷◌, length, Option, None, Some, Result, Ok, Err, arith, sym, ap, subst}
 use Rattle.pw_outside.specs.Reading.{Fault, Rest, bind, ◌>>=◌}
 use Rattle.rate_table.specs.declared.fault.ProofKind.{ProofKind}
@@ -45,7 +46,7 @@ proved-is bytes x e = of-head (head_at (record { place = 0; bytes = bytes })) x 
 
 -- ---- records that are checked
 
--- Each record, behind so many frames, is good, and what stands beside it goes on; at the end checking is done.
+-- Each record, after `frames` frames, is good, and its samples and pictures agree; at the end checking is done.
 abbrev pub Follow : (Settings → Record → ℕ → Unit {0} → Step (Unit {0}) → Type 0) → (ℕ → Unit {0} → LookEnd) → Settings → ℕ → List Record → Type 0
 Follow Beside at_end s frames [] = at_end frames tt ≡ ends.Done
 Follow Beside at_end s frames (r ∷ rs) = IsGood s r × Beside s r frames tt (went tt) × Follow Beside at_end s (frames + frames_in s r) rs

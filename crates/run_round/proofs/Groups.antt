@@ -42,7 +42,7 @@ module _ (j : Job) (is : IsJob j) (ps : Pictures) (are : ArePictures j.head ps) 
     pub all-are-ready : AllByRecursion (IsReadyGroup j) coded
     all-are-ready = all-are 0 coded (let h = first.few in omega (arith, h)) first.pictures (recursion_from_All (IsCoded j) coded first.each) (each-holds j is ps are b coded first)
 
-    -- the frames are those that a movie can have
+    -- the frames are valid frames of a movie
     pub few-frames : length (all_frames j coded) ≤ 1000000
     few-frames = let few = are.few in omega (arith, frames-count j is ps are b coded first, few)
 

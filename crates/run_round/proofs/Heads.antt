@@ -1,4 +1,4 @@
--- A head line that is read says a form within the limits.
+-- A head line that is read has a format within the limits.
 use Rattle.std.proofs.Common.{◌≡◌, refl, ℕ, ◌+◌, ◌≤◌, ◌%◌, Bool, true, false, Option, None, Some, Result, Ok, Err, List, [], ◌∷◌, length, arith, sym, subst}
 use Rattle.std.specs.Prelude.{IfSome, IfOk, IsTrue, nat_le, ◌&&◌, ◌||◌, ◌==◌, if◌then◌else◌, option_and_then, unwrap_or}
 use Rattle.std.specs.List.{slice_split, position}
@@ -22,7 +22,7 @@ use Rattle.pic_raw.specs.Any.{head_of, pictures_of}
 abbrev Step : Type 0 → Type 0
 Step A = Result A (Fault PictureKind)
 
--- where each value of a step leads to a good one, the chain does
+-- if each value of a step leads to a good one, the chain does
 chained : {A B : Type 0} (Q : A → Type 0) (P : B → Type 0) (r : Step A) (next : A → Step B) → IfOk r Q → ((x : A) → Q x → IfOk (next x) P) → IfOk (bind r next) P
 unfolding bind
 chained Q P (Ok x) next h k = k x h

@@ -1,4 +1,4 @@
--- What holds of a run whose input stands for pictures.
+-- Facts of a run whose input stands for pictures.
 use Rattle.std.proofs.Common.{◌≡◌, refl, ℕ, ◌*◌, ◌≤◌, ◌^◌, ◌<◌, Bool, true, Option, None, Some, Result, Ok, Err, List, length, arith, sym, ap, subst, ◌∙◌}
 use Rattle.std.specs.Prelude.{IfSome, is_none, nat_le, ◌&&◌}
 use Rattle.std.specs.List.{All}
@@ -28,7 +28,7 @@ abbrev head-or : Head → Result (Head × Pictures) (Fault PictureKind) → Head
 head-or other (Ok x) = x.0
 head-or other (Err f) = other
 
--- raw pictures have the form that is said
+-- raw pictures have the stated format
 pub raw-head : (form head : Head) (bytes : List ℕ) (ps : Pictures) → pictures_of (Some form) bytes ≡ Ok (head, ps) → form ≡ head
 unfolding pictures_of bind
 raw-head form head bytes ps e = ap (head-or head) e

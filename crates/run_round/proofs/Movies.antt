@@ -1,5 +1,6 @@
--- The samples of a movie that was written: each lies in the file, and stands for its coded frame.
+-- The samples of a written movie: each lies in the file, and stands for its coded frame.
 use Rattle.std.proofs.Common.{◌≡◌, refl, ℕ, ◌+◌, ◌≤◌, Ok, List, [], ◌∷◌, ◌++◌, arith, length, map, drop, ap, sym, subst, ◌∙◌, length-take, length-drop}
+use Rattle.std.proofs.lemmas.List.{map-append}
 use Rattle.std.specs.List.{AllByRecursion, AllZip, All}
 use Rattle.pr_frame.specs.declared.coded.CodedFrame.{CodedFrame}
 use Rattle.pr_frame.specs.Stands.{FrameStands}
@@ -20,9 +21,9 @@ use Rattle.run_encode.specs.Encoding.{Group, all_frames, frames_of}
 use Rattle.run_encode.proofs.Whole.{GroupIs}
 use Rattle.run_look.specs.Agreeing.{IsSampleOf}
 use Rattle.run_round.specs.Laws.{frames_in}
-use Rattle.run_round.proofs.Beside.{zip-both}
+use Rattle.pw_outside.proofs.Lists.{zip-append}
 
--- a sample of a file is a coded frame as it is written
+-- a sample of a file is the bytes of a coded frame
 pub record IsWrittenSample (file : List ℕ) (s : Sample) (f : CodedFrame) : Type 0 where
   pub of : IsSampleOf file s f
   pub size : s.size ≡ length (coded_bytes f)
@@ -60,18 +61,14 @@ sample-sizes (e ∷ es) duration = ap (λ l. e.size ∷ l) (sample-sizes es dura
 -- ---- the frames of groups
 
 module _ (j : Job) where
-  map-both : {A B : Type 0} (f : A → B) (xs ys : List A) → map f (xs ++ ys) ≡ map f xs ++ map f ys
-  map-both f [] ys = refl
-  map-both f (x ∷ xs) ys = ap (λ l. f x ∷ l) (map-both f xs ys)
-
   pub frames-are : (gs : List Group) → all_frames j gs ≡ map coded_bytes (frames_in j gs)
   frames-are [] = refl
   frames-are (g ∷ gs) =
-      ap (λ l. frames_of j g ++ l) (frames-are gs) ∙ sym (map-both coded_bytes (coded_group j (map (coefficients_in j) g.pictures) (indices g.choice)) (frames_in j gs))
+      ap (λ l. frames_of j g ++ l) (frames-are gs) ∙ sym (map-append coded_bytes (coded_group j (map (coefficients_in j) g.pictures) (indices g.choice)) (frames_in j gs))
 
   all-stand : (gs : List Group) → AllByRecursion (GroupIs j) gs → AllZip FrameStands (all_frames j gs) (frames_in j gs)
   all-stand [] h = tt
-  all-stand (g ∷ gs) h = zip-both FrameStands (frames_of j g) (all_frames j gs) (coded_group j (map (coefficients_in j) g.pictures) (indices g.choice)) (frames_in j gs) h.0.stands (all-stand gs h.1)
+  all-stand (g ∷ gs) h = zip-append FrameStands (frames_of j g) (all_frames j gs) (coded_group j (map (coefficients_in j) g.pictures) (indices g.choice)) (frames_in j gs) h.0.stands (all-stand gs h.1)
 
   module _ (movie-read : WrittenMovieIsRead) (samples-read : WrittenSamplesAreRead) (frames-read : WrittenFramesAreRead) (gs : List Group) (head : IsHead j.head)
       (hold : AllByRecursion (GroupIs j) gs) (few : length (all_frames j gs) ≤ 1000000) (small : All (λ frame. length frame ≤ 4294967286) (all_frames j gs)) where
@@ -87,7 +84,7 @@ module _ (j : Job) where
     pub samples-are : samples movie.tables ≡ written_samples (extents (map length frames)) j.head.den
     samples-are = samples-read j.head frames movie head few small is-movie
 
-    -- each sample of the movie is its coded frame as it is written
+    -- each sample of the movie is the bytes of its coded frame
     pub written-samples : AllZip (IsWrittenSample (movie_bytes j.head frames)) (samples movie.tables) (frames_in j gs)
     written-samples =
         all-written (movie_bytes j.head frames) (samples movie.tables) (frames_in j gs)

@@ -1,5 +1,7 @@
--- One frame of a group: what the group's record says of it is what its sample and its picture are.
+-- One frame of a group: the group's record agrees with its sample and its picture.
 use Rattle.std.proofs.Common.{◌≡◌, refl, ℕ, zero, suc, ◌+◌, ◌*◌, ◌/◌, ◌<◌, ◌≤◌, List, [], ◌∷◌, ◌++◌, Some, arith, length, map, take, drop, ap, sym, subst, ◌∙◌, mul-div_cancel, append-nil, take-append-drop, length-drop}
+use Rattle.std.proofs.lemmas.Slice.Zip.{AllZip-long}
+use Rattle.std.proofs.lemmas.List.{map-append}
 use Rattle.std.specs.Prelude.{slice_get}
 use Rattle.std.specs.List.{flat_map, range_with_len, AllByRecursion, Contains}
 use Rattle.std.proofs.Math.Nat.{mul-div_cancel_left}
@@ -39,9 +41,10 @@ use Rattle.run_encode.proofs.Shares.{slices-are}
 use Rattle.run_look.specs.Checking.{frames_in}
 use Rattle.run_look.specs.Agreeing.{part_of, slices_in, indices_of, indices_in, IsAsSaid, IsPictureOf}
 use Rattle.run_look.proofs.Alike.{coded_number}
-use Rattle.run_round.proofs.Beside.{get-mapped, all-get, zip-take, zip-drop, zip-length, part-first, part-next, part-of-pieces}
+use Rattle.pw_outside.proofs.Lists.{zip-take, zip-drop}
+use Rattle.run_round.proofs.Beside.{get-mapped, all-get, part-first, part-next, part-of-pieces}
 
--- ---- the coded frame of a number
+-- ---- the coded frame at an index
 
 pub frame-at : (h : FrameHeader) (n : ℕ) (cs : List FrameCoefficients) (choice : List ℕ) (k : ℕ) (c : FrameCoefficients) → slice_get cs k ≡ Some c
     → slice_get (coded_frames h n cs choice) k ≡ Some (coded_frame c h (part_of n choice k))
@@ -74,11 +77,7 @@ two-parts n slices e =
     let few : length rest ≤ n = omega (arith, e, length-drop n slices) in
     ap (λ l. map index-of (take n l) ++ (map index-of (take n (drop (n * 1) slices)) ++ [])) (part-first n slices)
     ∙ ap (λ l. map index-of (take n slices) ++ l) (append-nil (map index-of (take n (drop (n * 1) slices))) ∙ ap (λ m. map index-of (take n (drop m slices))) one ∙ ap (map index-of) (take_all n rest few))
-    ∙ sym (map-both (take n slices) rest) ∙ ap (map index-of) (take-append-drop n slices)
-  where
-    map-both : (xs ys : List CodedSlice) → map index-of (xs ++ ys) ≡ map index-of xs ++ map index-of ys
-    map-both [] ys = refl
-    map-both (x ∷ xs) ys = ap (λ l. index-of x ∷ l) (map-both xs ys)
+    ∙ sym (map-append index-of (take n slices) rest) ∙ ap (map index-of) (take-append-drop n slices)
 
 all-parts : (c : FrameCoefficients) (mode : Interlace) (slices : List CodedSlice) → length slices ≡ pictures_of mode * length (slices_of c.layout)
     → flat_map indices_of (map (coded_picture c slices) (range_with_len 0 (pictures_of mode))) ≡ map index-of slices
@@ -114,7 +113,7 @@ module _ (frame-size : FrameHasTableSize) (frame-length : WrittenHasLength) (fra
   abbrev r : Record
   r = record_in j g
 
-  -- how many slices a frame has
+  -- the number of slices in a frame
   abbrev n : ℕ
   n = cert.frame_slices (settings_of j)
 
@@ -130,7 +129,7 @@ module _ (frame-size : FrameHasTableSize) (frame-length : WrittenHasLength) (fra
   some-slices : 0 < n
   some-slices = positive (length g.pictures) n (length (table_in j g.pictures).slices) all-slices fit.table.some
 
-  -- how many frames the record is of
+  -- the number of frames of the record
   pub frames-number : frames_in s r ≡ length g.pictures
   frames-number = ap (λ m. m / n) all-slices ∙ mul-div_cancel (length g.pictures) {n = n} some-slices
 
@@ -183,7 +182,7 @@ module _ (frame-size : FrameHasTableSize) (frame-length : WrittenHasLength) (fra
 
     part-number : length part ≡ length c.slices
     part-number =
-        ap length (sym indices-here) ∙ length-map entries (λ (e : Entry). e.index) ∙ sym (zip-length Contains (slice_tables j c) entries chosen-here)
+        ap length (sym indices-here) ∙ length-map entries (λ (e : Entry). e.index) ∙ AllZip-long Contains (slice_tables j c) entries chosen-here
         ∙ length-map c.slices (entries_of c.layout.interlace c.alpha j.weights j.lo j.hi)
 
     indices-are : indices_in frame ≡ part
@@ -192,7 +191,7 @@ module _ (frame-size : FrameHasTableSize) (frame-length : WrittenHasLength) (fra
         let long = coded_number (weights_in (header_in j)) c.slices part part-number ∙ slices_number c of.of in
         all-parts c c.layout.interlace slices long ∙ coded-indices (weights_in (header_in j)) c.slices part part-number
 
-    -- its sample is as the record says
+    -- its sample agrees with the record
     pub as-said : (size : ℕ) → size ≡ length (coded_bytes frame) → IsAsSaid s r k size frame
     as-said size e = record {
       header = refl;
@@ -203,7 +202,7 @@ module _ (frame-size : FrameHasTableSize) (frame-length : WrittenHasLength) (fra
       indices_are = indices-are;
     }
 
-    -- its picture is the one of the record
+    -- its picture agrees with the record
     pub is-pictured : IsPictureOf j.layout s r k frame p
     is-pictured = record {
       fixed = fixed-is ∙ ap (λ m. m * fixed_bytes j.layout) (sym frames-number);
@@ -213,6 +212,6 @@ module _ (frame-size : FrameHasTableSize) (frame-length : WrittenHasLength) (fra
       coded = refl;
     }
 
-    -- it stands among the frames of the group
+    -- its place among the frames of the group
     pub frame-there : slice_get (coded_frames (header_in j) (frame_slices j) cs (indices g.choice)) k ≡ Some frame
     frame-there = frame-at (header_in j) (frame_slices j) cs (indices g.choice) k c there-too ∙ ap (λ m. Some (coded_frame c (header_in j) (part_of m (indices g.choice) k))) (sym same)

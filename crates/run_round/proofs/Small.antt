@@ -1,4 +1,4 @@
--- The proof that no choice fits is checked by itself.
+-- The proof that no choice fits passes the check by itself.
 use Rattle.std.proofs.Common.{◌≡◌, refl, ℕ, suc, ◌+◌, ◌*◌, ◌<◌, List, [], ◌∷◌, ◌++◌, length, arith, sym, ap, subst, ◌∙◌, length-append}
 use Rattle.std.specs.List.{AllByRecursion}
 use Rattle.pic_y4m.specs.Frames.{Pictures}
@@ -24,7 +24,7 @@ module _ (j : Job) (ps : Pictures) where
   abbrev s : Settings
   s = settings_of j
 
-  -- the records of the groups in front of the last one are good
+  -- the records of the groups before the last one are good
   all-good : (k : ℕ) (written : List (List ℕ)) (printed : List Printed) → GroupsHold j k ps.pictures written printed → AllByRecursion (IsGood s) (records_from j k ps.pictures printed)
   all-good k written [] h = tt
   all-good k written (r ∷ rs) h = (h.0.good, all-good (k + 1) written rs h.1)
@@ -37,7 +37,7 @@ module _ (j : Job) (ps : Pictures) where
   records-number k [] = refl
   records-number k (r ∷ rs) = ap suc (records-number (k + 1) rs)
 
-  -- a proof of good records, the last of which may be of verdict none
+  -- a proof of good records, the last of which may say that no choice fits
   pub proof-checked : (written : List (List ℕ)) (printed : List Printed) (last : Record) (proof : List ℕ) → GroupsHold j 0 ps.pictures written printed → IsGood s last
       → Proves j proof (records_in j ps.pictures printed ++ last ∷ []) → length printed < 1000000 → ChecksAlone proof looks.Done (length printed + 1)
   proof-checked written printed last proof hold good proves few =

@@ -1,4 +1,4 @@
--- Laws of whole rounds: what encoding gives, checked and decoded. Our own.
+-- Laws of whole rounds: the result of encoding, checked and decoded. Our own.
 use Rattle.std.specs.Prelude.{◌≡◌, ℕ, ◌+◌, ◌*◌, true, List, length, map, Ok}
 use Rattle.std.specs.List.{All, flat_map}
 use Rattle.pw_planes.specs.declared.kinds.Depth.{Depth}
@@ -24,7 +24,7 @@ use Rattle.run_decode.specs.declared.job.Form.{Form}
 use Rattle.run_decode.specs.declared.end.DecodeEnd.TheVariants as decodes
 use Rattle.run_decode.specs.Decoding.{Decodes, job_in, head_of}
 
--- The bytes stand for these pictures, these are the words, the pictures' head and the run's job, and the pictures have a layout.
+-- The bytes are these pictures with this head and have a layout; `w` are the options and `j` the run's parameters.
 pub record IsInput (w : EncodeWords) (bytes : List ℕ) (head : Head) (ps : Pictures) (j : Job) : Type 0 where
   pub words : AreWords w
   pub meant : pictures_of w.raw bytes ≡ Ok (head, ps)
@@ -33,25 +33,26 @@ pub record IsInput (w : EncodeWords) (bytes : List ℕ) (head : Head) (ps : Pict
 
 -- ---- checking
 
--- Where encoding is done, and the layers of no group are too many, checking its proof is done: by itself, and with its movie and the
--- pictures. It has one record for each group.
+-- If encoding is done, and no group's Pareto frontiers have too many pairs, checking its proof is done: by itself,
+-- and with its movie and the pictures. It has one record for each group.
 abbrev pub EncodedIsChecked : Type 0
 EncodedIsChecked = (w : EncodeWords) (bytes : List ℕ) (head : Head) (ps : Pictures) (j : Job) (lists : Lists) → IsInput w bytes head ps j
     → (e : Encodes j ps encodes.Done lists) → All (IsNarrow j) e.coded
     → Checks lists.proof lists.movie bytes looks.Done (group_count j.group ps) × ChecksAlone lists.proof looks.Done (group_count j.group ps)
 
--- Where encoding stops since no choice fits for a group, checking its proof by itself is done: it has one record for each of the n groups in
--- front of that one, and one that says so.
+-- If encoding stops because no choice fits for a group, checking its proof by itself is done. It has one record for
+-- each of the `n` groups before that one, and one that says so.
 abbrev pub SmallIsChecked : Type 0
 SmallIsChecked = (w : EncodeWords) (bytes : List ℕ) (head : Head) (ps : Pictures) (j : Job) (lists : Lists) (frame least : ℕ) → IsInput w bytes head ps j
     → (e : Encodes j ps (encodes.TooSmall frame least) lists) → All (IsNarrow j) e.coded
     → (n : ℕ) × (frame ≡ j.group * n) × ChecksAlone lists.proof looks.Done (n + 1)
 
--- Where checking a proof with a movie and pictures is done, checking it by itself is done, too, of as many records.
+-- If checking a proof with a movie and pictures is done, so is checking it by itself, with the same number of
+-- records.
 abbrev pub CheckedIsCheckedAlone : Type 0
 CheckedIsCheckedAlone = (bytes file shown : List ℕ) (n : ℕ) → Checks bytes file shown looks.Done n → ChecksAlone bytes looks.Done n
 
--- And so the records are counted in one way.
+-- The number of records is unique.
 abbrev pub CheckedIsCountedOnce : Type 0
 CheckedIsCountedOnce = (bytes file shown : List ℕ) (m n : ℕ) → Checks bytes file shown looks.Done m → Checks bytes file shown looks.Done n → m ≡ n
 
@@ -61,19 +62,20 @@ CheckedIsCountedOnce = (bytes file shown : List ℕ) (m n : ℕ) → Checks byte
 abbrev pub frames_in : Job → List Group → List CodedFrame
 frames_in j coded = flat_map (λ g. coded_group j (map (coefficients_in j) g.pictures) (indices g.choice)) coded
 
--- what frames show, in order
+-- the decoded pictures of frames, in order
 abbrev pub all_shown : Depth → List CodedFrame → List Shown
 all_shown d frames = map (shown_of d) frames
 
--- A file is a movie, and decoding it shows all of these frames, in either form and at every depth. What is shown has the form and the
--- rate of this head.
+-- The file is a movie, and decoding it shows all of these frames, in either form and at every depth. The decoded
+-- pictures have the format and the rate of `head`.
 pub record ShowsAll (file : List ℕ) (head : Head) (frames : List CodedFrame) : Type 0 where
   pub movie : Movie
   pub is_movie : movie_in file ≡ Ok movie
   pub decodes : (form : Form) (d : Depth) → Decodes (job_in form d movie) file (samples movie.tables) (all_shown d frames) decodes.Done
   pub heads : (form : Form) (d : Depth) → All (λ (p : Shown). head_of (job_in form d movie) p.header ≡ record head { depth = d }) (all_shown d frames)
 
--- Where encoding is done, decoding its movie is done: it shows the coded frames, one for each picture, with the pictures' form and rate.
+-- If encoding is done, so is decoding its movie: it shows the coded frames, one for each picture, with the
+-- pictures' format and rate.
 abbrev pub EncodedIsDecoded : Type 0
 EncodedIsDecoded = (w : EncodeWords) (bytes : List ℕ) (head : Head) (ps : Pictures) (j : Job) (lists : Lists) → IsInput w bytes head ps j
     → (e : Encodes j ps encodes.Done lists) → ShowsAll lists.movie head (frames_in j e.coded) × (length (frames_in j e.coded) ≡ length ps.pictures)

@@ -15,8 +15,8 @@ use rate_table::{good_is_least, none_fits_below_least};
 use run_encode::encoded_has_headline;
 use run_look::checking_ends_once;
 
-/// Where encoding is done, checking is done: of its proof by itself, and of its proof with its movie and the pictures that were
-/// encoded. There is one record for each group.
+/// If encoding is done, so is checking: its proof by itself, and its proof with its movie and the encoded pictures.
+/// There is one record for each group.
 pub fn encoded_is_checked()
     ensures { EncodedIsChecked }
 {
@@ -39,8 +39,8 @@ pub fn encoded_is_checked()
     proof_is_read_again();
 }
 
-/// Where encoding stops since no choice fits for a group, checking its proof by itself is done. There is one record for each group in front
-/// of that one, and one that says that no choice fits.
+/// If encoding stops because no choice fits for a group, checking its proof by itself is done. There is one record
+/// for each group before that one, and one that says that no choice fits.
 pub fn small_is_checked()
     ensures { SmallIsChecked }
 {
@@ -49,8 +49,8 @@ pub fn small_is_checked()
     encoded_has_headline();
 }
 
-/// Where encoding is done, decoding its movie is done, at every depth and in either form. There is one picture for each that was
-/// encoded; it is what that one's coded frame shows, and it has the form and the rate of those that were encoded.
+/// If encoding is done, so is decoding its movie, at every depth and in either form. Each encoded picture has one
+/// decoded picture; that one is what the coded frame shows, with the format and the rate of the encoded pictures.
 pub fn encoded_is_decoded()
     ensures { EncodedIsDecoded }
 {
@@ -69,8 +69,8 @@ pub fn encoded_is_decoded()
     written_frames_are_read();
 }
 
-/// Where checking a proof with a movie and pictures is done, checking it by itself is done, too, of as many records; so these are counted
-/// in one way.
+/// If checking a proof with a movie and pictures is done, so is checking it by itself, with the same number of
+/// records; so the number of records is unique.
 pub fn checked_is_checked_alone()
     ensures alone { CheckedIsCheckedAlone }
     ensures once { CheckedIsCountedOnce }

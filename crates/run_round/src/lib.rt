@@ -1,4 +1,5 @@
-//! Whole rounds: what encoding gives is accepted by checking and shown by decoding. Laws alone, over the definitions of the three runs.
+//! Whole rounds: the result of encoding passes the check and is decoded. Laws alone, over the definitions of the
+//! three runs.
 #![tactic(auto)]
 
 mod laws;

@@ -1,4 +1,4 @@
--- What the parts of a run gave.
+-- The results of the parts of a run.
 use Rattle.std.proofs.Common.{◌≡◌, ℕ, ◌⊎◌, inl, inr, List, [], ◌++◌, length, Some, refl, sym, ap, ◌∙◌, subst, arith}
 use Rattle.std.specs.Bool.{OnTrue}
 use Rattle.std.proofs.lemmas.List.{length-map}
@@ -31,7 +31,7 @@ use Rattle.run_synth.specs.Synthesis.{AreSynthWords, encode_words, head_in, pict
 use Rattle.run_synth.specs.inner.Parts.{bytes_in, AreEncoded, IsDecodable}
 use Rattle.run_synth.proofs.Laid.{laid, synthetic-ok, input, groups-are}
 
--- what a sink holds that held nothing
+-- the contents of a sink that held nothing
 pub held-so : (m0 m1 x : List ℕ) (n0 n1 : ℕ) → m0 ≡ [] → Puts (sink_state (Some m0) n0) (sink_state (Some m1) n1) x → m1 ≡ x
 held-so m0 m1 x n0 n1 none p = p.bytes_held ∙ ap (λ l. l ++ x) none
 
@@ -40,12 +40,12 @@ never-read end cause e =
     let rose : Rose 0 0 = subst (λ x. OnTrue (is_read_fault x) (Rose 0 0)) e cause.rose in
     omega (arith, rose)
 
--- the bytes that are left are told
+-- the bytes that are left are visible
 pub told : (i : Input) → IsSome (left_in i)
 told (inputs.Synthetic bytes) = refl
 told (inputs.Held m) = refl
 
--- checking what was encoded ends in no other way
+-- checking the encoded files has no other outcome
 module _ (bytes file shown : List ℕ) (n : ℕ) (once : DoneOnce) (there : Checks bytes file shown looks.Done n) where
   pub never-ends : (end : LookEnd) (other : LookEnd) → AnswersEnd end (λ e. (m : ℕ) × Checks bytes file shown e m) → end ≡ other
       → (AnswersEnd other (λ e. (m : ℕ) × Checks bytes file shown e m) → (m : ℕ) × Checks bytes file shown other m) → (other ≡ looks.Done → ⊥) → ⊥
@@ -87,7 +87,7 @@ module _ (w : SynthWords) (ok : AreSynthWords w) (meant : SyntheticIsMeant) wher
       let fault = encodes.ends.1 in
       cc
 
-  -- ---- what was encoded is decoded and checked
+  -- ---- the encoded files are decoded and checked
 
   module _ (movie proof text : List ℕ) (r : AreEncoded w movie proof text) where
     pub decodable : EncodedIsDecoded → IsDecodable movie (length (synthetic_pictures (synthetic_in w)))
@@ -112,7 +112,7 @@ module _ (w : SynthWords) (ok : AreSynthWords w) (meant : SyntheticIsMeant) wher
         (subst (λ m. Checks proof m (bytes_in w) looks.Done (group_count r.job.group (pictures_read w))) movie'
         (subst (λ p. Checks p r.lists.movie (bytes_in w) looks.Done (group_count r.job.group (pictures_read w))) proof' c.0))
 
-    -- the same of bytes that are these
+    -- the same of equal bytes
     pub checkable-as : EncodedIsChecked → (proof' movie' shown : List ℕ) → proof' ≡ proof → movie' ≡ movie → shown ≡ bytes_in w
         → Checks proof' movie' shown looks.Done (length (synthetic_pictures (synthetic_in w)))
     checkable-as law proof' movie' shown a b c =

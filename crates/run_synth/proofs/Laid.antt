@@ -1,7 +1,7 @@
 -- The pictures of a run have a layout, and their bytes stand for them.
-use Rattle.std.proofs.Common.{◌≡◌, ℕ, ◌+◌, ◌*◌, ◌/◌, ◌%◌, ◌≤◌, leb, Bool, true, false, List, length, None, sym, ap, ◌∙◌, subst, arith, length-append, ◌++◌, replicate}
-use Rattle.std.specs.Prelude.{◌&&◌, is_none}
-use Rattle.std.proofs.lemmas.Bool.{le-leb}
+use Rattle.std.proofs.Common.{◌≡◌, ℕ, ◌+◌, ◌*◌, ◌/◌, ◌%◌, ◌≤◌, leb, true, List, length, None, sym, ap, ◌∙◌, subst, arith, length-append, ◌++◌, replicate}
+use Rattle.std.specs.Prelude.{is_none}
+use Rattle.std.proofs.lemmas.Bool.{le-leb, and_from}
 use Rattle.std.proofs.lemmas.List.{length-replicate}
 use Rattle.std.proofs.lemmas.Nat.{mul-le}
 use Rattle.pw_planes.specs.declared.kinds.Interlace.TheVariants.{Progressive}
@@ -44,10 +44,6 @@ slices-few width height columns rows =
     let few = product-few (macroblocks (height / 1)) (length (row_widths (macroblocks width) 3)) (omega (arith, rows)) (widths-few (macroblocks width) (omega (arith, columns))) in
     subst (λ n. n ≤ 18090) (sym e) few
 
-both : (a b : Bool) → a ≡ true → b ≡ true → (a && b) ≡ true
-both true b p q = q
-both false b p q = cc
-
 pub laid : (w : SynthWords) → AreSynthWords w → has_layout (encode_words w) (head_in w) ≡ true
 laid w ok =
     let few = slices-few w.width w.height ok.columns ok.rows in
@@ -60,7 +56,7 @@ laid w ok =
       whole = omega arith;
       slices = omega (arith, few);
     }) in
-    both (is_none (first_fault w.width w.height 3 Progressive)) (leb (1 * (1 * slice_count w.width w.height 3 Progressive)) 131070) (ap is_none none) (le-leb _ _ (omega (arith, few)))
+    and_from (is_none (first_fault w.width w.height 3 Progressive)) (leb (1 * (1 * slice_count w.width w.height 3 Progressive)) 131070) (ap is_none none) (le-leb _ _ (omega (arith, few)))
 
 pub synthetic-ok : (w : SynthWords) → AreSynthWords w → IsSynthetic (synthetic_in w)
 synthetic-ok w ok = record { some_columns = ok.some_columns; columns = ok.columns; some_rows = ok.some_rows; rows = ok.rows; frames = ok.frames }

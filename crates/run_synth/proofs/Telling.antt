@@ -1,4 +1,4 @@
--- What is said of the run, from what was printed.
+-- What a run did, from what was printed.
 use Rattle.std.proofs.Common.{◌≡◌, ℕ, inl, inr, Bool, true, false, List, [], refl, sym, subst}
 use Rattle.std.specs.Bool.{OnTrue, OnFalse}
 use Rattle.std.proofs.lemmas.List.{append-nil}
@@ -14,7 +14,7 @@ use Rattle.run_synth.specs.declared.end.SynthEnd.{SynthEnd}
 use Rattle.run_synth.specs.declared.end.SynthEnd.TheVariants as ends
 use Rattle.run_synth.specs.Synthesis.{encode_words, head_in, pictures_read, PrintsOn, RanOn, CompletesSynth, is_settled, is_write_fault}
 
--- a whole text that was then flushed, whatever the flush answered
+-- a whole text that was then flushed, whatever the flush returned
 pub flushed-front : {a b c : SinkState} {xs : List ℕ} (failed : Bool) → Puts a b xs → Puts b c [] → OnTrue failed (PutsFront a c xs)
 flushed-front {a} {b} {c} {xs} true p q = puts_front (subst (Puts a c) (append-nil xs) (puts_then p q))
 flushed-front {a} {b} {c} {xs} false p q = tt
@@ -25,7 +25,7 @@ Whole end result text before after = OnFalse (is_write_fault result) ((result �
 abbrev pub Front : SynthEnd → List ℕ → SinkState → SinkState → Type 0
 Front result text before after = OnTrue (is_write_fault result) (PutsFront before after text)
 
--- an answer that stands for a printed text is no fault
+-- an outcome with a printed text is no fault
 pub printed-no_fault : (w : SynthWords) (end : SynthEnd) (text : List ℕ) → PrintsOn w end text → is_write_fault end ≡ false
 printed-no_fault w ends.Done text p = refl
 printed-no_fault w (ends.TooSmall frame least) text p = refl
@@ -55,7 +55,7 @@ settled-so (ends.LayersFull frame) P p = tt
 settled-so ends.NoMemory P p = tt
 settled-so ends.WriteFault P p = tt
 
--- where each frame fits, and its layers aren't too many, what was printed is the whole
+-- if each frame fits, and its Pareto frontiers don't have too many pairs, the printed text is the whole
 fits-done : (w : SynthWords) (end : SynthEnd) (text : List ℕ) → PrintsOn w end text → ((j : Job) → IsJobOf (encode_words w) (head_in w) j → EachFits j (pictures_read w)) → end ≡ ends.Done
 fits-done w ends.Done text p each = refl
 fits-done w (ends.TooSmall frame least) text (j, of, p) each = let e = p.encodes.ends in absurd ((each j of (length p.encodes.coded) e.0).0 e.1)

@@ -1,4 +1,4 @@
--- What a generated run prints: the text of encoding its pictures, and behind it what decoding and checking print of what was encoded. Our
+-- What a run over synthetic pictures prints: the text of encoding them, then what decoding and checking print. Our
 -- own definitions.
 use Rattle.std.specs.Prelude.{◌≡◌, ℕ, ◌*◌, ◌<◌, ◌≤◌, ◌^◌, ◌⊎◌, Bool, true, false, List, [], ◌++◌, length, None, Some}
 use Rattle.std.specs.List.{All}
@@ -23,7 +23,7 @@ use Rattle.run_synth.specs.declared.words.SynthWords.{SynthWords}
 use Rattle.run_synth.specs.declared.end.SynthEnd.{SynthEnd}
 use Rattle.run_synth.specs.declared.end.SynthEnd.TheVariants as ends
 
--- ---- the words
+-- ---- the operands
 
 -- the values that the command line allows
 pub record AreSynthWords (w : SynthWords) : Type 0 where
@@ -36,20 +36,20 @@ pub record AreSynthWords (w : SynthWords) : Type 0 where
   pub some_budget : 1 ≤ w.budget
   pub budget : w.budget < 2 ^ 31
 
--- what the pictures depend on
+-- the parameters of the pictures
 abbrev pub synthetic_in : SynthWords → Synthetic
 synthetic_in w = record { width = w.width; height = w.height; frames = w.frames; seed = w.seed }
 
--- the form of the pictures
+-- the format of the pictures
 abbrev pub head_in : SynthWords → Head
 head_in w = synthetic_head (synthetic_in w)
 
--- the pictures that are encoded
+-- the encoded pictures
 abbrev pub pictures_read : SynthWords → Pictures
 pictures_read w = record { pictures = synthetic_pictures (synthetic_in w); fault = None }
 
--- How they are encoded: as raw planes, with the indices 1 to 64, slices of eight macroblocks, the flat matrix, each frame with a
--- budget of its own, and a proof in format 2.
+-- The options: raw planes, indices 1 to 64, slices of eight macroblocks, the flat matrix, a group for each frame,
+-- and a proof in format 2.
 abbrev pub encode_words : SynthWords → EncodeWords
 encode_words w = record {
   budget = w.budget;
@@ -64,22 +64,22 @@ encode_words w = record {
 
 -- ---- the text
 
--- Encoding the pictures is done: its text is printed, then the number of pictures that are decoded, then the number of records that are
--- good.
+-- Encoding the pictures is done: the text is that of encoding, then the number of decoded pictures, then the number
+-- of good records.
 pub record PrintsAll (j : Job) (ps : Pictures) (text : List ℕ) : Type 0 where
   pub lists : Lists
   pub encodes : Encodes j ps encoded.Done lists
   pub narrow : All (IsNarrow j) encodes.coded
   pub text_is : text ≡ lists.text ++ pictures_line (length ps.pictures) ++ check_text (length ps.pictures)
 
--- No choice fits for a frame: the text of encoding is printed.
+-- No choice fits for a frame: the text is that of encoding.
 pub record PrintsSmall (j : Job) (ps : Pictures) (frame least : ℕ) (text : List ℕ) : Type 0 where
   pub lists : Lists
   pub encodes : Encodes j ps (encoded.TooSmall frame least) lists
   pub narrow : All (IsNarrow j) encodes.coded
   pub text_is : text ≡ lists.text
 
--- The layers of a frame are too many: the lines of the frames before it are printed.
+-- The Pareto frontiers of a frame have too many pairs: the text is the lines of the frames before it.
 pub record PrintsFull (j : Job) (ps : Pictures) (frame : ℕ) (text : List ℕ) : Type 0 where
   pub coded : List Group
   pub first : AreFirst j ps coded
@@ -89,7 +89,7 @@ pub record PrintsFull (j : Job) (ps : Pictures) (frame : ℕ) (text : List ℕ) 
   pub narrow : All (IsNarrow j) coded
   pub text_is : text ≡ lines_of j 0 coded
 
--- A run over these pictures gives this answer and this text, where the port doesn't fail and memory lasts.
+-- A run over these pictures has this outcome and this text, if the port doesn't fail and memory doesn't run out.
 abbrev pub Prints : Job → Pictures → SynthEnd → List ℕ → Type 0
 Prints j ps ends.Done text = PrintsAll j ps text
 Prints j ps (ends.TooSmall frame least) text = PrintsSmall j ps frame least text
@@ -97,30 +97,32 @@ Prints j ps (ends.LayersFull frame) text = PrintsFull j ps frame text
 Prints j ps ends.NoMemory text = ⊥
 Prints j ps ends.WriteFault text = ⊥
 
--- The same of the words, which fix what holds of all frames.
+-- The same in terms of the operands, which fix what all frames share.
 abbrev pub PrintsOn : SynthWords → SynthEnd → List ℕ → Type 0
 PrintsOn w end text = (j : Job) × IsJobOf (encode_words w) (head_in w) j × Prints j (pictures_read w) end text
 
 -- ---- what a run did
 
--- What a run did, by its answer. Want of memory comes before the first byte is written; a fault of writing leaves a front of the text.
+-- What a run did, by its outcome. Memory runs out before the first byte is written; a write fault leaves a prefix
+-- of the text.
 abbrev pub RanOn : SynthWords → SynthEnd → SinkState → SinkState → Type 0
 RanOn w ends.NoMemory before after = Puts before after []
 RanOn w ends.WriteFault before after = (end : SynthEnd) × (text : List ℕ) × PrintsOn w end text × PutsFront before after text
 RanOn w end before after = (text : List ℕ) × PrintsOn w end text × Puts before after text
 
--- Where each frame has a fitting choice and layers that aren't too many, a run is done, unless memory runs out.
+-- If each frame has a fitting choice and Pareto frontiers without too many pairs, a run is done, unless memory runs
+-- out.
 abbrev pub CompletesSynth : SynthWords → SynthEnd → Type 0
 CompletesSynth w end = ((j : Job) → IsJobOf (encode_words w) (head_in w) j → EachFits j (pictures_read w))
     → (end ≡ ends.Done) ⊎ (end ≡ ends.NoMemory)
 
--- ---- by the answer
+-- ---- by the outcome
 
 abbrev pub is_write_fault : SynthEnd → Bool
 is_write_fault ends.WriteFault = true
 is_write_fault _ = false
 
--- the answers behind which all is settled
+-- the outcomes after which all is flushed
 abbrev pub is_settled : SynthEnd → Bool
 is_settled ends.Done = true
 is_settled (ends.TooSmall _ _) = true

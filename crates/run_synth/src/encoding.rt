@@ -1,4 +1,4 @@
-//! Encoding pictures that are made up, in memory.
+//! Encoding synthetic pictures in memory.
 
 ghost use Rattle.std.specs.Prelude.{◌≡◌, IfOk};
 ghost use Rattle.run_encode.specs.Groups.{AreWords};
@@ -16,7 +16,7 @@ use pw_planes::{AlphaKind, Chroma, Depth, Interlace};
 use run_encode::{EncodeEnd, EncodeWords, encode_run};
 use std::alloc::Global;
 
-/// What encoding wrote.
+/// The files that encoding wrote.
 #[derive(Drop)]
 pub(crate) struct Files {
     pub(crate) movie: Memory,
@@ -24,14 +24,14 @@ pub(crate) struct Files {
     pub(crate) text: Memory,
 }
 
-/// An answer, and the text with it.
+/// An outcome and its text.
 #[derive(Drop)]
 pub(crate) struct Said {
     pub(crate) end: SynthEnd,
     pub(crate) text: Memory,
 }
 
-/// What encoding gave.
+/// The result of encoding.
 #[derive(Drop)]
 pub(crate) enum Coded {
     /// All pictures were encoded.
@@ -42,7 +42,7 @@ pub(crate) enum Coded {
     NoMemory,
 }
 
-/// What the pictures depend on.
+/// The parameters of the pictures.
 pub(crate) fn synthetic_in(words: &SynthWords) -> Synthetic
     ensures { result ≡ synthetic_in words.now }
 {
@@ -54,7 +54,7 @@ pub(crate) fn synthetic_in(words: &SynthWords) -> Synthetic
     }
 }
 
-/// How the pictures are encoded.
+/// The options that the pictures are encoded with.
 fn encode_words(words: &SynthWords) -> EncodeWords
     requires { AreSynthWords words.now }
     ensures value { result ≡ encode_words words.now }
@@ -108,9 +108,9 @@ pub(crate) fn encode(alloc: Global, words: &SynthWords) -> Coded
             end: SynthEnd::LayersFull { frame },
             text,
         }),
-        // A sink in memory fails only where memory runs out.
+        // A sink in memory fails only if memory runs out.
         EncodeEnd::NoMemory | EncodeEnd::WriteFault => Coded::NoMemory,
-        // The pictures' source never fails, and their bytes have no fault.
+        // The source of the pictures never fails, and its bytes have no error.
         EncodeEnd::ReadFault | EncodeEnd::BadPictures { .. } => unreachable!(),
     }
 }

@@ -1,16 +1,16 @@
-//! How a run of `synth` ended.
+//! The outcome of a run of `synth`.
 
-/// How a run ended.
+/// The outcome of a run.
 #[derive(Clone, Copy, Debug, PartialEq, Eq)]
 pub enum SynthEnd {
-    /// The whole run was done.
+    /// The run is complete.
     Done,
     /// Memory ran out.
     NoMemory,
     /// The port that the run writes failed.
     WriteFault,
-    /// No choice fits for the frame of this number; the least that it needs.
+    /// No choice fits for frame `frame`; the smallest choice has `least` bytes.
     TooSmall { frame: u32, least: u64 },
-    /// The layers of the frame of this number are too many.
+    /// The table of frame `frame` has too many pairs in its Pareto frontiers.
     LayersFull { frame: u32 },
 }

@@ -1,4 +1,4 @@
-//! The run of `synth`: pictures that are made up, encoded, decoded and checked in memory.
+//! The run of `synth`: synthetic pictures, encoded, decoded and checked in memory.
 #![tactic(auto)]
 
 mod encoding;
@@ -7,8 +7,6 @@ mod looking;
 mod memory;
 mod ports;
 mod run;
-#[cfg(test)]
-mod tests;
 mod words;
 
 pub use end::SynthEnd;

@@ -1,4 +1,4 @@
-//! Decoding and checking what was encoded, in memory.
+//! Decoding and checking the encoded files, in memory.
 
 ghost use Rattle.std.specs.Prelude.{◌≡◌, ◌++◌, ℕ, IfOk, OnOk, [], Some, drop};
 ghost use Rattle.pw_outside.specs.Reading.{bytes_of};
@@ -19,11 +19,12 @@ use run_look::{LookEnd, agreeing_is_done_once, check_run};
 use run_round::checked_is_checked_alone;
 use std::alloc::Global;
 
-/// Decodes a movie, whose pictures are counted alone, and appends the line with their number.
+/// Decodes a movie, counts its pictures, and appends the line with their number.
 pub(crate) fn decode(alloc: Global, movie: &mut Memory, text: &mut Memory) -> Result<(), NoMemory>
     requires { (n : ℕ) × IsDecodable movie.old.bytes.items n }
     ensures bytes { movie.new.bytes.items ≡ movie.old.bytes.items }
-    ensures text { OnOk result ((n : ℕ) → IsDecodable movie.old.bytes.items n → text.new.bytes.items ≡ text.old.bytes.items ++ pictures_line n) }
+    ensures text { OnOk result ((n : ℕ) → IsDecodable movie.old.bytes.items n
+        → text.new.bytes.items ≡ text.old.bytes.items ++ pictures_line n) }
 {
     decoding_is_one();
     let mut out = Output::Counted(CountSink::new());
@@ -39,9 +40,9 @@ pub(crate) fn decode(alloc: Global, movie: &mut Memory, text: &mut Memory) -> Re
         &mut none,
     ) {
         DecodeEnd::Done => {}
-        // A sink in memory fails only where memory runs out.
+        // A sink in memory fails only if memory runs out.
         DecodeEnd::NoMemory | DecodeEnd::WriteFault => return Err(NoMemory),
-        // A store in memory never fails, and what was encoded has no fault.
+        // A store in memory never fails, and the encoded movie has no error.
         DecodeEnd::ReadFault | DecodeEnd::BadMovie { .. } | DecodeEnd::BadFrame { .. } => {
             unreachable!()
         }
@@ -52,7 +53,7 @@ pub(crate) fn decode(alloc: Global, movie: &mut Memory, text: &mut Memory) -> Re
     }
 }
 
-/// Checks a proof with its movie and the pictures, and appends the line with the number of its records.
+/// Checks a proof with its movie and the pictures, and appends the line with the number of records.
 pub(crate) fn check(
     alloc: Global,
     proof: &mut Input,
@@ -60,16 +61,19 @@ pub(crate) fn check(
     movie: &mut Memory,
     text: &mut Memory,
 ) -> Result<(), NoMemory>
-    requires { (n : ℕ) × Checks (bytes_of (left_in proof.old)) movie.old.bytes.items (bytes_of (left_in pictures.old)) ends.Done n }
-    ensures { OnOk result ((n : ℕ) → Checks (bytes_of (left_in proof.old)) movie.old.bytes.items (bytes_of (left_in pictures.old)) ends.Done n → text.new.bytes.items ≡ text.old.bytes.items ++ check_text n) }
+    requires { (n : ℕ) × Checks (bytes_of (left_in proof.old)) movie.old.bytes.items
+        (bytes_of (left_in pictures.old)) ends.Done n }
+    ensures { OnOk result ((n : ℕ)
+        → Checks (bytes_of (left_in proof.old)) movie.old.bytes.items (bytes_of (left_in pictures.old)) ends.Done n
+        → text.new.bytes.items ≡ text.old.bytes.items ++ check_text n) }
 {
     checked_is_checked_alone();
     agreeing_is_done_once();
     match check_run(alloc, proof, pictures, movie, text) {
         LookEnd::Done => Ok(()),
-        // A sink in memory fails only where memory runs out.
+        // A sink in memory fails only if memory runs out.
         LookEnd::NoMemory | LookEnd::WriteFault => Err(NoMemory),
-        // Sources and stores in memory never fail, and what was encoded is good.
+        // Sources and stores in memory never fail, and the encoded files pass the check.
         LookEnd::ReadFault
         | LookEnd::BadPictures { .. }
         | LookEnd::BadMovie { .. }

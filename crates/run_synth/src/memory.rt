@@ -1,13 +1,13 @@
-//! Bytes in memory, which are written and then read.
+//! Bytes in memory, written and then read.
 
 ghost use Rattle.std.specs.Prelude.{◌≤◌, length};
 
 use pw_outside::{ByteSink, ByteSource, ByteStore, Failed};
 use std::alloc::Global;
 
-/// Bytes in memory. They are written, and then read from the front on, or by their places.
+/// Bytes in memory. They are written, and then read from the start or at any offset.
 ///
-/// A write fails only where memory for the piece couldn't be had. Reading never fails.
+/// A write fails only if memory for the piece runs out. Reading never fails.
 #[derive(Drop)]
 pub struct Memory {
     bytes: Vec<u8>,
@@ -32,7 +32,7 @@ impl Memory {
         }
     }
 
-    /// The same bytes, read from the front on.
+    /// The same bytes, read from the start.
     pub fn rewound(self) -> Memory
         ensures bytes { result.bytes.items ≡ self.bytes.items }
         ensures front { result.at ≡ 0 }
@@ -73,7 +73,8 @@ impl ByteSink for Memory {
     fn write(&mut self, piece: &[u8]) -> Result<usize, Failed>
         ensures count { IfOk result (λ n. (n ≤ length piece.now) × (0 < length piece.now → 0 < n)) }
         ensures bytes { WriteAppends (Some self.old.bytes.items) (Some self.new.bytes.items) result piece.now }
-        ensures taken { min (length self.new.bytes.items) last ≡ taken_more (min (length self.old.bytes.items) last) (count_of result) }
+        ensures taken { min (length self.new.bytes.items) last ≡ taken_more (min (length self.old.bytes.items) last)
+            (count_of result) }
         ensures settled { min (length self.old.bytes.items) last ≤ min (length self.new.bytes.items) last }
         ensures cause { CountsFault (min self.old.faults last) (min self.new.faults last) (is_err result) }
     {
@@ -90,7 +91,8 @@ impl ByteSink for Memory {
         ensures bytes { Keeps (Some self.old.bytes.items) (Some self.new.bytes.items) }
         ensures taken { min (length self.new.bytes.items) last ≡ min (length self.old.bytes.items) last }
         ensures settled { min (length self.old.bytes.items) last ≤ min (length self.new.bytes.items) last }
-        ensures all_settled { OnOk result (min (length self.new.bytes.items) last ≡ min (length self.new.bytes.items) last) }
+        ensures all_settled { OnOk result
+            (min (length self.new.bytes.items) last ≡ min (length self.new.bytes.items) last) }
         ensures cause { CountsFault (min self.old.faults last) (min self.new.faults last) (is_err result) }
     {
         Ok(())
@@ -120,8 +122,10 @@ impl ByteSource for Memory {
 
     fn read(&mut self, piece: &mut [u8]) -> Result<usize, Failed>
         ensures count { ReadsAtMost result piece.new }
-        ensures bytes { ReadConsumes (Some (drop self.old.at self.old.bytes.items)) (Some (drop self.new.at self.new.bytes.items)) result piece.new }
-        ensures most { Lowers (Some (length (drop self.old.at self.old.bytes.items))) (Some (length (drop self.new.at self.new.bytes.items))) (count_of result) }
+        ensures bytes { ReadConsumes (Some (drop self.old.at self.old.bytes.items))
+            (Some (drop self.new.at self.new.bytes.items)) result piece.new }
+        ensures most { Lowers (Some (length (drop self.old.at self.old.bytes.items)))
+            (Some (length (drop self.new.at self.new.bytes.items))) (count_of result) }
         ensures becomes { GoesOn (λ _ _. Unit {0}) self.old self.new }
         ensures cause { CountsFault 0 0 (is_err result) }
     {

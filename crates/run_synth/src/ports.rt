@@ -1,24 +1,24 @@
-//! What the parts of a run read and write.
+//! The ports of the parts of a run.
 
 use crate::memory::Memory;
 use pic_synth::SyntheticSource;
 use pw_outside::{ByteSink, ByteSource, CountSink, Failed};
 
-/// A source of bytes that are made up, or of bytes in memory. It never fails.
+/// A source of the bytes of synthetic pictures, or of bytes in memory. It never fails.
 #[derive(Drop)]
 pub enum Input {
-    /// Pictures that are made up.
+    /// Synthetic pictures.
     Synthetic(SyntheticSource),
     /// Bytes that were written.
     Held(Memory),
 }
 
-/// A sink that holds what it takes, or counts it alone.
+/// A sink that stores what it takes, or only counts it.
 #[derive(Drop)]
 pub enum Output {
-    /// What is written is held.
+    /// Stores the bytes.
     Held(Memory),
-    /// What is written is counted.
+    /// Counts the bytes.
     Counted(CountSink),
 }
 
@@ -107,7 +107,7 @@ impl Output {
     ghost use Rattle.std.specs.Prelude.{◌≡◌, IfSome};
     ghost use Rattle.run_synth.specs.inner.Ports.{held_in};
 
-    /// What it holds; nothing where it only counts.
+    /// The stored bytes; none if it only counts.
     pub fn bytes(&self) -> &[u8]
         ensures { IfSome (held_in self.now) (λ bytes. result.now ≡ bytes) }
     {

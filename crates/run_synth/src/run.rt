@@ -17,7 +17,7 @@ use pw_outside::{ByteSink, NoMemory, put_all};
 use run_round::{encoded_is_checked, encoded_is_decoded};
 use std::alloc::Global;
 
-/// Decodes and checks what was encoded, and appends what both print.
+/// Decodes and checks the encoded files, and appends what both print.
 fn look(alloc: Global, words: &SynthWords, files: Files) -> Result<Said, NoMemory>
     requires words { AreSynthWords words.now }
     requires encoded { AreEncoded words.now files.movie.bytes.items files.proof.bytes.items files.text.bytes.items }
@@ -41,7 +41,7 @@ fn look(alloc: Global, words: &SynthWords, files: Files) -> Result<Said, NoMemor
     })
 }
 
-/// Encodes the pictures, and decodes and checks what was encoded: the answer and the text.
+/// Encodes the pictures, and decodes and checks the result. Returns the outcome and the text.
 fn synthesis(alloc: Global, words: &SynthWords) -> Result<Said, NoMemory>
     requires { AreSynthWords words.now }
     ensures { IfOk result (λ said. PrintsOn words.now said.end said.text.bytes.items) }
@@ -53,11 +53,12 @@ fn synthesis(alloc: Global, words: &SynthWords) -> Result<Said, NoMemory>
     }
 }
 
-/// Settles the text of a run that ended so.
+/// Flushes the text of a run with outcome `end`.
 fn flush<K: ByteSink>(end: SynthEnd, text: &mut K) -> SynthEnd
     requires { is_write_fault end ≡ false }
     ensures end { OnFalse (is_write_fault result) (result ≡ end) }
-    ensures puts { Puts (sink_state (K.held text.old) (K.taken text.old)) (sink_state (K.held text.new) (K.taken text.new)) [] }
+    ensures puts { Puts (sink_state (K.held text.old) (K.taken text.old))
+        (sink_state (K.held text.new) (K.taken text.new)) [] }
     ensures settled { OnFalse (is_write_fault result) (K.settled text.new ≡ K.taken text.new) }
     ensures write { CountsFault (K.faults text.old) (K.faults text.new) (is_write_fault result) }
 {
@@ -67,11 +68,15 @@ fn flush<K: ByteSink>(end: SynthEnd, text: &mut K) -> SynthEnd
     }
 }
 
-/// Writes the text of a run that ended so.
+/// Writes the text of a run with outcome `end`.
 fn tell<K: ByteSink>(end: SynthEnd, printed: &[u8], text: &mut K) -> SynthEnd
     requires { is_write_fault end ≡ false }
-    ensures whole { OnFalse (is_write_fault result) ((result ≡ end) × Puts (sink_state (K.held text.old) (K.taken text.old)) (sink_state (K.held text.new) (K.taken text.new)) printed.now) }
-    ensures front { OnTrue (is_write_fault result) (PutsFront (sink_state (K.held text.old) (K.taken text.old)) (sink_state (K.held text.new) (K.taken text.new)) printed.now) }
+    ensures whole { OnFalse (is_write_fault result)
+        ((result ≡ end) × Puts (sink_state (K.held text.old) (K.taken text.old))
+        (sink_state (K.held text.new) (K.taken text.new)) printed.now) }
+    ensures front { OnTrue (is_write_fault result)
+        (PutsFront (sink_state (K.held text.old) (K.taken text.old))
+        (sink_state (K.held text.new) (K.taken text.new)) printed.now) }
     ensures settled { OnFalse (is_write_fault result) (K.settled text.new ≡ K.taken text.new) }
     ensures write { CountsFault (K.faults text.old) (K.faults text.new) (is_write_fault result) }
 {
@@ -81,26 +86,30 @@ fn tell<K: ByteSink>(end: SynthEnd, printed: &[u8], text: &mut K) -> SynthEnd
     }
 }
 
-/// Makes pictures up, encodes them in memory, decodes the movie and checks the proof with the movie and the pictures; to `text` it
-/// writes what encoding prints, then the line `pictures N`, and then the line `records N yes`.
+/// Generates pictures, encodes them in memory, decodes the movie, and checks the proof with the movie and the
+/// pictures. Writes to `text` what encoding prints, then the line `pictures N`, and then the line `records N yes`.
 ///
-/// The pictures have 4:2:2 and 10 bits, are progressive, 25 a second: a staircase of levels that moves from frame to frame, with three
-/// bits of noise. They are encoded as raw planes, with the indices 1 to 64, slices of eight macroblocks, the flat matrix, each frame with
-/// a budget of its own, and a proof in format 2. Where encoding is refused, nothing is decoded or checked, and its text is the whole text.
-/// The text is written once all else was done.
+/// The pictures have 4:2:2 and 10 bits, are progressive, 25 a second: a staircase of levels that moves from frame
+/// to frame, with three bits of noise. They are encoded as raw planes, with indices 1 to 64, slices of eight
+/// macroblocks, the flat matrix, a group for each frame, and a proof in format 2. If encoding is refused, nothing
+/// is decoded or checked, and its text is the whole text. The text is written after all else is done.
 pub fn synth_run<K: ByteSink>(alloc: Global, words: &SynthWords, text: &mut K) -> SynthEnd
     requires words { AreSynthWords words.now }
-    // The words decide the answer and the text: after Done the text of encoding the pictures, and the numbers of pictures decoded and of
-    // records that are good; after TooSmall and LayersFull the text of encoding alone; after a fault of writing a front of these.
-    ensures ran { RanOn words.now result (sink_state (K.held text.old) (K.taken text.old)) (sink_state (K.held text.new) (K.taken text.new)) }
-    // Where the text's port didn't fail, pictures that each have a fitting choice and layers that aren't too many are encoded, decoded and
-    // checked, unless memory runs out.
+    // The operands decide the outcome and the text. After Done: the text of encoding the pictures, the number of
+    // decoded pictures and the number of good records. After TooSmall and LayersFull: the text of encoding alone.
+    // After a write fault: a prefix of these.
+    ensures ran { RanOn words.now result (sink_state (K.held text.old) (K.taken text.old))
+        (sink_state (K.held text.new) (K.taken text.new)) }
+    // If the text's port didn't fail, pictures that each have a fitting choice and Pareto frontiers without too
+    // many pairs are encoded, decoded and checked, unless memory runs out.
     ensures complete { (Rose (K.faults text.old) (K.faults text.new) → ⊥) → CompletesSynth words.now result }
-    // Whatever the answer, the text extends what was held.
-    ensures extends { Extends (sink_state (K.held text.old) (K.taken text.old)) (sink_state (K.held text.new) (K.taken text.new)) }
-    // After Done, and after TooSmall, all that was written is settled.
+    // For every outcome the text extends what was held.
+    ensures extends { Extends (sink_state (K.held text.old) (K.taken text.old))
+        (sink_state (K.held text.new) (K.taken text.new)) }
+    // After Done and TooSmall all that was written is flushed.
     ensures settled { OnTrue (is_settled result) (K.settled text.new ≡ K.taken text.new) }
-    // A fault of writing is answered only where the port's count rose, and every other answer leaves the count as it was.
+    // A write fault is the outcome only if the port's fault count rose; every other outcome leaves the count
+    // unchanged.
     ensures write { CountsFault (K.faults text.old) (K.faults text.new) (is_write_fault result) }
 {
     match synthesis(alloc, words) {

@@ -1,4 +1,4 @@
--- The data atoms of a movie with sound: one for each part, and the bytes of each part lie at its place.
+-- The data atoms of a movie with sound: one for each part, and the bytes of each part lie at its offset.
 use Rattle.std.proofs.Common.{◌≡◌, refl, ℕ, ◌+◌, ◌*◌, ◌≤◌, ◌<◌, ◌^◌, Bool, true, false, nat_lt, if◌then◌else◌, List, [], ◌∷◌, ◌++◌, Ok, Err, length, take, drop, arith, sym, ap, subst, ◌∙◌, inl, inr, append_assoc, length-append}
 use Rattle.std.specs.Prelude.{codes, max, replicate}
 use Rattle.std.specs.Int.{w32, to_be_bytes}
@@ -60,9 +60,9 @@ pub movie-is : (file : List ℕ) (m : Movie) (p : Pcm) (sound : List ℕ)
     ≡ traks_bytes (bodies file p.channels (parts_in m p) sound) m.tables.timescale (duration_field (max (picture_duration m) (sound_duration m p))) (picture_values m p ∷ sound_values m p ∷ [])
 movie-is file m p sound = ap (λ l. ftyp_bytes ++ (l ++ two_tracks_bytes m p)) (atoms-are file p.channels (parts_in m p) sound)
 
--- ---- where the bodies lie
+-- ---- the offsets of the bodies
 
--- Each body lies behind the 8 bytes of the head of its data atom, the first data atom at a place.
+-- Each body lies after the 8 bytes of its data atom's header, with the first data atom at an offset.
 abbrev pub Lie : (out file : List ℕ) → (channels place : ℕ) → List Part → (sound : List ℕ) → Type 0
 Lie out file channels place [] sound = Unit {0}
 Lie out file channels place (x ∷ xs) sound =
@@ -92,9 +92,9 @@ lie-from out file channels (x ∷ xs) sound front behind e =
 pub bodies-lie : (file : List ℕ) (m : Movie) (p : Pcm) (sound : List ℕ) → Lie (movie_with_sound file m p sound) file p.channels first_place (parts_in m p) sound
 bodies-lie file m p sound = lie-from (movie_with_sound file m p sound) file p.channels (parts_in m p) sound ftyp_bytes (two_tracks_bytes m p) refl
 
--- ---- parts that are there
+-- ---- parts that exist
 
--- A part is there whole, and a sample fits a data atom.
+-- A part exists whole, and a sample fits a data atom.
 abbrev pub IsThere : (file : List ℕ) → (channels : ℕ) → Part → (sound : List ℕ) → Type 0
 IsThere file channels (parts.Picture s) sound = (s.at + s.size ≤ length file) × (s.size ≤ 4294967286)
 IsThere file channels (parts.Sound n) sound = sound_size channels n ≤ length sound
@@ -118,7 +118,7 @@ sound-passed n r f e = elim (cases_lt (length r.bytes) n) [
     cut : {place : ℕ} → ends.BadSound Truncated place ≡ ends.Done → ⊥
     cut e = absurd cc
 
--- where the run is done
+-- if the run is done
 pub done-there : (file : List ℕ) (channels : ℕ) (xs : List Part) (r : Rest) → parts_end file channels xs r ≡ ends.Done → AreThere file channels xs r.bytes
 done-there file channels [] r e = tt
 done-there file channels (parts.Picture s ∷ xs) r e =
@@ -130,17 +130,17 @@ done-there file channels (parts.Sound n ∷ xs) r e =
     let h = sound-passed (sound_size channels n) r (λ rest. parts_end file channels xs rest) e in
     (h.0, done-there file channels xs (behind (sound_size channels n) r) h.1)
 
--- the first bytes of what is long enough
+-- the first bytes of a list that is long enough
 pub first-there : (n : ℕ) (bytes : List ℕ) → n ≤ length bytes → first_bytes n bytes ≡ take n bytes
 first-there n bytes h = take-append-le n bytes (replicate n 0) h
 
--- ---- how long the bodies are
+-- ---- the sizes of the bodies
 
 part-fits : (file : List ℕ) (channels frames : ℕ) (x : Part) (sound : List ℕ) → IsThere file channels x sound → part_frames x ≤ frames → sound_size channels frames ≤ 4294967250 → part_size channels x ≤ 4294967286
 part-fits file channels frames (parts.Picture s) sound there few small = there.1
 part-fits file channels frames (parts.Sound n) sound there few small = let less : sound_size channels n ≤ sound_size channels frames = mul-le-mul_left (2 * channels) few in omega (arith, less, small)
 
--- how many bytes each part has
+-- the number of bytes of each part
 abbrev pub Fit : (channels : ℕ) → List Part → Type 0
 Fit channels xs = AllByRecursion (λ x. part_size channels x ≤ 4294967286) xs
 
@@ -165,7 +165,7 @@ bodies-fit file channels xs sound h = All-from_recursion (λ (body : List ℕ). 
 
 -- ---- what was read and written
 
--- the movie and the form that were read, where the run is done
+-- the movie and the form that were read, if the run is done
 pub record IsAdded (file wav : List ℕ) : Type 0 where
   pub m : Movie
   pub p : Pcm

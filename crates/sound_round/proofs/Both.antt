@@ -1,4 +1,4 @@
--- The pictures and the sound of what was written are read again.
+-- The pictures and the sound are read back from the written movie.
 use Rattle.sound_round.specs.Laws.{AddedPicturesAreRead, AddedSoundIsTakenOut, AddedIsReadAgain}
 use Rattle.sound_round.proofs.Bodies.{is-added}
 

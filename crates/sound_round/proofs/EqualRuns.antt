@@ -1,4 +1,4 @@
--- Runs of equal values of a list: what they say is that list.
+-- The values of a list's runs are the list.
 use Rattle.std.proofs.Common.{◌≡◌, refl, ℕ, suc, ◌+◌, ◌≤◌, Bool, true, false, List, [], ◌∷◌, ◌++◌, replicate, arith, sym, ap, ◌∙◌}
 use Rattle.std.specs.Prelude.{◌==◌, if◌then◌else◌}
 use Rattle.std.specs.List.{AllByRecursion, flat_map}
@@ -25,7 +25,7 @@ pub spread-runs : (xs : List ℕ) → spread (runs_of xs) ≡ xs
 spread-runs [] = refl
 spread-runs (x ∷ xs) = spread-joined x (runs_of xs) ∙ ap (λ l. x ∷ l) (spread-runs xs)
 
--- a run of some values of which this holds
+-- a run of values of which this holds
 abbrev pub RunOf : (ℕ → Type 0) → ℕ × ℕ → Type 0
 RunOf P r = (1 ≤ r.0) × P r.1
 
@@ -37,7 +37,7 @@ runs-hold-joined : (P : ℕ → Type 0) (x : ℕ) (rs : List (ℕ × ℕ)) → P
 runs-hold-joined P x [] p h = ((omega arith, p), tt)
 runs-hold-joined P x (r ∷ rs) p h = runs-hold-in P (r.1 == x) x r rs p h
 
--- what holds of each value holds of each run
+-- a fact of each value is a fact of each run
 pub runs-hold : (P : ℕ → Type 0) (xs : List ℕ) → AllByRecursion P xs → AllByRecursion (RunOf P) (runs_of xs)
 runs-hold P [] h = tt
 runs-hold P (x ∷ xs) h = runs-hold-joined P x (runs_of xs) h.0 (runs-hold P xs h.1)

@@ -1,4 +1,4 @@
--- What holds of the form of a WAV that was read.
+-- Facts of the form of a WAV that was read.
 use Rattle.std.proofs.Common.{◌≡◌, refl, ℕ, zero, suc, ◌*◌, ◌/◌, ◌%◌, ◌≤◌, Bool, true, false, nat_lt, if◌then◌else◌, ◌||◌, Option, None, Some, Ok, Err, arith, ap, subst}
 use Rattle.std.specs.Prelude.{◌==◌, not, IfSome, codes}
 use Rattle.std.specs.Str.{bytes_eq}

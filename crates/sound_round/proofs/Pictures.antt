@@ -24,7 +24,7 @@ use Rattle.sound_round.proofs.PicturesRead.{IsReadMovie, read-movie}
 use Rattle.sound_round.proofs.PicturesRuns.{runs-given, runs-fit, samples-last, samples-few}
 use Rattle.sound_round.proofs.PicturesPlaced.{samples_of, samples-given, moved_from, moved-places, moved-same, moved-described, moved-near, sizes-small, moved-bytes}
 
--- ---- runs that are there where something is
+-- ---- runs of a list that isn't empty
 
 one-where : {X : Type 0} (n : ℕ) (xs : List X) → length xs ≡ n → where_some n (1, 1, 1) ≡ one_each xs
 one-where n [] e = rw (← e) refl
@@ -132,7 +132,7 @@ module _ (file : List ℕ) (m : Movie) (p : Pcm) (sound : List ℕ) (read : IsRe
     abbrev out : List ℕ
     out = movie_with_sound file m p sound
 
-    -- the movie that is read of it
+    -- the movie that is read back
     abbrev n : Movie
     n = record { number = 1; kind = m.kind; width = m.width; height = m.height; tables = tables_of t }
 

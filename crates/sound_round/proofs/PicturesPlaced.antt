@@ -38,9 +38,9 @@ pub samples-given : (timescale : ℕ) (p : Pcm) (ss : List Sample) → samples_o
 samples-given timescale p [] = given-in (p.frames == 0) p.frames []
 samples-given timescale p (s ∷ ss) = given-from timescale p 0 (s ∷ ss)
 
--- ---- where they are written
+-- ---- their offsets
 
--- a sample at another place, by the first description
+-- a sample at another offset, with the first description
 abbrev pub moved : (at : ℕ) → Sample → Sample
 moved at s = record { at = at; size = s.size; duration = s.duration; description = 1 }
 
@@ -48,7 +48,7 @@ abbrev moved_of : (place : ℕ) → Part → List Sample
 moved_of place (parts.Picture s) = moved (place + 8) s ∷ []
 moved_of place (parts.Sound n) = []
 
--- the samples as they are written, the first data atom at a place
+-- the samples as they are written, with the first data atom at an offset
 abbrev pub moved_from : (channels place : ℕ) → List Part → List Sample
 moved_from channels place [] = []
 moved_from channels place (x ∷ xs) = moved_of place x ++ moved_from channels (place + (8 + part_size channels x)) xs
@@ -58,7 +58,7 @@ moved-places channels place [] = refl
 moved-places channels place (parts.Picture s ∷ xs) = ap (λ l. (place + 8) ∷ l) (moved-places channels (place + (8 + s.size)) xs)
 moved-places channels place (parts.Sound n ∷ xs) = moved-places channels (place + (8 + sound_size channels n)) xs
 
--- what doesn't depend on the place stays the same
+-- facts that don't depend on the offset
 pub moved-same : {X : Type 0} (f : Sample → X) → ((at : ℕ) (s : Sample) → f (moved at s) ≡ f s) → (channels place : ℕ) (xs : List Part) → map f (moved_from channels place xs) ≡ map f (samples_of xs)
 moved-same f h channels place [] = refl
 moved-same f h channels place (parts.Picture s ∷ xs) =
@@ -86,7 +86,7 @@ same-bytes : (out file : List ℕ) (place : ℕ) (s : Sample) → s.at + s.size 
     → sample_bytes out (moved (place + 8) s) ≡ sample_bytes file s
 same-bytes out file place s there e = e ∙ first-there s.size (drop s.at file) (omega (arith, there, length-drop s.at file))
 
--- each sample has the bytes that it had
+-- each sample keeps its bytes
 pub moved-bytes : (out file : List ℕ) (channels place : ℕ) (xs : List Part) (sound : List ℕ) → Lie out file channels place xs sound → AreThere file channels xs sound
     → map (sample_bytes out) (moved_from channels place xs) ≡ map (sample_bytes file) (samples_of xs)
 moved-bytes out file channels place [] sound lie there = refl

@@ -1,4 +1,4 @@
--- What holds of a movie that was read from bytes.
+-- Facts of a movie that was read from bytes.
 use Rattle.std.proofs.Common.{◌≡◌, refl, ℕ, zero, suc, ◌+◌, ◌≤◌, ◌<◌, ◌^◌, Bool, true, false, nat_lt, if◌then◌else◌, List, [], ◌∷◌, length, take, drop, Option, None, Some, Ok, arith, sym, ap, subst, ◌∙◌}
 use Rattle.std.specs.Prelude.{not, ◌==◌, ◌&&◌, replicate, slice_get}
 use Rattle.std.specs.Int.{w16, w32, from_be_bytes}
@@ -204,7 +204,7 @@ tables-are file stbl mdia t e =
 
 -- ---- the movie
 
--- A movie of ProRes pictures, whose numbers have the bits of their fields where the file is of bytes.
+-- A movie of ProRes pictures whose numbers fit their fields, if the file consists of bytes.
 pub record IsReadMovie (file : List ℕ) (m : Movie) : Type 0 where
   pub prores : is_prores m.kind ≡ true
   pub wide : AreBytes file → m.width < 2 ^ 16

@@ -1,4 +1,4 @@
--- Runs of equal durations, and how long the samples last.
+-- Runs of equal durations, and the durations of samples.
 use Rattle.std.proofs.Common.{◌≡◌, refl, ℕ, zero, suc, ◌+◌, ◌≤◌, ◌<◌, ◌^◌, Bool, true, false, if◌then◌else◌, List, [], ◌∷◌, ◌++◌, length, take, drop, map, arith, ap, ◌∙◌}
 use Rattle.std.specs.Prelude.{◌==◌, replicate}
 use Rattle.std.specs.List.{AllByRecursion}
@@ -20,7 +20,7 @@ times-spread (r ∷ rs) = ap (λ l. replicate r.0 r.1 ++ l) (times-spread rs)
 pub runs-given : (xs : List ℕ) → durations (map time_run (runs_of xs)) ≡ xs
 runs-given xs = times-spread (runs_of xs) ∙ spread-runs xs
 
--- ---- each has at most as many as the list, and its values
+-- ---- each run has at most the list's length, and a value of the list
 
 abbrev Bounded : (n : ℕ) → List (ℕ × ℕ) → Type 0
 Bounded n rs = AllByRecursion (λ (r : ℕ × ℕ). (r.0 ≤ n) × (r.1 < 2 ^ 32)) rs
@@ -45,7 +45,7 @@ bounded-fit : (n : ℕ) (rs : List (ℕ × ℕ)) → n ≤ 1000000 → Bounded n
 bounded-fit n [] few h = tt
 bounded-fit n (r ∷ rs) few h = ((omega (arith, few, h.0.0), h.0.1), bounded-fit n rs few h.1)
 
--- the numbers of the runs have the bits of their fields
+-- the numbers of the runs fit their fields
 pub runs-fit : (xs : List ℕ) → length xs ≤ 1000000 → AllByRecursion (λ x. x < 2 ^ 32) xs → AllByRecursion (λ (r : ℕ × ℕ). (r.0 < 2 ^ 32) × (r.1 < 2 ^ 32)) (runs_of xs)
 runs-fit xs few h = bounded-fit (length xs) (runs_of xs) few (runs-bounded xs h)
 
@@ -93,7 +93,7 @@ of-samples (s ∷ ss) h = (h.0, of-samples ss h.1)
 pub samples-last : (t : Tables) → AreShort t.times → AllByRecursion (λ x. x < 2 ^ 32) (map (λ (s : Sample). s.duration) (samples t))
 samples-last t h = of-samples (samples t) (samples-in-last (chunks t.runs t.offsets) t.sizes (durations t.times) (durations-short t.times h))
 
--- ---- how many samples there are
+-- ---- the number of samples
 
 few-at : (description at : ℕ) (sizes times : List ℕ) → length (samples_at description at sizes times) ≤ length sizes
 few-at description at [] times = omega arith
@@ -107,6 +107,6 @@ few-in (c ∷ cs) sizes times =
     let rest = samples_in cs (drop c.samples sizes) (drop c.samples times) in
     omega (arith, length-append front rest, few-at c.description c.at (take c.samples sizes) times, few-in cs (drop c.samples sizes) (drop c.samples times), length-take c.samples sizes, length-drop c.samples sizes)
 
--- at most as many as sizes
+-- at most as many samples as sizes
 pub samples-few : (t : Tables) → length (samples t) ≤ length t.sizes
 samples-few t = few-in (chunks t.runs t.offsets) t.sizes (durations t.times)

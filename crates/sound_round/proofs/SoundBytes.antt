@@ -1,4 +1,4 @@
--- The bytes of the chunks of added sound: those of the WAV, in their order, and each chunk lies in the file.
+-- The bytes of the chunks of added sound are those of the WAV, in their order, and each chunk lies in the file.
 use Rattle.std.proofs.Common.{◌≡◌, refl, ℕ, ◌+◌, ◌-◌, ◌*◌, ◌≤◌, ◌<◌, ◌^◌, false, nat_lt, List, [], ◌∷◌, ◌++◌, length, take, drop, arith, sym, ap, ◌∙◌}
 use Rattle.std.specs.List.{AllByRecursion, flat_map}
 use Rattle.std.proofs.Math.Nat.{mul-add, le-mul_of_pos_right}
@@ -19,11 +19,11 @@ use Rattle.sound_round.proofs.Bodies.{Lie, AreThere, Fit, first-there}
 use Rattle.sound_round.proofs.SoundRuns.{chunks_at}
 use Rattle.sound_round.proofs.SoundShares.{total}
 
--- the chunks of sound of some parts, the first data atom at a place
+-- the chunks of sound of some parts, with the first data atom at an offset
 abbrev pub sound_chunks : (channels place : ℕ) → List Part → List Chunk
 sound_chunks channels place xs = chunks_at (sound_places channels place xs) (chunk_frames xs)
 
--- how many bytes they have
+-- their number of bytes
 abbrev pub bytes_of_sound : (channels : ℕ) → List Part → ℕ
 bytes_of_sound channels xs = sound_size channels (total (chunk_frames xs))
 
@@ -43,14 +43,14 @@ both-fit front behind all left whole e f g h = omega arith
 
 -- ---- bytes
 
--- some bytes, and some behind them
+-- some bytes, and more after them
 take-both : (n m : ℕ) (bytes : List ℕ) → n ≤ length bytes → take n bytes ++ take m (drop n bytes) ≡ take (n + m) bytes
 take-both n m bytes le =
     let front = take n bytes in
     let long : length front ≡ n = length-take-le n bytes le in
     sym (take-append-add front (drop n bytes) m) ∙ ap (λ (k : ℕ). take (k + m) (front ++ drop n bytes)) long ∙ ap (take (n + m)) (take-append-drop n bytes)
 
--- a chunk whose bytes are these lies in the file
+-- a chunk with these bytes lies in the file
 record ChunkLies (out : List ℕ) (place n : ℕ) (sound : List ℕ) : Type 0 where
   within : place + n ≤ length out
   bytes : first_bytes n (drop place out) ≡ take n sound
@@ -65,7 +65,7 @@ chunk-lies out place n sound some there e =
 
 -- ---- all chunks
 
--- In a file where some parts lie, the chunks of sound are the front of the sound that was given out.
+-- In a file with the bodies of some parts, the chunks of sound are a prefix of the sound.
 pub record SoundLies (out : List ℕ) (channels place : ℕ) (xs : List Part) (sound : List ℕ) : Type 0 where
   pub some : bytes_of_sound channels xs ≤ length sound
   pub bytes : flat_map (chunk_bytes out channels) (sound_chunks channels place xs) ≡ take (bytes_of_sound channels xs) sound
@@ -97,7 +97,7 @@ sound-lies out file channels place (parts.Sound n ∷ xs) sound c filled lie the
       within = rw fits q.within;
     }
 
--- ---- the places
+-- ---- the offsets
 
 pub places-near : (channels place : ℕ) (xs : List Part) → Fit channels xs → place + 8 + 4294967296 * length xs < 2 ^ 62 → AllByRecursion (λ at. at < 2 ^ 62) (sound_places channels place xs)
 places-near channels place [] h near = tt

@@ -1,4 +1,4 @@
--- The fields of a written track of sound are read.
+-- The fields of a written sound track are read back.
 use Rattle.std.proofs.Common.{◌≡◌, refl, ℕ, ◌+◌, ◌-◌, ◌*◌, ◌≤◌, ◌<◌, ◌^◌, true, false, nat_le, List, [], ◌∷◌, ◌++◌, length, take, drop, Ok, arith, ap, ◌∙◌}
 use Rattle.std.specs.Prelude.{codes, ◌==◌, ◌||◌}
 use Rattle.std.specs.Int.{w16, w32, from_be_bytes}
@@ -32,7 +32,7 @@ sound-subtype channels rate behind = refl
 handler-long : (at : ℕ) (m : Media) → nat_le 12 (body_length (atom_here at (hdlr_node m))) ≡ true
 handler-long at m = grind (arith, nat_tests, body-of at (length (hdlr_body (codes "mhlr") (subtype_of m))), length-handler m)
 
--- a track of pictures is none of sound
+-- a picture track is no sound track
 pub is-no-sound : (file : List ℕ) (at : ℕ) (kind : List ℕ) (width height depth : ℕ) → Stands file at (hdlr_node (media.Video kind width height depth)) → is_sound file (atom_here at (hdlr_node (media.Video kind width height depth))) ≡ false
 is-no-sound file at kind width height depth s =
     let m = media.Video kind width height depth in
@@ -49,11 +49,11 @@ is-sound file at channels rate s =
 
 -- ---- the description
 
--- the description that was written, where it begins
+-- the description that was written, at its offset
 abbrev pub sound_here : ℕ → Description
 sound_here place = record { at = place; size = 36; kind = codes "sowt"; reference = 1 }
 
--- the fields of a description of sound, which stand 8 bytes into the body
+-- the fields of a sound description, at offset 8 of the body
 record Fields (rest : List ℕ) (channels rate : ℕ) : Type 0 where
   count : take 4 (drop 4 rest) ≡ be32 1
   size : take 4 (drop 8 rest) ≡ be32 36
@@ -71,7 +71,7 @@ length-sound : (channels rate : ℕ) → length (stsd_body (media.Sound channels
 unfolding sound_bytes
 length-sound channels rate = refl
 
--- the two bytes in front of the point
+-- the two bytes of the integer part
 upper : (rate : ℕ) → rate < 2 ^ 16 → from_be_bytes w16 (take 2 (be32 (rate * 65536))) ≡ rate
 upper rate small = omega arith
 
@@ -89,7 +89,7 @@ form-of : (file : List ℕ) (stsd : Atom) (channels rate : ℕ) → stsd.end - (
 unfolding format_in bind
 form-of file stsd channels rate m b c d e f g = rw (b, m, c, d, e, f, g) refl
 
--- what is read of the `stsd`
+-- the result of reading the `stsd`
 pub record StsdIsRead (file : List ℕ) (at channels rate : ℕ) : Type 0 where
   pub plain : is_plain file (atom_here at (stsd_node (media.Sound channels rate))) ≡ true
   pub descriptions : readable_of file (atom_here at (stsd_node (media.Sound channels rate))) ≡ sound_here ((at + 8) + 8) ∷ []

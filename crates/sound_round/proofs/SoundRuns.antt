@@ -1,4 +1,4 @@
--- The chunks that runs of equal shares of sound tell: one for each share.
+-- The chunks of runs of equal shares of sound: one for each share.
 use Rattle.std.proofs.Common.{◌≡◌, refl, ℕ, zero, suc, ◌+◌, ◌≤◌, ◌<◌, ◌^◌, true, false, nat_lt, nat_le, List, [], ◌∷◌, ◌++◌, length, map, replicate, arith, ap, ◌∙◌, length-append}
 use Rattle.std.specs.List.{AllByRecursion, sum_by}
 use Rattle.std.proofs.lemmas.Bool.Decides.{nat_tests}
@@ -36,7 +36,7 @@ runs-fit number (r ∷ rs) h few =
 
 -- ---- the chunks
 
--- chunks at these places with so many frames each
+-- chunks at these offsets, with these numbers of frames
 abbrev pub chunks_at : (places frames : List ℕ) → List Chunk
 chunks_at (place ∷ places) (n ∷ ns) = record { at = place; samples = n; description = 1 } ∷ chunks_at places ns
 chunks_at _ _ = []
@@ -48,7 +48,7 @@ run-later k number run (r ∷ rs) lt = let e : nat_le number k ≡ false = grind
 begun : (before run : ChunkRun) (runs : List ChunkRun) (k : ℕ) → run.first ≤ k → run_from before (run ∷ runs) k ≡ run_from run runs k
 begun before run runs k le = let e : nat_le run.first k ≡ true = grind (arith, nat_tests) in rw e refl
 
--- the chunks of one run, and those behind it
+-- the chunks of one run, and those after it
 run-chunks : (all : List ChunkRun) (first count number n : ℕ) (places ns : List ℕ) → ((k : ℕ) → number ≤ k → k < number + count → run_of all k ≡ chunk_run (first, n, 1))
     → ((later : List ℕ) → length later ≡ length ns → chunks_from all (number + count) later ≡ chunks_at later ns) → length places ≡ count + length ns
     → chunks_from all number places ≡ chunks_at places (replicate count n ++ ns)
@@ -75,7 +75,7 @@ all-chunks (r ∷ rs) all before number places is many =
     (λ later l. all-chunks rs all run (number + r.0) later (λ k le. is k (omega arith) ∙ begun before run rest k (omega arith)) l)
     (omega (arith, many, length-append (replicate r.0 r.1) (spread rs), length-replicate {A = ℕ} r.0 r.1))
 
--- the runs of equal shares tell one chunk for each share
+-- the runs of equal shares have one chunk for each share
 pub chunks-told : (xs places : List ℕ) → length places ≡ length xs → chunks (map chunk_run (chunk_runs 1 (runs_of xs))) places ≡ chunks_at places xs
 chunks-told xs places many =
     let rs = runs_of xs in

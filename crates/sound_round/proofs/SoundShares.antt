@@ -30,7 +30,7 @@ filled-of timescale p (s ∷ ss) = filled-from timescale p 0 (s ∷ ss)
 
 -- ---- together they are all sound
 
--- how many frames some shares have
+-- the number of frames of some shares
 abbrev pub total : List ℕ → ℕ
 total ns = sum_by (λ (n : ℕ). n) ns
 
@@ -39,7 +39,7 @@ shares-are [] = refl
 shares-are (parts.Picture s ∷ xs) = omega (arith, sum_by-cons part_frames (parts.Picture s) xs, shares-are xs)
 shares-are (parts.Sound n ∷ xs) = omega (arith, sum_by-cons part_frames (parts.Sound n) xs, sum_by-cons (λ (k : ℕ). k) n (chunk_frames xs), shares-are xs)
 
--- no sound is in front of the first sample
+-- no sound comes before the first sample
 none-before : (timescale : ℕ) (p : Pcm) → border timescale p 0 ≡ 0
 none-before timescale p =
     let none : 0 * p.rate / timescale ≡ 0 = ap (λ (n : ℕ). n / timescale) (let z : 0 * p.rate ≡ 0 = omega arith in z) ∙ zero-div timescale in

@@ -1,4 +1,4 @@
--- The sound of a movie with sound is taken out.
+-- The sound of a movie with sound is extracted.
 use Rattle.std.proofs.Common.{◌≡◌, refl, ℕ, ◌+◌, ◌*◌, ◌≤◌, ◌<◌, ◌^◌, false, nat_lt, List, [], ◌∷◌, ◌++◌, length, map, take, Ok, arith, sym, ap, subst, ◌∙◌}
 use Rattle.std.specs.Prelude.{max}
 use Rattle.std.specs.List.{AllByRecursion, flat_map}
@@ -34,14 +34,14 @@ use Rattle.sound_round.proofs.SoundShares.{total, filled-of, all-shared, each-sm
 use Rattle.sound_round.proofs.SoundBytes.{sound_chunks, SoundLies, sound-lies, places-near}
 use Rattle.sound_round.proofs.SoundTrack.{IsPlainSound, sound_of, IsOfPictures, sound-read}
 
--- ---- what is taken out
+-- ---- the extracted sound
 
 taken : (out : List ℕ) (s : Sound) (cs : List Chunk) (n : ℕ) (sound : List ℕ) → sound_in out ≡ Ok s → chunks s.tables.runs s.tables.offsets ≡ cs → held_by cs ≡ n → chunks_end out s.format.channels cs ≡ ends.Done
     → flat_map (chunk_bytes out s.format.channels) cs ≡ sound → sounded out ≡ record { end = ends.Done; out = wav_head s.format n ++ sound; text = sound_line s.format n }
 unfolding sounded
 taken out s cs n sound e c h within bytes = ap (sounded_by out) e ∙ rw (c, h, within, bytes) refl
 
--- the WAV is read, where its form is, and all of its sound is there
+-- the WAV is read, if its form is, and all of its sound exists
 wav-read : (wav : List ℕ) (p : Pcm) (rest : Rest) → form_at (record { place = 0; bytes = wav }) ≡ Ok (p, rest) → sound_size p.channels p.frames ≤ length rest.bytes
     → wav_in wav ≡ Ok (record { form = p; sound = take (sound_size p.channels p.frames) rest.bytes })
 unfolding wav_in bind
@@ -53,7 +53,7 @@ shares-in : (ns : List ℕ) (most : ℕ) → AllByRecursion (λ n. 1 ≤ n) ns �
 shares-in [] most filled small fits = tt
 shares-in (n ∷ ns) most filled small fits = ((filled.0, omega (arith, small.0, fits)), shares-in ns most filled.1 small.1 fits)
 
--- so few frames as their bytes allow
+-- at most as many frames as their bytes allow
 frames-few : (channels frames : ℕ) → 1 ≤ channels → sound_size channels frames ≤ 4294967250 → frames < 2 ^ 32
 frames-few channels frames c h =
     let more : frames ≤ frames * frame_size channels = le-mul_of_pos_right frames (omega (arith, c)) in
@@ -137,7 +137,7 @@ module _ (file : List ℕ) (m : Movie) (p : Pcm) (sound : List ℕ) (read : IsRe
   lies : SoundLies out p.channels first_place xs sound
   lies = sound-lies out file p.channels first_place xs sound is.channels.0 filled (bodies-lie file m p sound) there
 
-  -- all sound is there
+  -- all sound exists
   pub all-there : sound_size p.channels p.frames ≤ length sound
   all-there = subst (λ (n : ℕ). sound_size p.channels n ≤ length sound) shared lies.some
 

@@ -1,4 +1,4 @@
--- The sound of a movie is read whose first track is one of pictures, and whose second is one of plain sound.
+-- Reading the sound of a movie with a picture track first and a plain PCM sound track second.
 use Rattle.std.proofs.Common.{◌≡◌, refl, ℕ, ◌+◌, ◌≤◌, ◌<◌, ◌^◌, Bool, true, false, nat_lt, List, [], ◌∷◌, length, map, None, Some, Ok, arith, sym, ap, subst, ◌∙◌}
 use Rattle.std.specs.Prelude.{codes, ◌&&◌, if◌then◌else◌}
 use Rattle.std.specs.List.{AllByRecursion}
@@ -29,7 +29,7 @@ use Rattle.pcm_track.specs.Wav.{sound_size}
 use Rattle.pcm_track.specs.Track.{is_sound, is_plain, sound_track_in, first_sound, readable_of, format_in, Sound, sound_in}
 use Rattle.sound_round.proofs.SoundFields.{is-no-sound, is-sound, sound_here, StsdIsRead, stsd-read}
 
--- A track of plain sound that can be read again: each number has the bits of its field, and the runs of chunks are in order.
+-- A plain PCM track that can be read back: each number fits its field, and the runs of chunks are in order.
 pub record IsPlainSound (t : TrakValues) (channels rate : ℕ) : Type 0 where
   pub media : t.media ≡ media.Sound channels rate
   pub channels_fit : (1 ≤ channels) × (channels ≤ 2)
@@ -37,16 +37,16 @@ pub record IsPlainSound (t : TrakValues) (channels rate : ℕ) : Type 0 where
   pub written : IsTrak t
   pub runs : AllByRecursion RunFits t.stsc
   pub begins : begins_at_1 (map chunk_run t.stsc) ≡ true
-  -- all by the one description that there is
+  -- all by the only description
   pub in_order : is_in_order 1 0 (map chunk_run t.stsc) ≡ true
   pub near : AllByRecursion (λ offset. offset < 2 ^ 62) t.offsets
   pub size : sound_size channels (held_by (chunks (map chunk_run t.stsc) t.offsets)) ≤ 4294967250
 
--- the sound that such a track tells
+-- the sound of such a track
 abbrev pub sound_of : TrakValues → (channels rate : ℕ) → Sound
 sound_of t channels rate = record { format = record { channels = channels; rate = rate }; tables = record { runs = map chunk_run t.stsc; offsets = t.offsets } }
 
--- a track of pictures, whatever they are
+-- any picture track
 pub record IsOfPictures (t : TrakValues) : Type 0 where
   pub kind : List ℕ
   pub width : ℕ
@@ -58,7 +58,7 @@ pub record IsOfPictures (t : TrakValues) : Type 0 where
 
 -- ---- the parts of a track
 
--- the atoms of a track that stands at a place
+-- the atoms of a track at an offset
 abbrev parts_here : ℕ → TrakValues → Parts
 parts_here at t =
     let mdia = mdia_place at t in
@@ -85,7 +85,7 @@ parts-here file at t is has s =
     (mdia_found file at t is has s) (hdlr_found file mdia t is has mdia_s) (minf_found file mdia t is has mdia_s)
     (stbl_found file minf t is has minf_s) (stsd_found file stbl t is has stbl_s)
 
--- ---- each track is judged
+-- ---- each track is validated
 
 not-sound : (file : List ℕ) (at : ℕ) (m v : Media) → m ≡ v → (Stands file at (hdlr_node v) → is_sound file (atom_here at (hdlr_node v)) ≡ false) → Stands file at (hdlr_node m) → is_sound file (atom_here at (hdlr_node m)) ≡ false
 not-sound file at m v e = subst (λ (x : Media). (Stands file at (hdlr_node x) → is_sound file (atom_here at (hdlr_node x)) ≡ false)) (sym e)
@@ -102,7 +102,7 @@ passed-over file at t is has s =
     (is-no-sound file (hdlr_place mdia t) is.kind is.width is.height is.depth) (hdlr_stands file mdia t (mdia_stands file at t s)) in
     judged file (atom_here at (trak_node t)) p false (is_plain file p.stsd) (parts-here file at t is.written has s) no refl
 
--- what is read of the handler and the description, whatever the media is called
+-- the result of reading the handler and the description, for any name of the media
 record IsRead (file : List ℕ) (hdlr stsd : ℕ) (m : Media) (channels rate : ℕ) : Type 0 where
   sound : is_sound file (atom_here hdlr (hdlr_node m)) ≡ true
   plain : is_plain file (atom_here stsd (stsd_node m)) ≡ true
@@ -182,7 +182,7 @@ second-taken file moov first second parts format tables stsc a b c d e f g h i s
     let fits : nat_lt 4294967250 (sound_size format.channels (held_by (chunks tables.runs tables.offsets))) ≡ false = grind (arith, nat_tests, small) in
     rw (a, b, c, d, e, f, g, h, i, fits) refl
 
--- a file with this movie atom, where it is the one that is read
+-- a file with this movie atom, if it is the one that is read
 with-moov : (file : List ℕ) (at timescale duration : ℕ) (pictures t : TrakValues) (channels rate : ℕ) → IsOfPictures pictures → IsPlainSound t channels rate
     → AllByRecursion IsTrak (pictures ∷ t ∷ []) → AllByRecursion (λ (o : TrakValues). HasKind o.media) (pictures ∷ t ∷ [])
     → Stands file at (moov_node timescale duration (pictures ∷ t ∷ [])) → moov_in file ≡ Ok (atom_here at (moov_node timescale duration (pictures ∷ t ∷ [])))

@@ -4,8 +4,8 @@ ghost use Rattle.sound_round.specs.Laws.{AddedPicturesAreRead, AddedSoundIsTaken
 
 use qt_movie::{lone_samples_are_told, written_traks_are_read};
 
-/// Where sound was put beside the pictures of a movie, what was written is a movie of the same pictures: kind, width, height and time scale, and for
-/// each sample the same bytes and the same duration.
+/// Adding sound to the pictures of a movie writes a movie of the same pictures: kind, width, height and time scale,
+/// and for each sample the same bytes and the same duration.
 pub fn added_pictures_are_read()
     ensures { AddedPicturesAreRead }
 {
@@ -13,14 +13,14 @@ pub fn added_pictures_are_read()
     lone_samples_are_told();
 }
 
-/// Where the sound of a WAV was put beside the pictures of a movie, taking the sound out of what was written is done, and gives a WAV of the same form
-/// with the same sound.
+/// After the sound of a WAV was added to the pictures of a movie, extracting the sound of the written movie is
+/// done, and returns a WAV of the same form with the same sound.
 pub fn added_sound_is_taken_out()
     ensures { AddedSoundIsTakenOut }
 {}
 
-/// Where the sound of a WAV was put beside the pictures of a movie, the pictures of the movie and the sound of the WAV are read again of what was
-/// written.
+/// After the sound of a WAV was added to the pictures of a movie, the written movie is read back as the movie's
+/// pictures and the WAV's sound.
 pub fn added_is_read_again()
     ensures { AddedIsReadAgain }
 {

@@ -1,4 +1,5 @@
-//! What was put beside the pictures of a movie is read again: its pictures, and its sound. Laws alone, over the definitions of `pcm_track` and `qt_movie`.
+//! Round trip of sound: a movie with added sound is read back as its pictures and its sound. Laws alone, over the
+//! definitions of `pcm_track` and `qt_movie`.
 #![tactic(auto)]
 
 mod laws;

@@ -1,4 +1,4 @@
--- Where no port failed, runs over a table or a certificate are done, unless memory runs out.
+-- If no port failed, runs over a table or a certificate are done, unless memory runs out.
 use Rattle.std.proofs.Common.{◌≡◌, ◌∙◌, ℕ, List, true, refl, sym, ap, subst, ◌⊎◌, inl, inr, Result, Ok, Err, ⊎_elim}
 use Rattle.pw_outside.specs.Reading.{Fault}
 use Rattle.pw_outside.specs.Ports.{Rose}
@@ -54,7 +54,7 @@ curve (Ok t) (ends.Refused clause) h nr nw = absurd h
 pub neither : {A B : Type 0} → (A → ⊥) → (B → ⊥) → A ⊎ B → ⊥
 neither a b r = ⊎_elim a b r
 
--- where no port that `least` uses failed, no count of one rose
+-- if no port that `least` uses failed, no count of one rose
 pub quiet : (x : Said) (t : Task × List ℕ) (cap : ℕ) (before now : Faults) → x ≡ Ok t → t.0 ≡ task.Least cap → NoPortFailed (uses_in x) before now
     → (Rose before.proof now.proof → ⊥) × (Rose before.cert now.cert → ⊥) × (Rose before.text now.text → ⊥)
 quiet x t cap before now e f none =
@@ -65,6 +65,6 @@ abbrev cap-in : ℕ → Task → ℕ
 cap-in other (task.Least cap) = cap
 cap-in other _ = other
 
--- the words are a run of `least` with one cap alone
+-- the words are a run of `least` with one cap only
 pub same-cap : (x : Said) (t : Task × List ℕ) (v w : ℕ) → x ≡ Ok t → t.0 ≡ task.Least v → IsLeast w x → v ≡ w
 same-cap x t v w e f is = ap (cap-in v) (sym f ∙ subst (IsLeast w) e is)

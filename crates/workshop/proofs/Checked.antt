@@ -1,4 +1,4 @@
--- What a run that checks a proof says of the answer.
+-- What a run that checks a proof implies for the status.
 use Rattle.std.proofs.Common.{◌≡◌, ℕ, ◌⊎◌, inl, inr, refl, ap}
 use Rattle.pw_outside.specs.Writing.{SinkState}
 use Rattle.run_look.specs.declared.end.LookEnd.{LookEnd}
@@ -9,7 +9,7 @@ use Rattle.workshop.specs.declared.status.Status.TheVariants as s
 use Rattle.workshop.specs.Listing.{status_of}
 use Rattle.workshop.specs.Checking.{Ending, AnswersCheck, PrintsChecked}
 
--- ---- the answer and the text, by the end of the run
+-- ---- the status and the text, by the run's outcome
 
 pub answers_check : (Is : Ending) (end : LookEnd) → AnswersEnd end (λ end. (records : ℕ) × Is end records) → AnswersCheck Is (status_of end)
 answers_check Is ends.NoMemory h = tt
@@ -33,7 +33,7 @@ prints_checked Is (ends.BadFrame sample kind place) before after h = h
 prints_checked Is (ends.BadProof kind place) before after h = h
 prints_checked Is (ends.Refused frame clause) before after h = h
 
--- ---- where no port failed
+-- ---- if no port failed
 
 pub completes : (end : LookEnd) → CompletesCheck end → (status_of end ≡ s.Done) ⊎ (status_of end ≡ s.NoMemory)
 completes end (inl e) = inl (ap status_of e)

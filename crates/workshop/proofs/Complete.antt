@@ -1,4 +1,4 @@
--- Where no port failed, a run that is done unless one fails is done, or memory ran out.
+-- If no port failed, a run that is done unless one fails is done, or memory ran out.
 use Rattle.std.proofs.Common.{◌≡◌, ◌≤◌, ℕ, List, arith, sym, Bool, true, false, Ok, Err, refl, ap, subst, inl, inr, ⊎_elim}
 use Rattle.std.specs.Prelude.{◌⊎◌}
 use Rattle.std.specs.Bool.{OnTrue, OnFalse}
@@ -37,7 +37,7 @@ pub run_uses : (t : Task) (said : Said) → IsRun t said → uses_in said ≡ us
 run_uses t (Ok x) e = ap uses_of e
 run_uses t (Err f) e = absurd e
 
--- where no port that the run uses failed
+-- if no port that the run uses failed
 pub unfailed : (t : Task) (said : Said) (before now : Faults) → IsRun t said → NoPortFailed (uses_in said) before now → NoPortFailed (uses_of t) before now
 unfailed t said before now run none = subst (λ u. NoPortFailed u before now) (run_uses t said run) none
 
@@ -50,7 +50,7 @@ reproof_completes said status before now run none read write h =
     (on_true (is_read_fault status) (λ r. unused.proof (refl, r)) read.rose)
     (on_true (is_write_fault status) (λ r. ⊎_elim (λ a. unused.cert (refl, a)) (λ b. unused.text (refl, b)) r) write.rose) h
 
--- the counts of two sinks among those of all that can be written
+-- the counts of two sinks among those of all ports that can be written
 pub reproof_writes : (said : Said) (before now : Faults) (failed : Bool) → IsRun task.Reproof said → now.out ≡ before.out
     → CountsFaults before.cert now.cert before.text now.text failed → CountsWrites (uses_in said) before now failed
 reproof_writes said before now failed run out h =
@@ -66,7 +66,7 @@ reproof_writes said before now failed run out h =
 pub is_run : (said : Said) (t : Task × List ℕ) (u : Task) → said ≡ Ok t → t.0 ≡ u → IsRun u said
 is_run said t u e f = subst (IsRun u) (sym e) f
 
--- the counts of all that can be read
+-- the counts of all ports that can be read
 pub check_reads : (said : Said) (before now : Faults) (failed : Bool) → IsRun task.CheckAll said
     → look.CountsReads before.proof now.proof before.movie now.movie before.pictures now.pictures failed → CountsReads (uses_in said) before now failed
 check_reads said before now failed run h =
@@ -78,7 +78,7 @@ check_reads said before now failed run h =
       kept = on_false failed (λ k. (k.2, k.0, k.1)) h.kept;
     })
 
--- the counts of the movie and of the WAV among those of all that can be read
+-- the counts of the movie and of the WAV among those of all ports that can be read
 pub add_reads : (said : Said) (before now : Faults) (failed : Bool) → IsRun task.AddSound said → now.proof ≡ before.proof
     → CountsFaults before.movie now.movie before.pictures now.pictures failed → CountsReads (uses_in said) before now failed
 add_reads said before now failed run proof h =

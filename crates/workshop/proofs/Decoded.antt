@@ -1,4 +1,4 @@
--- Where no port failed, and all samples of a movie are shown, a run of `decode` is done.
+-- If no port failed, and all samples of a movie are shown, a run of `decode` is done.
 use Rattle.std.proofs.Common.{◌≡◌, refl, ℕ, List, ◌⊎◌, inl, inr, Result, Ok, Err, sym, subst, ◌∙◌, ap}
 use Rattle.pw_outside.specs.Ports.{Rose}
 use Rattle.pw_outside.specs.Reading.{Fault}
@@ -15,7 +15,7 @@ use Rattle.workshop.specs.declared.words.Task.TheVariants as task
 use Rattle.workshop.specs.Words.{Said, IsDecode, uses_in, uses_of}
 use Rattle.workshop.specs.Faults.{Faults, NoPortFailed}
 
--- the same of the answer
+-- the same for the status
 answered : (end : DecodeEnd) → (end ≡ ends.Done) ⊎ (end ≡ ends.NoMemory) → (status_of end ≡ s.Done) ⊎ (status_of end ≡ s.NoMemory)
 answered end (inl e) = inl (ap status_of e)
 answered end (inr e) = inr (ap status_of e)
@@ -25,7 +25,7 @@ pub complete : (w : DecodeWords) (file : List ℕ) (input : Result Movie (Fault 
 complete w file (Err f) end h = tt
 complete w file (Ok m) end h = λ shown d. answered end (h shown d)
 
--- where no port that `decode` uses failed, no count of one rose
+-- if no port that `decode` uses failed, no count of one rose
 pub quiet : (x : Said) (t : Task × List ℕ) (v : DecodeWords) (before now : Faults) → x ≡ Ok t → t.0 ≡ task.Decode v → NoPortFailed (uses_in x) before now
     → (Rose before.movie now.movie → ⊥) × (Rose before.out now.out → ⊥) × (Rose before.text now.text → ⊥)
 quiet x t v before now e f none =
@@ -36,6 +36,6 @@ abbrev words-in : DecodeWords → Task → DecodeWords
 words-in other (task.Decode w) = w
 words-in other _ = other
 
--- the words are a run of `decode` with one list of values alone
+-- the words are a run of `decode` with one list of options only
 pub same-words : (x : Said) (t : Task × List ℕ) (v w : DecodeWords) → x ≡ Ok t → t.0 ≡ task.Decode v → IsDecode w x → v ≡ w
 same-words x t v w e f is = ap (words-in v) (sym f ∙ subst (IsDecode w) e is)

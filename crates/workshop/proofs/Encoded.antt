@@ -1,4 +1,4 @@
--- Where no port failed, and each group has a fitting choice, a run of `encode` is done.
+-- If no port failed, and each group has a fitting choice, a run of `encode` is done.
 use Rattle.std.proofs.Common.{◌≡◌, refl, ℕ, List, ◌⊎◌, inl, inr, Bool, true, false, None, Result, Ok, Err, sym, subst, ◌∙◌, ap}
 use Rattle.std.specs.Bool.{OnTrue}
 use Rattle.pw_outside.specs.Ports.{Rose}
@@ -39,7 +39,7 @@ first-complete : (end : EncodeEnd) (a b : Outputs) → StopsFirst end a b → (i
 first-complete end a b (inl e, p) nr = absurd (nr (ap is_read_fault e))
 first-complete end a b (inr e, p) nr = inr e
 
--- the same of the answer
+-- the same for the status
 answered : (end : EncodeEnd) → (end ≡ ends.Done) ⊎ (end ≡ ends.NoMemory) → (status_of end ≡ s.Done) ⊎ (status_of end ≡ s.NoMemory)
 answered end (inl e) = inl (ap status_of e)
 answered end (inr e) = inr (ap status_of e)
@@ -52,7 +52,7 @@ complete w (Ok (head, ps)) end a b (inr r) nr nw = λ some e fits.
     let x = on-true (has_layout w head) some r.1 in
     answered end (ran-complete x.0 ps end a b x.2 e (fits x.0 x.1) nr nw)
 
--- where no count rose, no port failed
+-- if no count rose, no port failed
 pub no-fault : (P : Type 0) (b : Bool) → OnTrue b P → (P → ⊥) → b ≡ true → ⊥
 no-fault P b o n e = n (on-true b e o)
 
@@ -61,7 +61,7 @@ none-of a b c (inl x) = a x
 none-of a b c (inr (inl x)) = b x
 none-of a b c (inr (inr x)) = c x
 
--- where no port that `encode` uses failed, no count of one rose
+-- if no port that `encode` uses failed, no count of one rose
 pub quiet : (x : Said) (t : Task × List ℕ) (v : EncodeWords) (before now : Faults) → x ≡ Ok t → t.0 ≡ task.Encode v → NoPortFailed (uses_in x) before now
     → (Rose before.pictures now.pictures → ⊥) × (Rose before.out now.out ⊎ Rose before.cert now.cert ⊎ Rose before.text now.text → ⊥)
 quiet x t v before now e f none =
@@ -72,6 +72,6 @@ abbrev words-in : EncodeWords → Task → EncodeWords
 words-in other (task.Encode w) = w
 words-in other _ = other
 
--- the words are a run of `encode` with one list of values alone
+-- the words are a run of `encode` with one list of options only
 pub same-words : (x : Said) (t : Task × List ℕ) (v w : EncodeWords) → x ≡ Ok t → t.0 ≡ task.Encode v → IsEncode w x → v ≡ w
 same-words x t v w e f is = ap (words-in v) (sym f ∙ subst (IsEncode w) e is)

@@ -1,4 +1,4 @@
--- What a run that writes a proof again says of the answer.
+-- What a run that rewrites a proof implies for the status.
 use Rattle.std.proofs.Common.{ℕ, List, ap}
 use Rattle.pw_outside.specs.Writing.{SinkState}
 use Rattle.run_look.specs.declared.end.LookEnd.{LookEnd}

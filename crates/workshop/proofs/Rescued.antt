@@ -1,4 +1,4 @@
--- Where no port failed, a run of `rescue` answers what rescuing gives, unless memory runs out.
+-- If no port failed, the status of a run of `rescue` is the result of rescuing, unless memory runs out.
 use Rattle.std.proofs.Common.{◌≡◌, List, ℕ, ◌⊎◌, inl, inr, ap}
 use Rattle.rescue_run.specs.declared.end.RescueEnd.{RescueEnd}
 use Rattle.rescue_run.specs.declared.end.RescueEnd.TheVariants as ends
@@ -6,7 +6,7 @@ use Rattle.rescue_run.specs.Laws as laws
 use Rattle.workshop.specs.declared.status.Status.TheVariants as s
 use Rattle.workshop.specs.Rescuing.{status_of, CompletesRescue}
 
--- the same of the answer
+-- the same for the status
 answered : (end known : RescueEnd) → (end ≡ known) ⊎ (end ≡ ends.NoMemory) → (status_of end ≡ status_of known) ⊎ (status_of end ≡ s.NoMemory)
 answered end known (inl e) = inl (ap status_of e)
 answered end known (inr e) = inr (ap status_of e)

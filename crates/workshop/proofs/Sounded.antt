@@ -1,4 +1,4 @@
--- What a run over sound says of the answer.
+-- What a run over sound implies for the status.
 use Rattle.std.proofs.Common.{◌≡◌, ℕ, List, true, refl, ap, sym, subst, inl, inr}
 use Rattle.pw_outside.specs.Writing.{SinkState}
 use Rattle.pcm_track.specs.declared.end.SoundEnd.{SoundEnd}
@@ -34,14 +34,14 @@ reads_back law file wav ends.Done before after h p = λ bytes. ((added file wav)
 reads_back law file wav (ends.BadMovie kind place) before after h p = tt
 reads_back law file wav (ends.BadSound kind place) before after h p = tt
 
--- what putting sound beside the pictures promises by the law of what was written
+-- the contract of adding sound, by the law of written movies with sound
 pub reads_again : AddedIsReadAgain → (file wav : List ℕ) (end : SoundEnd) (status : Status) (before after : SinkState) → status ≡ status_of end
     → AnswersUnlessOutside end (added file wav).end → PutsUntil end (added file wav).out before after → ReadsAgain status file wav before after
 reads_again law file wav end status before after e h p = subst (λ s. ReadsAgain s file wav before after) (sym e) (reads_back law file wav end before after h p)
 
--- ---- where no port failed
+-- ---- if no port failed
 
--- the same of an end that is known
+-- the same for a known end
 pub completes : (known end : SoundEnd) → Completes known end → CompletesSound known (status_of end)
 completes known end (inl e) = inl (ap status_of e)
 completes known end (inr e) = inr (ap status_of e)

@@ -1,4 +1,4 @@
--- Where no port failed, and each picture has a fitting choice, a run of `synth` is done.
+-- If no port failed, and each picture has a fitting choice, a run of `synth` is done.
 use Rattle.std.proofs.Common.{◌≡◌, ◌∙◌, List, ℕ, sym, subst, ap, ◌⊎◌, inl, inr, Ok}
 use Rattle.run_synth.specs.declared.words.SynthWords.{SynthWords}
 use Rattle.run_synth.specs.declared.end.SynthEnd.{SynthEnd}
@@ -10,7 +10,7 @@ use Rattle.workshop.specs.declared.status.Status.TheVariants as s
 use Rattle.workshop.specs.Words.{Said, IsSynth}
 use Rattle.workshop.specs.Synthesis.{status_of, CompletesSynth}
 
--- the same of the answer
+-- the same for the status
 answered : (end : SynthEnd) → (end ≡ ends.Done) ⊎ (end ≡ ends.NoMemory) → (status_of end ≡ s.Done) ⊎ (status_of end ≡ s.NoMemory)
 answered end (inl e) = inl (ap status_of e)
 answered end (inr e) = inr (ap status_of e)
@@ -22,6 +22,6 @@ abbrev words-in : SynthWords → Task → SynthWords
 words-in other (task.Synth w) = w
 words-in other _ = other
 
--- the words are a run of `synth` with one list of numbers alone
+-- the words are a run of `synth` with one list of numbers only
 pub same-words : (x : Said) (t : Task × List ℕ) (v w : SynthWords) → x ≡ Ok t → t.0 ≡ task.Synth v → IsSynth w x → v ≡ w
 same-words x t v w e f is = ap (words-in v) (sym f ∙ subst (IsSynth w) e is)

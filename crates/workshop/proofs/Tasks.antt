@@ -1,4 +1,4 @@
--- The values of a command are those that its run may be told.
+-- The values of a command are valid parameters of its run.
 use Rattle.std.proofs.Common.{◌≡◌, ℕ, ◌^◌, ◌<◌, ◌≤◌, ◌%◌, ◌==◌, true, false, not, ◌&&◌, Bool, Option, Some, None, refl, arith, IfSome, IsTrue}
 use Rattle.std.specs.Prelude.{unwrap_or, option_map, is_none, if◌then◌else◌}
 use Rattle.std.proofs.lemmas.Bool.{ltb-true, ltb-false, eqb-false, or_parts, true≢false, false≢true}
@@ -16,7 +16,7 @@ use Rattle.workshop.specs.declared.words.Task.TheVariants as task
 use Rattle.workshop.specs.Options.{AreValues, IsRawForm, rate_of}
 use Rattle.workshop.specs.Words.{IsTask, task_of, clash, lacks_option, with_mode, has_odd_form, usual_rate}
 
--- what holds of a value and of what stands for one that is absent
+-- facts of a value and of its default
 given : (P : ℕ → Type 0) (o : Option ℕ) (n : ℕ) → P n → IfSome o P → P (unwrap_or o n)
 given P None n absent h = absent
 given P (Some m) n absent h = h

@@ -1,4 +1,4 @@
--- What `check` answers and writes. Our own definitions.
+-- Status and output of `check`. Our own definitions.
 use Rattle.std.specs.Prelude.{◌≡◌, ℕ, [], ◌⊎◌}
 use Rattle.pw_outside.specs.Writing.{SinkState, Puts, PutsFront}
 use Rattle.run_look.specs.declared.end.LookEnd.{LookEnd}
@@ -12,24 +12,24 @@ use Rattle.workshop.specs.declared.status.Status.TheVariants as s
 abbrev pub Ending : Type 1
 Ending = LookEnd → ℕ → Type 0
 
--- The answer is such an end.
+-- The status is that of such an end.
 abbrev pub EndsCheck : Ending → Status → Type 0
 EndsCheck Is status = (end : LookEnd) × (records : ℕ) × Is end records × (status ≡ status_of end)
 
--- the answer: how checking ends, unless a port failed or memory ran out
+-- the status: how checking ends, unless a port failed or memory ran out
 abbrev pub AnswersCheck : Ending → Status → Type 0
 AnswersCheck Is s.NoMemory = Unit {0}
 AnswersCheck Is s.ReadFault = Unit {0}
 AnswersCheck Is s.WriteFault = Unit {0}
 AnswersCheck Is status = EndsCheck Is status
 
--- After Done the line with the number of records was appended, after a fault of writing a front of it, and after every other answer
--- nothing.
+-- After Done the line with the number of records was appended, after a write fault a prefix of it, after every
+-- other status nothing.
 abbrev pub PrintsChecked : Ending → Status → SinkState → SinkState → Type 0
 PrintsChecked Is s.Done before after = (records : ℕ) × Is ends.Done records × Puts before after (check_text records)
 PrintsChecked Is s.WriteFault before after = (records : ℕ) × Is ends.Done records × PutsFront before after (check_text records)
 PrintsChecked Is _ before after = Puts before after []
 
--- Where checking may be done, it ends in Done, or for want of memory.
+-- If checking may be done, the status is Done or NoMemory.
 abbrev pub CompletesCheck : Status → Ending → Type 0
 CompletesCheck status Is = (records : ℕ) → Is ends.Done records → (status ≡ s.Done) ⊎ (status ≡ s.NoMemory)

@@ -1,4 +1,4 @@
--- What `decode` answers. Our own definitions.
+-- Status and output of `decode`. Our own definitions.
 use Rattle.std.specs.Prelude.{◌≡◌, ℕ, ◌⊎◌, List, Result, Ok, Err}
 use Rattle.pw_outside.specs.Reading.{Fault}
 use Rattle.qt_tables.specs.declared.fault.MovieKind.{MovieKind}
@@ -13,7 +13,7 @@ use Rattle.workshop.specs.declared.words.DecodeWords.{DecodeWords}
 use Rattle.workshop.specs.declared.status.Status.{Status}
 use Rattle.workshop.specs.declared.status.Status.TheVariants as s
 
--- the answer with the fields of a run's end
+-- the status of a run's outcome
 abbrev pub status_of : DecodeEnd → Status
 status_of ends.Done = s.Done
 status_of ends.NoMemory = s.NoMemory
@@ -22,7 +22,7 @@ status_of ends.WriteFault = s.WriteFault
 status_of (ends.BadMovie kind place) = s.BadMovie kind place
 status_of (ends.BadFrame sample kind place) = s.BadFrame sample kind place
 
--- The answer is that of a run over this file, which wrote so much and told the monitors so much.
+-- The status, the output and the reports to the monitors are those of a run over this file.
 abbrev pub AnswersDecode : DecodeWords → List ℕ → Result Movie (Fault MovieKind) → Status → World → World → Type 0
 AnswersDecode w file input status before after = (end : DecodeEnd) × (status ≡ status_of end) × RanOn w.form w.depth file input end before after
 

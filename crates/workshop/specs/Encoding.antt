@@ -1,4 +1,4 @@
--- What `encode` answers. Our own definitions.
+-- Status and output of `encode`. Our own definitions.
 use Rattle.std.specs.Prelude.{◌≡◌, ◌⊎◌, true, None, Result, Ok, Err}
 use Rattle.pw_outside.specs.Reading.{Fault}
 use Rattle.pic_y4m.specs.declared.head.Head.{Head}
@@ -16,7 +16,7 @@ use Rattle.run_encode.specs.Completing.{EachFits}
 use Rattle.workshop.specs.declared.status.Status.{Status}
 use Rattle.workshop.specs.declared.status.Status.TheVariants as s
 
--- the answer with the fields of a run's end
+-- the status of a run's outcome
 abbrev pub status_of : EncodeEnd → Status
 status_of ends.Done = s.Done
 status_of ends.NoMemory = s.NoMemory
@@ -26,7 +26,7 @@ status_of (ends.BadPictures kind place) = s.BadPictures kind place
 status_of (ends.TooSmall frame least) = s.TooSmall frame least
 status_of (ends.LayersFull frame) = s.LayersFull frame
 
--- The answer is that of a run over these pictures, or over the fault of their head, which wrote so much.
+-- The status and the output are those of a run over these pictures, or over the error of their head.
 abbrev pub AnswersEncode : EncodeWords → Result (Head × Pictures) (Fault PictureKind) → Status → Outputs → Outputs → Type 0
 AnswersEncode w input status before after = (end : EncodeEnd) × (status ≡ status_of end) × (StopsFirst end before after ⊎ RanOn w input end before after)
 
@@ -34,8 +34,8 @@ AnswersEncode w input status before after = (end : EncodeEnd) × (status ≡ sta
 abbrev pub HoldsHeadline : EncodeWords → Result (Head × Pictures) (Fault PictureKind) → Status → Outputs → Outputs → Type 0
 HoldsHeadline w input status before after = (end : EncodeEnd) × (status ≡ status_of end) × HasHeadline w input end before after
 
--- Pictures without a fault, which have a layout, and whose groups each have a fitting choice and layers that aren't too many, are
--- encoded, unless memory runs out.
+-- Pictures without an error, with a layout, whose groups each have a fitting choice and Pareto frontiers without
+-- too many pairs, are encoded, unless memory runs out.
 abbrev pub CompletesEncode : EncodeWords → Result (Head × Pictures) (Fault PictureKind) → Status → Type 0
 CompletesEncode w (Err f) status = Unit {0}
 CompletesEncode w (Ok (head, ps)) status = has_layout w head ≡ true → ps.fault ≡ None → ((j : Job) → IsJobOf w head j → EachFits j ps)

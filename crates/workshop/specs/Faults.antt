@@ -1,4 +1,4 @@
--- What the six ports' counts of faults say of a run. Our own definitions.
+-- The fault counts of the six ports. Our own definitions.
 use Rattle.std.specs.Prelude.{◌≡◌, ℕ, ◌≤◌, ◌⊎◌, Bool, IsTrue}
 use Rattle.std.specs.Bool.{OnTrue, OnFalse}
 use Rattle.pw_outside.specs.Ports.{Rose}
@@ -13,7 +13,7 @@ pub record Faults : Type 0 where
   pub cert : ℕ
   pub text : ℕ
 
--- the counts of these ports, by what counts the faults of a source, of a store and of a sink
+-- the counts of these ports, by the fault counters of a source, of a store and of a sink
 abbrev pub faults : {S M K : Type 0} → (S → ℕ) → (M → ℕ) → (K → ℕ) → S → S → M → K → K → K → Faults
 faults source store sink pictures proof movie out cert text = record {
   pictures = source pictures;
@@ -24,12 +24,12 @@ faults source store sink pictures proof movie out cert text = record {
   text = sink text;
 }
 
--- a port that is used, and its count rose
+-- the port is used, and its count rose
 abbrev pub RoseOf : Bool → ℕ → ℕ → Type 0
 RoseOf used before now = IsTrue used × Rose before now
 
--- The counts of the ports that can be read. None falls. Where the call failed that of one that the command reads rose, and else
--- all are as they were.
+-- The counts of the ports that can be read. None falls. If the call failed, that of a port that the command reads
+-- rose; otherwise all are unchanged.
 pub record CountsReads (uses : Ports) (before now : Faults) (failed : Bool) : Type 0 where
   pub pictures : before.pictures ≤ now.pictures
   pub proof : before.proof ≤ now.proof
@@ -37,7 +37,7 @@ pub record CountsReads (uses : Ports) (before now : Faults) (failed : Bool) : Ty
   pub rose : OnTrue failed (RoseOf uses.pictures before.pictures now.pictures ⊎ RoseOf uses.proof before.proof now.proof ⊎ RoseOf uses.movie before.movie now.movie)
   pub kept : OnFalse failed ((now.pictures ≡ before.pictures) × (now.proof ≡ before.proof) × (now.movie ≡ before.movie))
 
--- The same of the ports that can be written.
+-- The same for the ports that can be written.
 pub record CountsWrites (uses : Ports) (before now : Faults) (failed : Bool) : Type 0 where
   pub out : before.out ≤ now.out
   pub cert : before.cert ≤ now.cert
@@ -54,6 +54,6 @@ pub record NoPortFailed (uses : Ports) (before now : Faults) : Type 0 where
   pub cert : RoseOf uses.cert before.cert now.cert → ⊥
   pub text : RoseOf uses.text before.text now.text → ⊥
 
--- all that a sink took is settled, where the command writes it
+-- if the command writes the sink, all that it took is flushed
 abbrev pub Settles : Bool → ℕ → ℕ → Type 0
 Settles used settled taken = OnTrue used (settled ≡ taken)

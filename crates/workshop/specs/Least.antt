@@ -1,4 +1,4 @@
--- What `least`, `checkleast` and `curve` answer. Our own definitions.
+-- Status and output of `least`, `checkleast` and `curve`. Our own definitions.
 use Rattle.std.specs.Prelude.{◌≡◌, ℕ, ◌⊎◌, Result, Ok, Err}
 use Rattle.pw_outside.specs.Reading.{Fault}
 use Rattle.pw_outside.specs.Writing.{SinkState}
@@ -13,7 +13,7 @@ use Rattle.rate_least.specs.Leasting as run
 use Rattle.workshop.specs.declared.status.Status.{Status}
 use Rattle.workshop.specs.declared.status.Status.TheVariants as s
 
--- the answer with the fields of a run's end: a table and a certificate are frame 0
+-- the status of a run's outcome; the frame of a table or a certificate is 0
 abbrev pub status_of : LeastEnd → Status
 status_of ends.Done = s.Done
 status_of ends.NoMemory = s.NoMemory
@@ -23,11 +23,11 @@ status_of ends.LayersFull = s.LayersFull 0
 status_of (ends.BadProof kind place) = s.BadProof kind place
 status_of (ends.Refused clause) = s.Refused 0 clause
 
--- The answer is that of a run that ended so.
+-- The status is that of an outcome with the property `Is`.
 abbrev pub Ended : Status → (LeastEnd → Type 0) → Type 0
 Ended status Is = (end : LeastEnd) × (status ≡ status_of end) × Is end
 
--- The answer is that of a run of `least` over a file, which wrote so much to `cert` and to `text`.
+-- The status and the output are those of a run of `least` over a file.
 abbrev pub AnswersLeast : ℕ → Result Table (Fault ProofKind) → Status → (cert cert' text text' : SinkState) → Type 0
 AnswersLeast cap input status cert cert' text text' =
     Ended status (λ end. run.AnswersLeast cap input end × run.WritesLeast end (run.IsCertificateOf cap input) cert cert' text text')
@@ -36,8 +36,8 @@ AnswersLeast cap input status cert cert' text text' =
 abbrev pub IsDone : Status → Type 0
 IsDone status = (status ≡ s.Done) ⊎ (status ≡ s.NoMemory)
 
--- A table is done, unless memory runs out, where the layers held under the size of the multiplier's choice number 2^25 pairs or fewer, or there
--- are too few sizes and slices for more.
+-- A table is done, unless memory runs out, if the Pareto frontiers bounded by the size of the Lagrangian minimisers
+-- have at most 2^25 pairs, or there are too few sizes and slices for more.
 abbrev pub CompletesLeast : ℕ → Result Table (Fault ProofKind) → Status → Type 0
 CompletesLeast cap (Err f) status = Unit {0}
 CompletesLeast cap (Ok t) status = (PassesByBend t.slices cap × IsWide t.slices → ⊥) → IsDone status
@@ -47,7 +47,7 @@ abbrev pub CompletesCheckLeast : Result Certificate (Fault ProofKind) → Status
 CompletesCheckLeast (Err f) status = Unit {0}
 CompletesCheckLeast (Ok c) status = IsGood c.table.slices c.cap c.said → IsDone status
 
--- A table is done, unless memory runs out, where the curves of its first slices have 2^25 points or fewer together.
+-- A table is done, unless memory runs out, if the curves of its first slices have at most 2^25 points together.
 abbrev pub CompletesCurve : Result Table (Fault ProofKind) → Status → Type 0
 CompletesCurve (Err f) status = Unit {0}
 CompletesCurve (Ok t) status = (CurvesPass t.slices → ⊥) → IsDone status

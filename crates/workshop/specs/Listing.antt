@@ -1,4 +1,4 @@
--- What `list` answers. Our own definitions.
+-- Status and output of `list`. Our own definitions.
 use Rattle.std.specs.Prelude.{◌≡◌, ◌⊎◌, Result, Ok, Err}
 use Rattle.pw_outside.specs.Reading.{Fault}
 use Rattle.qt_tables.specs.declared.fault.MovieKind.{MovieKind}
@@ -9,7 +9,7 @@ use Rattle.workshop.specs.Status.{AnswersUnlessOutside}
 use Rattle.workshop.specs.declared.status.Status.{Status}
 use Rattle.workshop.specs.declared.status.Status.TheVariants as s
 
--- the answer with the fields of a run's end
+-- the status of a run's outcome
 abbrev pub status_of : LookEnd → Status
 status_of ends.Done = s.Done
 status_of ends.NoMemory = s.NoMemory
@@ -21,7 +21,7 @@ status_of (ends.BadFrame sample kind place) = s.BadFrame sample kind place
 status_of (ends.BadProof kind place) = s.BadProof kind place
 status_of (ends.Refused frame clause) = s.Refused frame clause
 
--- the answer to a file: the first fault of a file that is no movie with a track of ProRes
+-- the status for a file: its first error, if it isn't a movie with a track of ProRes
 abbrev pub AnswersList : Result Movie (Fault MovieKind) → Status → Type 0
 AnswersList (Err f) status = AnswersUnlessOutside status (s.BadMovie f.kind f.place)
 AnswersList (Ok m) status = AnswersUnlessOutside status s.Done

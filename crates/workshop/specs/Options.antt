@@ -1,4 +1,4 @@
--- The options of the command line: their names and their values; and the numbers that stand as operands. Our own definitions.
+-- The options of the command line: their names and their values; and the numeric operands. Our own definitions.
 use Rattle.std.specs.Prelude.{◌≡◌, ℕ, ◌+◌, ◌-◌, ◌^◌, ◌<◌, ◌≤◌, ◌==◌, Bool, is_some, List, take, drop, position, bytes_eq, codes, Option, None, Some, option_map, option_and_then, IfSome, if◌then◌else◌}
 use Rattle.pw_planes.specs.declared.plane.TheConstants.{MAX_WIDTH, MAX_HEIGHT}
 use Rattle.pw_planes.specs.declared.kinds.Chroma.{Chroma}
@@ -42,9 +42,9 @@ name_of_option option.Form = codes "form"
 name_of_option option.Rate = codes "rate"
 name_of_option option.Cap = codes "cap"
 
--- ---- values. Numbers are decimal, and may have zeros in front; words are taken letter by letter.
+-- ---- values. Numbers are decimal, and may have leading zeros; names are case sensitive.
 
--- what stands in front of the first byte of this value, and what stands behind it
+-- what precedes the first byte equal to `byte`, and what follows it
 abbrev pub cut : ℕ → List ℕ → Option (List ℕ × List ℕ)
 cut byte bytes = option_map (λ at. (take at bytes, drop (at + 1) bytes)) (position (λ b. b == byte) bytes)
 
@@ -57,7 +57,7 @@ interlace_named bytes = if bytes_eq bytes (codes "p") then Some Progressive
     else (if bytes_eq bytes (codes "t") then Some TopFirst
     else (if bytes_eq bytes (codes "b") then Some BottomFirst else None))
 
--- how pictures are written
+-- the output format of pictures
 abbrev pub form_named : List ℕ → Option Form
 form_named bytes = if bytes_eq bytes (codes "y4m") then Some Y4m else (if bytes_eq bytes (codes "raw") then Some Raw else None)
 
@@ -70,7 +70,7 @@ depth_of n = if n == 8 then Some D8 else (if n == 10 then Some D10 else (if n ==
 abbrev pub alpha_of : ℕ → Option AlphaKind
 alpha_of n = if n == 0 then Some Absent else (if n == 8 then Some Eight else (if n == 16 then Some Sixteen else None))
 
--- two numbers from 1 up to these, and the first such byte between them
+-- two numbers from 1 to their limits, separated by such a byte
 unfoldable pub pair_within : ℕ → ℕ → ℕ → List ℕ → Option (ℕ × ℕ)
 pair_within byte most most' bytes = option_and_then (λ parts.
     option_and_then (λ a. option_and_then (λ b. Some (a, b)) (number_within 1 most' parts.1)) (number_within 1 most parts.0)) (cut byte bytes)
@@ -79,11 +79,11 @@ pair_within byte most most' bytes = option_and_then (λ parts.
 abbrev pub rate_in : List ℕ → Option Rate
 rate_in bytes = option_map (λ n. record { num = n.0; den = n.1 }) (pair_within 47 MAX_RATE_NUM MAX_RATE_DEN bytes)
 
--- the same rate, as a run is told it
+-- the same rate, as the parameter of a run
 abbrev pub rate_of : Rate → run.Rate
 rate_of r = record { num = r.num; den = r.den }
 
--- progressive pictures of this size, of these kinds, and of this rate
+-- progressive pictures of this size, of these formats, and of this rate
 abbrev pub head_of : ℕ × ℕ → Chroma → Depth → AlphaKind → ℕ × ℕ → Head
 head_of size chroma depth alpha rate = record {
   width = size.0;
@@ -109,7 +109,7 @@ infixl 10 ◌>>=◌
 abbrev pub ◌>>=◌ : {A B : Type 0} → Option A → (A → Option B) → Option B
 o >>= next = option_and_then next o
 
--- the form of raw planar pictures, `WxH:CHROMA:DEPTH:ALPHA:NUM/DEN`
+-- the format of raw planar pictures, `WxH:CHROMA:DEPTH:ALPHA:NUM/DEN`
 unfoldable pub raw_form : List ℕ → Option Head
 raw_form bytes = do
   size ← cut 58 bytes
@@ -144,7 +144,7 @@ is_given option.Form v = is_some v.form
 is_given option.Rate v = is_some v.rate
 is_given option.Cap v = is_some v.cap
 
--- the values with that of one option more; none where the bytes are no value of it
+-- the values with that of one more option; none if the bytes aren't a value of it
 abbrev pub with_value : OptionName → List ℕ → Values → Option Values
 with_value option.Budget bytes v = option_map (λ n. record v { budget = Some n }) (number_within 1 (2 ^ 31 - 1) bytes)
 with_value option.Lo bytes v = option_map (λ n. record v { lo = Some n }) (number_within 1 224 bytes)
@@ -160,8 +160,8 @@ with_value option.Form bytes v = option_map (λ f. record v { form = Some f }) (
 with_value option.Rate bytes v = option_map (λ r. record v { rate = Some r }) (rate_in bytes)
 with_value option.Cap bytes v = option_map (λ n. record v { cap = Some n }) (number_within 0 (2 ^ 64 - 1) bytes)
 
--- The values with the operand of this number of `synth`: the width and the height of the pictures, how many they are, the seed, and the budget of
--- each. None where the bytes are no number that it may be.
+-- The values with operand `operand` of `synth`: width, height, number of pictures, seed, and budget of each. None
+-- if the bytes aren't a number in its range.
 abbrev pub with_number : (operand : ℕ) → List ℕ → Values → Option Values
 with_number operand bytes v = if operand == 0 then option_map (λ n. record v { width = Some n }) (number_within 1 MAX_WIDTH bytes)
     else (if operand == 1 then option_map (λ n. record v { height = Some n }) (number_within 1 MAX_HEIGHT bytes)
@@ -169,11 +169,11 @@ with_number operand bytes v = if operand == 0 then option_map (λ n. record v { 
     else (if operand == 3 then option_map (λ n. record v { seed = Some n }) (number_within 0 (2 ^ 32 - 1) bytes)
     else option_map (λ n. record v { budget = Some n }) (number_within 1 (2 ^ 31 - 1) bytes))))
 
--- a form of progressive pictures within the limits
+-- a format of progressive pictures within the limits
 abbrev pub IsRawForm : Head → Type 0
 IsRawForm h = IsHead h × (h.interlace ≡ Progressive)
 
--- each value is one that its option may have
+-- each value is one of its option's
 pub record AreValues (v : Values) : Type 0 where
   pub budget : IfSome v.budget (λ n. (1 ≤ n) × (n < 2 ^ 31))
   pub lo : IfSome v.lo (λ n. (1 ≤ n) × (n ≤ 224))

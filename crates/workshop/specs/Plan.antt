@@ -1,4 +1,4 @@
--- What `plan` answers and writes. Our own definitions.
+-- Status and output of `plan`. Our own definitions.
 use Rattle.std.specs.Prelude.{◌≡◌, ℕ, List, ◌++◌, length, ◌+◌, ◌*◌, ◌^◌, ◌<◌, ◌⊎◌, Result, Ok, Err, codes}
 use Rattle.std.specs.List.{flat_map}
 use Rattle.std.specs.Fmt.{decimal}
@@ -16,11 +16,11 @@ use Rattle.rate_layers.specs.declared.outcome.Outcome.TheVariants as outcomes
 
 -- ---- the text
 
--- indices, each behind a space
+-- indices, each after a space
 abbrev pub spaced : List ℕ → List ℕ
 spaced choice = flat_map (λ i. codes " " ++ decimal i) choice
 
--- the lines of a choice that fits: one index for each slice, the size and the error
+-- the lines of a fitting choice: one index for each slice, the size and the error
 abbrev pub fits_text : List ℕ → ℕ → ℕ → List ℕ
 fits_text choice size error = codes "choice" ++ spaced choice ++ codes "\nsize " ++ decimal size ++ codes "\nerror " ++ decimal error ++ codes "\n"
 
@@ -33,20 +33,22 @@ abbrev pub outcome_text : Outcome → List ℕ
 outcome_text (outcomes.Fits choice size error layers multiplier) = fits_text choice.items size error
 outcome_text (outcomes.None least) = none_text least
 
--- The text is that of the table's best choice; or of none, with the table's least bytes, where no choice fits.
+-- The text of the table's best choice; or, if no choice fits, that line with the table's least bytes.
 abbrev pub IsPlanText : Table → List ℕ → Type 0
 IsPlanText t text =
     ((best : List Entry) × IsBest t best × (text ≡ fits_text (indices best) (size_of best) (error_of best)))
     ⊎ (HasNoFit t × (text ≡ none_text (least_bytes t)))
 
--- ---- the answer, by what reading the table file gives
+-- ---- the status, by the result of reading the table file
 
--- The budget, and one for each slice, are so many that a layer with a pair for each size may pass 2^25 pairs together.
+-- The budget plus one, times the slices plus one, is above 2^25: only then can the Pareto frontiers have more pairs
+-- than that.
 abbrev pub IsWide : Table → Type 0
 IsWide t = 2 ^ 25 < (t.budget + 1) * (length t.slices + 1)
 
--- The answer to a table, where no port failed and memory lasted. It is too full where the layers kept by the error of the best
--- choice number more than 2^25 pairs, and only where those kept by the error of the multiplier's picks do.
+-- The status for a table, if no port failed and memory didn't run out. It is LayersFull if the Pareto frontiers
+-- bounded by the best choice's error have more than 2^25 pairs, and only if those bounded by the error of the
+-- Lagrangian minimisers do.
 abbrev pub AnswersTable : Table → Status → Type 0
 AnswersTable t s.Done = PassesByBest t → ⊥
 AnswersTable t (s.LayersFull frame) = (frame ≡ 0) × PassesByPicks t × IsWide t
@@ -55,7 +57,7 @@ AnswersTable t s.ReadFault = Unit {0}
 AnswersTable t s.WriteFault = Unit {0}
 AnswersTable t _ = ⊥
 
--- the answer to a file: the first fault of a file that is no table, and else the answer to its table
+-- the status for a file: its first error, if it isn't a table, and otherwise that for its table
 abbrev pub AnswersPlan : Result Table (Fault ProofKind) → Status → Type 0
 AnswersPlan (Err f) status = AnswersUnlessOutside status (s.BadProof f.kind f.place)
 AnswersPlan (Ok t) status = AnswersTable t status
@@ -65,12 +67,13 @@ abbrev pub PrintsPlan : Result Table (Fault ProofKind) → SinkState → SinkSta
 PrintsPlan (Err f) before after = ⊥
 PrintsPlan (Ok t) before after = (text : List ℕ) × IsPlanText t text × Puts before after text
 
--- The first bytes of that text were appended.
+-- A prefix of that text was appended.
 abbrev pub PrintsPart : Result Table (Fault ProofKind) → SinkState → SinkState → Type 0
 PrintsPart (Err f) before after = ⊥
 PrintsPart (Ok t) before after = (text : List ℕ) × IsPlanText t text × PutsFront before after text
 
--- A table whose layers, kept by the error of the multiplier's picks, have no more than 2^25 pairs ends in Done, or for want of memory.
+-- The status is Done or NoMemory for a table whose Pareto frontiers, bounded by the error of the Lagrangian
+-- minimisers, have at most 2^25 pairs.
 abbrev pub CompletesPlan : Status → Result Table (Fault ProofKind) → Type 0
 CompletesPlan status (Err f) = Unit {0}
 CompletesPlan status (Ok t) = (PassesByPicks t → ⊥) → (status ≡ s.Done) ⊎ (status ≡ s.NoMemory)

@@ -1,4 +1,4 @@
--- What `reproof` answers and writes. Our own definitions.
+-- Status and output of `reproof`. Our own definitions.
 use Rattle.std.specs.Prelude.{◌≡◌, ℕ, List, ◌⊎◌}
 use Rattle.pw_outside.specs.Writing.{SinkState, Puts, PutsFront}
 use Rattle.run_look.specs.declared.end.LookEnd.TheVariants as ends
@@ -8,17 +8,19 @@ use Rattle.workshop.specs.Status.{AnswersUnlessOutside}
 use Rattle.workshop.specs.declared.status.Status.{Status}
 use Rattle.workshop.specs.declared.status.Status.TheVariants as s
 
--- the answer to a proof: how writing it again ends, unless a port failed or memory ran out
+-- the status for a proof: how rewriting it ends, unless a port failed or memory ran out
 abbrev pub AnswersReproof : List ℕ → Status → Type 0
 AnswersReproof bytes status = AnswersUnlessOutside status (status_of (reproofed bytes).end)
 
--- Where the run ended by its input the sink took all of these bytes; where a port failed or memory ran out a front of them.
+-- If the run ended by its input the sink took all of these bytes; if a port failed or memory ran out a prefix of
+-- them.
 abbrev pub WritesUntil : Status → List ℕ → SinkState → SinkState → Type 0
 WritesUntil s.NoMemory bytes before after = PutsFront before after bytes
 WritesUntil s.ReadFault bytes before after = PutsFront before after bytes
 WritesUntil s.WriteFault bytes before after = PutsFront before after bytes
 WritesUntil _ bytes before after = Puts before after bytes
 
--- A proof without a fault, whose layers all rise in size and fall in error, ends in Done, or for want of memory.
+-- The status is Done or NoMemory for a proof without an error, whose Pareto frontiers all rise in size and fall in
+-- error.
 abbrev pub CompletesReproof : Status → List ℕ → Type 0
 CompletesReproof status bytes = (reproofed bytes).end ≡ ends.Done → (status ≡ s.Done) ⊎ (status ≡ s.NoMemory)

@@ -1,4 +1,4 @@
--- What `rescue` answers. Our own definitions.
+-- Status and output of `rescue`. Our own definitions.
 use Rattle.std.specs.Prelude.{◌≡◌, ℕ, ◌⊎◌, List}
 use Rattle.rescue_run.specs.declared.end.RescueEnd.{RescueEnd}
 use Rattle.rescue_run.specs.declared.end.RescueEnd.TheVariants as ends
@@ -9,7 +9,7 @@ use Rattle.workshop.specs.declared.status.Status.{Status}
 use Rattle.workshop.specs.declared.status.Status.TheVariants as s
 use Rattle.workshop.specs.Options.{rate_of}
 
--- the answer with the fields of a run's end
+-- the status of a run's outcome
 abbrev pub status_of : RescueEnd → Status
 status_of ends.Done = s.Done
 status_of ends.NoMemory = s.NoMemory
@@ -17,10 +17,10 @@ status_of ends.ReadFault = s.ReadFault
 status_of ends.WriteFault = s.WriteFault
 status_of (ends.BadMovie kind place) = s.BadMovie kind place
 
--- The answer is that of a run over this file, which wrote so much.
+-- The status and the output are those of a run over this file.
 abbrev pub AnswersRescue : Rate → List ℕ → Status → World → World → Type 0
 AnswersRescue rate file status before after = (end : RescueEnd) × (status ≡ status_of end) × Ran (rate_of rate) file end before after
 
--- The answer is the one that rescuing gives, unless memory runs out.
+-- The status is the result of rescuing, unless memory runs out.
 abbrev pub CompletesRescue : List ℕ → Status → Type 0
 CompletesRescue file status = (ts : List Taken) (known : RescueEnd) → Rescues file ts known → (status ≡ status_of known) ⊎ (status ≡ s.NoMemory)

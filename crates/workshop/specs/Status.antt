@@ -1,10 +1,10 @@
--- What a run answers. Our own definitions.
+-- The status of a run. Our own definitions.
 use Rattle.std.specs.Prelude.{ℕ, Bool, true, false, Option, None, Some, ◌≡◌}
 use Rattle.workshop.specs.declared.status.UsageKind.{UsageKind}
 use Rattle.workshop.specs.declared.status.Status.{Status}
 use Rattle.workshop.specs.declared.status.Status.TheVariants as s
 
--- the number with which the program ends
+-- the exit status
 abbrev pub code_of : Status → ℕ
 code_of s.Done = 0
 code_of (s.Usage _ _) = 1
@@ -32,24 +32,24 @@ abbrev pub is_write_fault : Status → Bool
 is_write_fault s.WriteFault = true
 is_write_fault _ = false
 
--- the answers behind which all that was written is settled
+-- the statuses after which all that was written is flushed
 abbrev pub is_settled : Status → Bool
 is_settled s.Done = true
 is_settled (s.TooSmall _ _) = true
 is_settled _ = false
 
--- the answers of `plan` behind which something may have been written
+-- the statuses of `plan` after which something may have been written
 abbrev pub has_written : Status → Bool
 has_written s.Done = true
 has_written s.WriteFault = true
 has_written _ = false
 
--- kind and word number of a fault of the words
+-- kind and word number of an error of the words
 abbrev pub usage_of : Status → Option (UsageKind × ℕ)
 usage_of (s.Usage kind word) = Some (kind, word)
 usage_of _ = None
 
--- The answer is this one, unless a port failed or memory ran out.
+-- The status is this one, unless a port failed or memory ran out.
 abbrev pub AnswersUnlessOutside : Status → Status → Type 0
 AnswersUnlessOutside s.NoMemory status = Unit {0}
 AnswersUnlessOutside s.ReadFault status = Unit {0}

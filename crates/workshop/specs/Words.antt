@@ -34,7 +34,7 @@ use Rattle.workshop.specs.declared.status.UsageKind.TheVariants.{NoCommand, Unkn
 abbrev pub commands : List Command
 commands = command.Plan ∷ command.Encode ∷ command.List ∷ command.Check ∷ command.Reproof ∷ command.Decode ∷ command.Rescue ∷ command.AddSound ∷ command.Sound ∷ command.Least ∷ command.CheckLeast ∷ command.Curve ∷ command.Synth ∷ []
 
--- the word of each command
+-- the name of each command
 abbrev pub name_of : Command → List ℕ
 name_of command.Plan = codes "plan"
 name_of command.Encode = codes "encode"
@@ -50,7 +50,7 @@ name_of command.CheckLeast = codes "checkleast"
 name_of command.Curve = codes "curve"
 name_of command.Synth = codes "synth"
 
--- how many operands each command may have, rising
+-- the numbers of operands of each command, rising
 abbrev pub operands_of : Command → List ℕ
 operands_of command.Plan = 1 ∷ []
 operands_of command.Encode = 3 ∷ []
@@ -82,7 +82,7 @@ options_of command.CheckLeast = []
 options_of command.Curve = []
 options_of command.Synth = []
 
--- an option is wanting that the command needs
+-- an option that the command requires is missing
 abbrev pub lacks_option : Command → Values → Bool
 lacks_option command.Plan v = false
 lacks_option command.Encode v = is_none v.budget
@@ -98,7 +98,7 @@ lacks_option command.CheckLeast v = false
 lacks_option command.Curve v = false
 lacks_option command.Synth v = false
 
--- this option is wanting, if there is one
+-- the option, if there is one, is missing
 abbrev pub lacks : Option OptionName → Values → Bool
 lacks None v = false
 lacks (Some o) v = not (is_given o v)
@@ -106,9 +106,7 @@ lacks (Some o) v = not (is_given o v)
 abbrev pub no_names : Names
 no_names = record { pictures = None; proof = None; movie = None; out = None; cert = None }
 
--- The ports that the operands name, by the numbers of their words: `plan TABLE`, `encode PICTURES MOVIE PROOF`, `list MOVIE`,
--- `check PROOF`, `check PROOF PICTURES MOVIE`, `reproof PROOF OUTPUT`, `decode MOVIE OUT`, `rescue FILE OUT`,
--- `addsound MOVIE WAV OUT`, `sound MOVIE OUT`, `least TABLE CERT`, `checkleast CERT`, `curve TABLE`. `synth W H FRAMES SEED BUDGET` names none.
+-- The ports that the operands name, by the numbers of their words; `synth` names none.
 abbrev pub ports_of : Command → List ℕ → Names
 ports_of command.Plan operands = record no_names { proof = slice_get operands 0 }
 ports_of command.Encode operands = record no_names { pictures = slice_get operands 0; out = slice_get operands 1; cert = slice_get operands 2 }
@@ -124,7 +122,7 @@ ports_of command.CheckLeast operands = record no_names { proof = slice_get opera
 ports_of command.Curve operands = record no_names { proof = slice_get operands 0 }
 ports_of command.Synth operands = no_names
 
--- which ports a run uses: it reads `pictures`, `proof` and `movie`, and writes `out`, `cert` and `text`
+-- the ports that a run uses: it reads `pictures`, `proof` and `movie`, and writes `out`, `cert` and `text`
 pub record Ports : Type 0 where
   pub pictures : Bool
   pub proof : Bool
@@ -152,12 +150,12 @@ uses_of task.CheckLeast = record no_ports { proof = true; text = true }
 uses_of task.Curve = record no_ports { proof = true; text = true }
 uses_of (task.Synth w) = record no_ports { text = true }
 
--- ---- the values of options, and what stands for one that is absent
+-- ---- the values of options, and their defaults
 
 abbrev pub with_mode : Interlace → Head → Head
 with_mode mode h = record h { interlace = mode }
 
--- the form of raw planar pictures, with how their frames are made of pictures
+-- the format of raw planar pictures, with their interlace mode
 abbrev pub raw_in : Values → Option Head
 raw_in v = option_map (with_mode (unwrap_or v.interlace Progressive)) v.raw
 
@@ -176,7 +174,7 @@ encode_words v = record {
 abbrev pub decode_words : Values → DecodeWords
 decode_words v = record { depth = unwrap_or v.depth D10; form = unwrap_or v.form Y4m }
 
--- the numbers of `synth`, each of which stands as an operand
+-- the numeric operands of `synth`
 abbrev pub synth_words : Values → SynthWords
 synth_words v = record {
   width = unwrap_or v.width 1;
@@ -198,8 +196,8 @@ abbrev pub has_odd_form : Option Head → Bool
 has_odd_form None = false
 has_odd_form (Some h) = is_odd_form h
 
--- The values don't go together: the least index is above the greatest; pictures of Y4M, which tell by themselves how they are
--- interlaced; interlaced frames of an odd number of rows; a group with a budget of 2^31 bytes or more.
+-- The values contradict each other: the least index is above the greatest; an interlace mode for Y4M, whose header
+-- has its own; interlaced frames of an odd number of rows; a group with a budget of 2^31 bytes or more.
 abbrev pub clash : Command → Values → Bool
 clash command.Plan v = false
 clash command.Encode v = nat_lt (encode_words v).hi (encode_words v).lo
@@ -218,7 +216,7 @@ clash command.CheckLeast v = false
 clash command.Curve v = false
 clash command.Synth v = false
 
--- what a command is to do with so many operands
+-- what a command runs with `n` operands
 abbrev pub task_of : Command → ℕ → Values → Task
 task_of command.Plan n v = task.Plan
 task_of command.Encode n v = task.Encode (encode_words v)
@@ -243,7 +241,7 @@ command_named word = find (λ c. bytes_eq word (name_of c)) commands
 abbrev pub is_option : List ℕ → Bool
 is_option word = starts_with nat_eq word (codes "--")
 
--- the option of the command that has this name
+-- the option of the command with this name
 abbrev pub option_named : Command → List ℕ → Option OptionName
 option_named c name = find (λ o. bytes_eq name (name_of_option o)) (options_of c)
 
@@ -252,15 +250,15 @@ last_of [] = 0
 last_of (n ∷ []) = n
 last_of (n ∷ m ∷ ns) = last_of (m ∷ ns)
 
--- the most operands that the command may have
+-- the largest number of operands that the command allows
 abbrev pub most_operands : Command → ℕ
 most_operands c = last_of (operands_of c)
 
--- whether the command may have so many operands
+-- whether the command allows `count` operands
 abbrev pub takes : Command → ℕ → Bool
 takes c count = list_any (λ n. n == count) (operands_of c)
 
--- a kind of fault, and the number of the word that has it
+-- a kind of error, and the number of its word
 abbrev pub UsageFault : Type 0
 UsageFault = UsageKind × ℕ
 
@@ -268,7 +266,7 @@ abbrev pub unless_bad : ℕ → Option Values → Result Values UsageFault
 unless_bad at None = Err (BadValue, at)
 unless_bad at (Some v) = Ok v
 
--- the values with that of this option, which may stand once
+-- the values with that of this option, which may be given once
 unfoldable pub with_option_value : OptionName → List ℕ → ℕ → Values → Result Values UsageFault
 with_option_value o value at v = if is_given o v then Err (RepeatedOption, at) else unless_bad at (with_value o value v)
 
@@ -280,20 +278,20 @@ abbrev pub with_parts : Command → Option (List ℕ × List ℕ) → ℕ → Va
 with_parts c None at v = Err (UnknownOption, at)
 with_parts c (Some parts) at v = with_named (option_named c parts.0) parts.1 at v
 
--- The values with that of the option `--NAME=VALUE`, the word of this number.
+-- The values with that of the option `--NAME=VALUE`, word `at`.
 unfoldable pub with_option : Command → List ℕ → ℕ → Values → Result Values UsageFault
 with_option c word at v = with_parts c (cut 61 (drop 2 word)) at v
 
--- what an operand says, with so many in front of it: of `synth` a number, and of every other command a file, which is no value
+-- the values with operand number `operand`: a number for `synth`; for every other command a file, which is no value
 abbrev pub operand_values : Command → (operand : ℕ) → List ℕ → Values → Option Values
 operand_values command.Synth operand word v = with_number operand word v
 operand_values _ operand word v = Some v
 
--- the values with what an operand says, the word of this number
+-- the values with operand number `operand`, word `at`
 unfoldable pub with_operand : Command → (operand : ℕ) → List ℕ → ℕ → Values → Result Values UsageFault
 with_operand c operand word at v = unless_bad at (operand_values c operand word v)
 
--- What the words say, where the last of them has been read.
+-- The result after the last word.
 unfoldable pub ended : Command → ℕ → List ℕ → Values → Result (Task × List ℕ) UsageFault
 ended c at operands v = if not (takes c (length operands)) then Err (MissingOperand, at)
     else (if lacks_option c v then Err (MissingOption, at)
@@ -303,8 +301,8 @@ abbrev pub and_then : {A B : Type 0} → Result A UsageFault → (A → Result B
 and_then (Ok x) next = next x
 and_then (Err fault) next = Err fault
 
--- What the words say, where `at` is the number of the first word that is left, and the words before it have these operands and
--- values; or the first fault with its word.
+-- The result, if `at` is the number of the next word, and the words before it have these operands and values; or
+-- the first error with its word.
 abbrev pub walk : Command → List (List ℕ) → ℕ → List ℕ → Values → Result (Task × List ℕ) UsageFault
 walk c [] at operands v = ended c at operands v
 walk c (word ∷ words) at operands v =
@@ -313,7 +311,7 @@ walk c (word ∷ words) at operands v =
     then and_then (with_operand c (length operands) word at v) (λ more. walk c words (at + 1) (operands ++ at ∷ []) more)
     else Err (ExtraOperand, at))
 
--- what the words say: what is to be done, and the operands by their word numbers; or the first fault with its word
+-- the result: what to run, and the operands by their word numbers; or the first error with its word
 abbrev pub Said : Type 0
 Said = Result (Task × List ℕ) UsageFault
 
@@ -325,16 +323,16 @@ abbrev pub settings : List (List ℕ) → Said
 settings [] = Err (NoCommand, 0)
 settings (first ∷ words) = settings_for (command_named first) words
 
--- the same of words of the command line
+-- the same for the words of the command line
 abbrev pub said : {Z : Type 0} → List (String Z) → Said
 said words = settings (map string_bytes words)
 
--- the fault of the words, where they have one
+-- the error of the words, if there is one
 abbrev pub usage_fault : Said → Option UsageFault
 usage_fault (Ok s) = None
 usage_fault (Err fault) = Some fault
 
--- This is what is to be done.
+-- This is what to run.
 abbrev pub IsRun : Task → Said → Type 0
 IsRun t (Ok s) = s.0 ≡ t
 IsRun t (Err fault) = ⊥
@@ -370,7 +368,7 @@ command_of task.CheckLeast = command.CheckLeast
 command_of task.Curve = command.Curve
 command_of (task.Synth w) = command.Synth
 
--- the ports that the run uses: none where the words have a fault
+-- the ports that the run uses: none if the words have an error
 abbrev pub uses_in : Said → Ports
 uses_in (Ok s) = uses_of s.0
 uses_in (Err fault) = no_ports
@@ -393,7 +391,7 @@ writes_cert s = (uses_in s).cert
 abbrev pub writes_text : Said → Bool
 writes_text s = (uses_in s).text
 
--- whether the command tells monitors of pictures
+-- whether the command reports pictures to monitors
 abbrev pub is_decode : Task → Bool
 is_decode (task.Decode w) = true
 is_decode _ = false
@@ -402,14 +400,14 @@ abbrev pub tells_monitors : Said → Bool
 tells_monitors (Ok s) = is_decode s.0
 tells_monitors (Err fault) = false
 
--- the words that name each port's file; none where the words have a fault
+-- the words that name each port's file; none if the words have an error
 abbrev pub names_in : Said → Names
 names_in (Ok s) = ports_of (command_of s.0) s.1
 names_in (Err fault) = no_names
 
--- ---- what the parts of the walk answer
+-- ---- the results of the parts of the walk
 
--- The answer is what the walk gives.
+-- The result is that of the walk.
 abbrev pub IsWalk : {X Y : Type 0} → (X → Y) → Result X BadWords → Result Y UsageFault → Type 0
 IsWalk view (Ok x) walked = walked ≡ Ok (view x)
 IsWalk view (Err e) walked = walked ≡ Err (e.kind, e.word)

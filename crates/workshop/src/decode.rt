@@ -18,7 +18,7 @@ use pw_outside::{ByteSink, ByteStore};
 use run_decode::{DecodeEnd, decode_run};
 use std::alloc::Global;
 
-/// The answer with the fields of a run's end.
+/// The status of a run's outcome.
 fn status_of(end: DecodeEnd) -> Status
     ensures { result ≡ status_of end }
 {
@@ -40,7 +40,7 @@ fn status_of(end: DecodeEnd) -> Status
     }
 }
 
-/// Reads a movie, writes the pictures that its samples show, and prints their number and what the monitors report.
+/// Reads a movie, writes the decoded pictures of its samples, and prints their number and the monitors' reports.
 pub(crate) fn decode<M: ByteStore, K: ByteSink>(
     alloc: Global,
     words: &DecodeWords,
@@ -50,20 +50,27 @@ pub(crate) fn decode<M: ByteStore, K: ByteSink>(
     monitors: &mut Vec<Box<dyn Monitor>>,
 ) -> Status
     ensures answer { Told (M.bytes movie.old) (λ file. AnswersDecode words.now file (movie_in file) result
-        (world K.held K.taken out.old text.old (map state monitors.old.items)) (world K.held K.taken out.new text.new (map state monitors.new.items))) }
-    ensures fronts { Told (M.bytes movie.old) (λ file. WritesFrontsOf words.now.form words.now.depth file (movie_in file)
-        (world K.held K.taken out.old text.old (map state monitors.old.items)) (world K.held K.taken out.new text.new (map state monitors.new.items))) }
+        (world K.held K.taken out.old text.old (map state monitors.old.items))
+        (world K.held K.taken out.new text.new (map state monitors.new.items))) }
+    ensures fronts { Told (M.bytes movie.old) (λ file.
+        WritesFrontsOf words.now.form words.now.depth file (movie_in file)
+        (world K.held K.taken out.old text.old (map state monitors.old.items))
+        (world K.held K.taken out.new text.new (map state monitors.new.items))) }
     ensures complete { Told (M.bytes movie.old) (λ file. (Rose (M.faults movie.old) (M.faults movie.new) → ⊥)
         → (Rose (K.faults out.old) (K.faults out.new) → ⊥) → (Rose (K.faults text.old) (K.faults text.new) → ⊥)
         → CompletesDecode words.now file (movie_in file) result) }
     ensures usage { usage_of result ≡ None }
-    ensures out_extends { Extends (sink_state (K.held out.old) (K.taken out.old)) (sink_state (K.held out.new) (K.taken out.new)) }
-    ensures text_extends { Extends (sink_state (K.held text.old) (K.taken text.old)) (sink_state (K.held text.new) (K.taken text.new)) }
+    ensures out_extends { Extends (sink_state (K.held out.old) (K.taken out.old))
+        (sink_state (K.held out.new) (K.taken out.new)) }
+    ensures text_extends { Extends (sink_state (K.held text.old) (K.taken text.old))
+        (sink_state (K.held text.new) (K.taken text.new)) }
     ensures emptied { OnTrue (is_done result) (map state monitors.new.items ≡ []) }
-    ensures settled { OnTrue (is_settled result) ((K.settled out.new ≡ K.taken out.new) × (K.settled text.new ≡ K.taken text.new)) }
+    ensures settled { OnTrue (is_settled result)
+        ((K.settled out.new ≡ K.taken out.new) × (K.settled text.new ≡ K.taken text.new)) }
     ensures bytes { M.bytes movie.new ≡ M.bytes movie.old }
     ensures read { CountsFault (M.faults movie.old) (M.faults movie.new) (is_read_fault result) }
-    ensures write { CountsFaults (K.faults out.old) (K.faults out.new) (K.faults text.old) (K.faults text.new) (is_write_fault result) }
+    ensures write { CountsFaults (K.faults out.old) (K.faults out.new) (K.faults text.old) (K.faults text.new)
+        (is_write_fault result) }
 {
     status_of(decode_run(alloc, movie, words.depth, words.form, out, text, monitors))
 }

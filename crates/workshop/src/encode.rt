@@ -16,7 +16,7 @@ use pw_outside::{ByteSink, ByteSource};
 use run_encode::{EncodeEnd, EncodeWords, encode_run};
 use std::alloc::Global;
 
-/// The answer with the fields of a run's end.
+/// The status of a run's outcome.
 fn status_of(end: EncodeEnd) -> Status
     ensures { result ≡ status_of end }
 {
@@ -31,7 +31,7 @@ fn status_of(end: EncodeEnd) -> Status
     }
 }
 
-/// Reads pictures, and writes a movie of them, a proof that each choice is best, and a line for each frame.
+/// Reads pictures; writes a movie of them, a proof that each choice is best, and a line for each frame.
 pub(crate) fn encode<S: ByteSource, K: ByteSink>(
     alloc: Global,
     words: &EncodeWords,
@@ -41,19 +41,26 @@ pub(crate) fn encode<S: ByteSource, K: ByteSink>(
     text: &mut K,
 ) -> Status
     requires words { AreWords words.now }
-    ensures answer { Told (S.left pictures.old) (λ bytes. AnswersEncode words.now (pictures_of words.now.raw bytes) result
+    ensures answer { Told (S.left pictures.old) (λ bytes.
+        AnswersEncode words.now (pictures_of words.now.raw bytes) result
         (outputs K.held K.taken out.old cert.old text.old) (outputs K.held K.taken out.new cert.new text.new)) }
-    ensures headline { Told (S.left pictures.old) (λ bytes. HoldsHeadline words.now (pictures_of words.now.raw bytes) result
+    ensures headline { Told (S.left pictures.old) (λ bytes.
+        HoldsHeadline words.now (pictures_of words.now.raw bytes) result
         (outputs K.held K.taken out.old cert.old text.old) (outputs K.held K.taken out.new cert.new text.new)) }
     ensures complete { Told (S.left pictures.old) (λ bytes. (Rose (S.faults pictures.old) (S.faults pictures.new) → ⊥)
-        → (Rose (K.faults out.old) (K.faults out.new) ⊎ Rose (K.faults cert.old) (K.faults cert.new) ⊎ Rose (K.faults text.old) (K.faults text.new) → ⊥)
+        → (Rose (K.faults out.old) (K.faults out.new) ⊎ Rose (K.faults cert.old) (K.faults cert.new)
+        ⊎ Rose (K.faults text.old) (K.faults text.new) → ⊥)
         → CompletesEncode words.now (pictures_of words.now.raw bytes) result) }
     ensures usage { usage_of result ≡ None }
-    ensures extends { ExtendsAll (outputs K.held K.taken out.old cert.old text.old) (outputs K.held K.taken out.new cert.new text.new) }
-    ensures settled { OnTrue (is_settled result) ((K.settled out.new ≡ K.taken out.new) × (K.settled cert.new ≡ K.taken cert.new) × (K.settled text.new ≡ K.taken text.new)) }
+    ensures extends { ExtendsAll (outputs K.held K.taken out.old cert.old text.old)
+        (outputs K.held K.taken out.new cert.new text.new) }
+    ensures settled { OnTrue (is_settled result)
+        ((K.settled out.new ≡ K.taken out.new) × (K.settled cert.new ≡ K.taken cert.new)
+        × (K.settled text.new ≡ K.taken text.new)) }
     ensures end { OnTrue (is_done result) (IsAtEnd (S.left pictures.new)) }
     ensures read { CountsFault (S.faults pictures.old) (S.faults pictures.new) (is_read_fault result) }
-    ensures write { CountsAllFaults K.faults out.old cert.old text.old out.new cert.new text.new (is_write_fault result) }
+    ensures write { CountsAllFaults K.faults out.old cert.old text.old out.new cert.new text.new
+        (is_write_fault result) }
 {
     status_of(encode_run(alloc, words, pictures, out, cert, text))
 }

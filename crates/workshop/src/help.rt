@@ -1,15 +1,15 @@
-//! What the program tells of itself: its commands, and the usage of one. The commands, what their operands are called, and their options are those
-//! of the grammar, so that the two can't disagree.
+//! The help texts: all commands, and the usage of one. Commands, operands and options are those of the grammar, so
+//! that the two can't disagree.
 
 use crate::options::OptionName;
 use crate::status::{Status, UsageKind};
 use crate::words::Command;
 use std::alloc::AllocError;
 
-/// The version that `workshop --version` tells.
+/// The version that `workshop --version` prints.
 const VERSION: &str = "1.0";
 
-/// What is asked of the program about itself.
+/// A question about the program itself.
 #[derive(Clone, Copy, Debug, PartialEq, Eq)]
 pub(crate) enum Question {
     /// `--help`, `help`: all commands.
@@ -20,7 +20,7 @@ pub(crate) enum Question {
     Version,
 }
 
-/// What the words ask of the program about itself. None of these lines is in the grammar.
+/// The question that the words ask, if any. None of these lines is in the grammar.
 pub(crate) fn question_of(words: &[String]) -> Option<Question> {
     let first = words.first()?.as_str();
     match (words.get(1), words.len()) {
@@ -34,7 +34,7 @@ pub(crate) fn question_of(words: &[String]) -> Option<Question> {
     }
 }
 
-/// How values of an option are written.
+/// The syntax of an option's values.
 fn form(option: OptionName) -> &'static str {
     match option {
         OptionName::Budget | OptionName::Lo | OptionName::Hi | OptionName::Log => "N",
@@ -50,7 +50,7 @@ fn form(option: OptionName) -> &'static str {
     }
 }
 
-/// What an option is for, its range, and what stands for it where it is absent.
+/// What an option is for, its range, and its default.
 fn meaning(option: OptionName) -> &'static str {
     match option {
         OptionName::Budget => "bytes that a frame may have, all headers included; 1 to 2147483647",
@@ -96,7 +96,7 @@ fn purpose(command: Command) -> &'static str {
     }
 }
 
-/// The line of a command: its word, its operands, and its options, those that may be absent in brackets.
+/// The line of a command: its name, its operands, and its options, the optional ones in brackets.
 fn put_line(text: &mut String, command: Command) -> Result<(), AllocError> {
     write!(text, "workshop {}", command.name())?;
     let least = command.operand_counts().first().copied().unwrap_or(0);
@@ -148,7 +148,7 @@ fn put_commands(text: &mut String) -> Result<(), AllocError> {
     )
 }
 
-/// The answer to what is asked.
+/// The answer to a question.
 pub(crate) fn put_answer(text: &mut String, question: Question) -> Result<(), AllocError> {
     match question {
         Question::All => put_commands(text),
@@ -167,7 +167,7 @@ pub(crate) fn says_help(words: &[String]) -> bool {
     false
 }
 
-/// What helps where the words aren't in the grammar: the usage of their command, or all commands.
+/// Help for words outside the grammar: the usage of their command, or all commands.
 pub(crate) fn put_help(text: &mut String, words: &[String]) -> Result<(), AllocError> {
     match words.first().and_then(|word| Command::named(word.as_str())) {
         Some(command) => put_usage(text, command),

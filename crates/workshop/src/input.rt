@@ -17,8 +17,9 @@ enum OpenInput<R: Files + Input + Drop> {
     Standard(BufReader<R::Reader>),
 }
 
-/// A source over a file or standard input, opened at its first use, which counts its faults and tells no content: what a
-/// file, a pipe or a terminal gives is outside of every contract. Once it has given nothing, it gives nothing from then on.
+/// A source over a file or standard input, opened at its first use. It counts its faults, and its contents are
+/// opaque: no contract knows what a file, a pipe or a terminal holds. Once a read has returned no bytes, every
+/// later one returns none.
 #[derive(Drop)]
 pub struct InputPort<R: Files + Input + AllocGlobal + Drop> {
     rt: R,
@@ -69,7 +70,7 @@ impl<R: Files + Input + AllocGlobal + Drop> InputPort<R> {
         }
     }
 
-    /// A read that was interrupted is tried again.
+    /// Reads, and retries after an interrupt.
     fn read_open(&mut self, piece: &mut [u8]) -> io::Result<usize>
         ensures count { ReadsAtMost result piece.new }
         ensures kept { self.new.faults ≡ self.old.faults }

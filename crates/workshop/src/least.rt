@@ -18,7 +18,7 @@ use pw_outside::{ByteSink, ByteSource};
 use rate_least::{LeastEnd, checkleast_run, curve_run, least_run};
 use std::alloc::Global;
 
-/// The answer with the fields of a run's end: a table and a certificate are frame 0.
+/// The status of a run's outcome. The frame of a table or a certificate is 0.
 fn status_of(end: LeastEnd) -> Status
     ensures { result ≡ status_of end }
 {
@@ -48,17 +48,21 @@ pub(crate) fn least<S: ByteSource, K: ByteSink>(
         → (Rose (K.faults cert.old) (K.faults cert.new) → ⊥) → (Rose (K.faults text.old) (K.faults text.new) → ⊥)
         → CompletesLeast cap (tabled bytes) result) }
     ensures usage { usage_of result ≡ None }
-    ensures cert_extends { Extends (sink_state (K.held cert.old) (K.taken cert.old)) (sink_state (K.held cert.new) (K.taken cert.new)) }
-    ensures text_extends { Extends (sink_state (K.held text.old) (K.taken text.old)) (sink_state (K.held text.new) (K.taken text.new)) }
-    ensures settled { OnTrue (is_settled result) ((K.settled cert.new ≡ K.taken cert.new) × (K.settled text.new ≡ K.taken text.new)) }
+    ensures cert_extends { Extends (sink_state (K.held cert.old) (K.taken cert.old))
+        (sink_state (K.held cert.new) (K.taken cert.new)) }
+    ensures text_extends { Extends (sink_state (K.held text.old) (K.taken text.old))
+        (sink_state (K.held text.new) (K.taken text.new)) }
+    ensures settled { OnTrue (is_settled result)
+        ((K.settled cert.new ≡ K.taken cert.new) × (K.settled text.new ≡ K.taken text.new)) }
     ensures end { OnTrue (is_done result) (IsAtEnd (S.left proof.new)) }
     ensures read { CountsFault (S.faults proof.old) (S.faults proof.new) (is_read_fault result) }
-    ensures write { CountsFaults (K.faults cert.old) (K.faults cert.new) (K.faults text.old) (K.faults text.new) (is_write_fault result) }
+    ensures write { CountsFaults (K.faults cert.old) (K.faults cert.new) (K.faults text.old) (K.faults text.new)
+        (is_write_fault result) }
 {
     status_of(least_run(alloc, proof, cap, cert, text))
 }
 
-/// Checks a certificate, and says yes.
+/// Checks a certificate, and prints `yes`.
 pub(crate) fn check_least<S: ByteSource, K: ByteSink>(
     alloc: Global,
     proof: &mut S,
@@ -69,8 +73,11 @@ pub(crate) fn check_least<S: ByteSource, K: ByteSink>(
     ensures complete { Told (S.left proof.old) (λ bytes. (Rose (S.faults proof.old) (S.faults proof.new) → ⊥)
         → (Rose (K.faults text.old) (K.faults text.new) → ⊥) → CompletesCheckLeast (certified bytes) result) }
     ensures usage { usage_of result ≡ None }
-    ensures text { Ended result (λ end. PrintsLines end yes_text (sink_state (K.held text.old) (K.taken text.old)) (sink_state (K.held text.new) (K.taken text.new))) }
-    ensures extends { Extends (sink_state (K.held text.old) (K.taken text.old)) (sink_state (K.held text.new) (K.taken text.new)) }
+    ensures text { Ended result (λ end.
+        PrintsLines end yes_text (sink_state (K.held text.old) (K.taken text.old))
+        (sink_state (K.held text.new) (K.taken text.new))) }
+    ensures extends { Extends (sink_state (K.held text.old) (K.taken text.old))
+        (sink_state (K.held text.new) (K.taken text.new)) }
     ensures settled { OnTrue (is_settled result) (K.settled text.new ≡ K.taken text.new) }
     ensures end { OnTrue (is_done result) (IsAtEnd (S.left proof.new)) }
     ensures read { CountsFault (S.faults proof.old) (S.faults proof.new) (is_read_fault result) }
@@ -89,8 +96,11 @@ pub(crate) fn curve<S: ByteSource, K: ByteSink>(
     ensures complete { Told (S.left proof.old) (λ bytes. (Rose (S.faults proof.old) (S.faults proof.new) → ⊥)
         → (Rose (K.faults text.old) (K.faults text.new) → ⊥) → CompletesCurve (tabled bytes) result) }
     ensures usage { usage_of result ≡ None }
-    ensures text { Told (S.left proof.old) (λ bytes. Ended result (λ end. PrintsText end (IsCurveText (tabled bytes)) (sink_state (K.held text.old) (K.taken text.old)) (sink_state (K.held text.new) (K.taken text.new)))) }
-    ensures extends { Extends (sink_state (K.held text.old) (K.taken text.old)) (sink_state (K.held text.new) (K.taken text.new)) }
+    ensures text { Told (S.left proof.old) (λ bytes.
+        Ended result (λ end. PrintsText end (IsCurveText (tabled bytes))
+        (sink_state (K.held text.old) (K.taken text.old)) (sink_state (K.held text.new) (K.taken text.new)))) }
+    ensures extends { Extends (sink_state (K.held text.old) (K.taken text.old))
+        (sink_state (K.held text.new) (K.taken text.new)) }
     ensures settled { OnTrue (is_settled result) (K.settled text.new ≡ K.taken text.new) }
     ensures end { OnTrue (is_done result) (IsAtEnd (S.left proof.new)) }
     ensures read { CountsFault (S.faults proof.old) (S.faults proof.new) (is_read_fault result) }

@@ -15,7 +15,7 @@ use pw_outside::{ByteSink, ByteStore};
 use run_look::{LookEnd, list_run};
 use std::alloc::Global;
 
-/// The answer with the fields of a run's end.
+/// The status of a run's outcome.
 pub(crate) fn status_of(end: LookEnd) -> Status
     ensures { result ≡ status_of end }
 {
@@ -45,10 +45,13 @@ pub(crate) fn list<M: ByteStore, K: ByteSink>(alloc: Global, movie: &mut M, text
     ensures answer { Told (M.bytes movie.old) (λ file. AnswersList (movie_in file) result) }
     ensures usage { usage_of result ≡ None }
     ensures text { Told (M.bytes movie.old) (λ file. OnTrue (is_done result)
-        (PrintsList (movie_in file) (sink_state (K.held text.old) (K.taken text.old)) (sink_state (K.held text.new) (K.taken text.new)))) }
+        (PrintsList (movie_in file) (sink_state (K.held text.old) (K.taken text.old))
+        (sink_state (K.held text.new) (K.taken text.new)))) }
     ensures part { Told (M.bytes movie.old) (λ file.
-        PrintsListFront (movie_in file) (sink_state (K.held text.old) (K.taken text.old)) (sink_state (K.held text.new) (K.taken text.new))) }
-    ensures extends { Extends (sink_state (K.held text.old) (K.taken text.old)) (sink_state (K.held text.new) (K.taken text.new)) }
+        PrintsListFront (movie_in file) (sink_state (K.held text.old) (K.taken text.old))
+        (sink_state (K.held text.new) (K.taken text.new))) }
+    ensures extends { Extends (sink_state (K.held text.old) (K.taken text.old))
+        (sink_state (K.held text.new) (K.taken text.new)) }
     ensures settled { OnTrue (is_settled result) (K.settled text.new ≡ K.taken text.new) }
     ensures bytes { M.bytes movie.new ≡ M.bytes movie.old }
     ensures read { CountsFault (M.faults movie.old) (M.faults movie.new) (is_read_fault result) }

@@ -1,4 +1,4 @@
-//! The options of the command line, their values, and the numbers that stand as operands.
+//! The options of the command line, their values, and the numeric operands.
 
 ghost use Rattle.std.specs.Prelude.{◌≡◌, ◌≤◌, ◌<◌, IfSome};
 ghost use Rattle.workshop.specs.Options.{name_of_option, matrix_named, interlace_named, form_named, no_values, is_given, with_value, with_number, AreValues};
@@ -9,16 +9,16 @@ use pr_quant::Matrix;
 use pw_planes::{Depth, Interlace, MAX_HEIGHT, MAX_WIDTH};
 use run_decode::Form;
 
-/// The greatest budget of a group of frames, in bytes.
+/// The largest budget of a group of frames, in bytes.
 pub(crate) const MAX_BUDGET: u32 = 2_147_483_647;
 
-/// The greatest quantisation index.
+/// The largest quantisation index.
 const MAX_INDEX: u64 = 224;
 
-/// The most pictures that are made up.
+/// The largest number of synthetic pictures.
 const MAX_FRAMES: u64 = 100;
 
-/// A frame rate: so many frames in so many seconds.
+/// A frame rate: `num` frames in `den` seconds.
 #[derive(Clone, Copy, Debug, PartialEq, Eq)]
 pub struct Rate {
     /// The numerator, 1 to 1,000,000.
@@ -46,7 +46,7 @@ pub(crate) enum OptionName {
 }
 
 impl OptionName {
-    /// The option's name, without the dashes in front of it.
+    /// The option's name, without the leading dashes.
     pub(crate) fn word(self) -> &'static str
         ensures { result.now ≡ name_of_option self }
     {
@@ -67,7 +67,7 @@ impl OptionName {
         }
     }
 
-    /// The bytes of its name.
+    /// The bytes of the option's name.
     pub(crate) fn name(self) -> &'static [u8]
         ensures { result.now ≡ name_of_option self }
     {
@@ -75,44 +75,44 @@ impl OptionName {
     }
 }
 
-/// The values that a command line gives; `None` for an option or an operand that isn't there.
+/// The values that a command line gives; `None` for an option or an operand that is absent.
 #[derive(Clone, Copy, Debug, PartialEq, Eq)]
 pub(crate) struct Values {
-    /// The bytes that each frame of a group adds to the group's budget, from 1.
+    /// Budget in bytes that each frame adds to its group, at least 1.
     pub(crate) budget: Option<u32>,
-    /// The least quantisation index, 1 to 224.
+    /// The least quantisation index of a slice, 1 to 224.
     pub(crate) lo: Option<u8>,
-    /// The greatest quantisation index, 1 to 224.
+    /// The greatest quantisation index of a slice, 1 to 224.
     pub(crate) hi: Option<u8>,
-    /// The binary logarithm of the width of a slice in macroblocks, 0 to 3.
+    /// Binary logarithm of the slice width in macroblocks, 0 to 3.
     pub(crate) log2: Option<u8>,
     pub(crate) matrix: Option<Matrix>,
-    /// The form of raw planar pictures, as if they were progressive.
+    /// The format of raw planar pictures, as progressive ones.
     pub(crate) raw: Option<Head>,
     pub(crate) interlace: Option<Interlace>,
-    /// How many frames share a budget, 1 to 8.
+    /// Number of frames that share a budget, 1 to 8.
     pub(crate) group: Option<u8>,
-    /// The format of the proof, 1 or 2.
+    /// The version of the proof format, 1 or 2.
     pub(crate) proof: Option<u8>,
-    /// The number of bits of the samples that are written.
+    /// Bit depth of the decoded samples.
     pub(crate) depth: Option<Depth>,
-    /// How pictures are written.
+    /// The output format of pictures.
     pub(crate) form: Option<Form>,
-    /// The rate of frames that are rescued.
+    /// The frame rate of a rescued movie.
     pub(crate) rate: Option<Rate>,
-    /// The most error that a choice may have.
+    /// The largest error that a choice may have.
     pub(crate) cap: Option<u64>,
-    /// The width of pictures that are made up, in samples.
+    /// Width of the synthetic pictures, in samples.
     pub(crate) width: Option<u16>,
-    /// Their height.
+    /// Height of the synthetic pictures, in samples.
     pub(crate) height: Option<u16>,
-    /// How many they are, 1 to 100.
+    /// Number of synthetic pictures, 1 to 100.
     pub(crate) frames: Option<u8>,
-    /// The state with which their noise begins.
+    /// Initial state of their noise generator.
     pub(crate) seed: Option<u32>,
 }
 
-/// The matrix of this name.
+/// The matrix with this name.
 fn matrix_named(bytes: &[u8]) -> Option<Matrix>
     ensures { result ≡ matrix_named bytes.now }
 {
@@ -123,7 +123,7 @@ fn matrix_named(bytes: &[u8]) -> Option<Matrix>
     }
 }
 
-/// How frames are made of pictures, by its letter.
+/// The interlace mode with this letter.
 fn interlace_named(bytes: &[u8]) -> Option<Interlace>
     ensures { result ≡ interlace_named bytes.now }
 {
@@ -135,7 +135,7 @@ fn interlace_named(bytes: &[u8]) -> Option<Interlace>
     }
 }
 
-/// How pictures are written, by its name.
+/// The output format with this name.
 fn form_named(bytes: &[u8]) -> Option<Form>
     ensures { result ≡ form_named bytes.now }
 {
@@ -172,7 +172,7 @@ impl Values {
         }
     }
 
-    /// Whether this option was given.
+    /// Whether `option` was given.
     pub(crate) fn has(&self, option: OptionName) -> bool
         ensures { result ≡ is_given option self.now }
     {
@@ -193,7 +193,7 @@ impl Values {
         }
     }
 
-    /// The values with that of one option more, if the bytes are a value that it may have.
+    /// The values with that of `option`; `None` if `bytes` aren't a valid value.
     pub(crate) fn with(self, option: OptionName, bytes: &[u8]) -> Option<Values>
         requires { AreValues self }
         ensures value { result ≡ with_value option bytes.now self }
@@ -220,8 +220,8 @@ impl Values {
         Some(values)
     }
 
-    /// The values with the operand of this number of `synth`, if the bytes are a number that it may be: the width and the height of the
-    /// pictures, how many they are, the seed, and the budget of each.
+    /// The values with operand `operand` of `synth`: width, height, number of pictures, seed, and budget of each.
+    /// `None` if `bytes` aren't a number in its range.
     pub(crate) fn with_number(self, operand: usize, bytes: &[u8]) -> Option<Values>
         requires { AreValues self }
         ensures value { result ≡ with_number operand bytes.now self }

@@ -16,8 +16,9 @@ enum OpenOutput<R: Files + Drop> {
     Standard,
 }
 
-/// A sink over a file or standard output, which counts its faults and tells no content. Its file is made, or emptied, at the first write or
-/// flush, unless it is the same file as another one of the run: that is a fault, and the file is left as it was.
+/// A sink over a file or standard output. It counts its faults, and its contents are opaque. Its file is created,
+/// or truncated, at the first write or flush, unless it is the same file as another one of the run: that is a
+/// fault, and the file is left as it was.
 #[derive(Drop)]
 pub struct OutputPort<R: Files + Print + AllocGlobal + Drop> {
     rt: R,
@@ -30,7 +31,7 @@ pub struct OutputPort<R: Files + Print + AllocGlobal + Drop> {
 }
 
 impl<R: Files + Print + AllocGlobal + Drop> OutputPort<R> {
-    /// `others` are the names of the other files of the run.
+    /// `others` are the names of the run's other files.
     pub fn new(rt: R, target: Target, others: Vec<String>) -> Self {
         OutputPort {
             rt,
@@ -43,7 +44,7 @@ impl<R: Files + Print + AllocGlobal + Drop> OutputPort<R> {
         }
     }
 
-    /// The file of this name, empty, and made if it isn't there.
+    /// Opens the file with this name for writing, truncated, and created if it is absent.
     fn emptied(&self, path: &str) -> io::Result<R::File> {
         let mut how = OpenOptions::new();
         how.write(true);
@@ -72,10 +73,11 @@ impl<R: Files + Print + AllocGlobal + Drop> OutputPort<R> {
         }
     }
 
-    /// A write that takes nothing of a piece that isn't empty is an error.
+    /// A write of a nonempty piece that takes no byte is an error.
     fn write_once(&mut self, piece: &[u8]) -> io::Result<usize>
         ensures count { IfOk result (λ n. (n ≤ length piece.now) × (0 < length piece.now → 0 < n)) }
-        ensures kept { (self.new.taken ≡ self.old.taken) × (self.new.settled ≡ self.old.settled) × (self.new.faults ≡ self.old.faults) }
+        ensures kept { (self.new.taken ≡ self.old.taken) × (self.new.settled ≡ self.old.settled)
+            × (self.new.faults ≡ self.old.faults) }
     {
         if self.open.is_none() {
             self.open = Some(self.opened()?);
@@ -91,10 +93,11 @@ impl<R: Files + Print + AllocGlobal + Drop> OutputPort<R> {
         Ok(count)
     }
 
-    /// A write that was interrupted is tried again.
+    /// Writes, and retries after an interrupt.
     fn write_open(&mut self, piece: &[u8]) -> io::Result<usize>
         ensures count { IfOk result (λ n. (n ≤ length piece.now) × (0 < length piece.now → 0 < n)) }
-        ensures kept { (self.new.taken ≡ self.old.taken) × (self.new.settled ≡ self.old.settled) × (self.new.faults ≡ self.old.faults) }
+        ensures kept { (self.new.taken ≡ self.old.taken) × (self.new.settled ≡ self.old.settled)
+            × (self.new.faults ≡ self.old.faults) }
     {
         for _ in 0..u64::MAX {
             match self.write_once(piece) {
@@ -106,7 +109,8 @@ impl<R: Files + Print + AllocGlobal + Drop> OutputPort<R> {
     }
 
     fn flush_once(&mut self) -> io::Result<()>
-        ensures { (self.new.taken ≡ self.old.taken) × (self.new.settled ≡ self.old.settled) × (self.new.faults ≡ self.old.faults) }
+        ensures { (self.new.taken ≡ self.old.taken) × (self.new.settled ≡ self.old.settled)
+            × (self.new.faults ≡ self.old.faults) }
     {
         if self.open.is_none() {
             self.open = Some(self.opened()?);
@@ -118,9 +122,10 @@ impl<R: Files + Print + AllocGlobal + Drop> OutputPort<R> {
         }
     }
 
-    /// A flush that was interrupted is tried again.
+    /// Flushes, and retries after an interrupt.
     fn flush_open(&mut self) -> io::Result<()>
-        ensures { (self.new.taken ≡ self.old.taken) × (self.new.settled ≡ self.old.settled) × (self.new.faults ≡ self.old.faults) }
+        ensures { (self.new.taken ≡ self.old.taken) × (self.new.settled ≡ self.old.settled)
+            × (self.new.faults ≡ self.old.faults) }
     {
         for _ in 0..u64::MAX {
             match self.flush_once() {

@@ -17,7 +17,7 @@ use rate_layers::{BestFault, Outcome, best};
 use rate_table::{TableFault, read_file};
 use std::alloc::Global;
 
-/// Appends the indices, each behind a space.
+/// Appends the indices, each after a space.
 fn put_indices(text: &mut Vec<u8>, choice: &[u8]) -> Result<(), NoMemory>
     ensures { OnOk result (text.new.items ≡ text.old.items ++ spaced choice.now) }
 {
@@ -28,7 +28,7 @@ fn put_indices(text: &mut Vec<u8>, choice: &[u8]) -> Result<(), NoMemory>
     Ok(())
 }
 
-/// The lines of an outcome.
+/// The lines of a search's outcome.
 fn text_of(alloc: Global, outcome: Outcome) -> Result<Vec<u8>, NoMemory>
     ensures { IfOk result (λ text. text.items ≡ outcome_text outcome) }
 {
@@ -58,11 +58,14 @@ fn text_of(alloc: Global, outcome: Outcome) -> Result<Vec<u8>, NoMemory>
     Ok(text)
 }
 
-/// Writes all of the lines, and settles them.
+/// Writes all lines, and flushes.
 fn print<K: ByteSink>(sink: &mut K, lines: &[u8]) -> Status
     ensures kinds { (result ≡ Status.Done) ⊎ (result ≡ Status.WriteFault) }
-    ensures text { OnTrue (is_done result) (Puts (sink_state (K.held sink.old) (K.taken sink.old)) (sink_state (K.held sink.new) (K.taken sink.new)) lines.now) }
-    ensures part { PutsFront (sink_state (K.held sink.old) (K.taken sink.old)) (sink_state (K.held sink.new) (K.taken sink.new)) lines.now }
+    ensures text { OnTrue (is_done result)
+        (Puts (sink_state (K.held sink.old) (K.taken sink.old))
+        (sink_state (K.held sink.new) (K.taken sink.new)) lines.now) }
+    ensures part { PutsFront (sink_state (K.held sink.old) (K.taken sink.old))
+        (sink_state (K.held sink.new) (K.taken sink.new)) lines.now }
     ensures settled { OnTrue (is_settled result) (K.settled sink.new ≡ K.taken sink.new) }
     ensures cause { CountsFault (K.faults sink.old) (K.faults sink.new) (is_write_fault result) }
 {
@@ -81,11 +84,14 @@ pub(crate) fn plan<S: ByteSource, K: ByteSink>(alloc: Global, proof: &mut S, tex
     ensures answer { Told (S.left proof.old) (λ bytes. AnswersPlan (tabled bytes) result) }
     ensures usage { usage_of result ≡ None }
     ensures text { Told (S.left proof.old) (λ bytes. OnTrue (is_done result)
-        (PrintsPlan (tabled bytes) (sink_state (K.held text.old) (K.taken text.old)) (sink_state (K.held text.new) (K.taken text.new)))) }
+        (PrintsPlan (tabled bytes) (sink_state (K.held text.old) (K.taken text.old))
+        (sink_state (K.held text.new) (K.taken text.new)))) }
     ensures part { Told (S.left proof.old) (λ bytes. OnTrue (is_write_fault result)
-        (PrintsPart (tabled bytes) (sink_state (K.held text.old) (K.taken text.old)) (sink_state (K.held text.new) (K.taken text.new)))) }
+        (PrintsPart (tabled bytes) (sink_state (K.held text.old) (K.taken text.old))
+        (sink_state (K.held text.new) (K.taken text.new)))) }
     ensures unwritten { OnFalse (has_written result) (text.new ≡ text.old) }
-    ensures extends { Extends (sink_state (K.held text.old) (K.taken text.old)) (sink_state (K.held text.new) (K.taken text.new)) }
+    ensures extends { Extends (sink_state (K.held text.old) (K.taken text.old))
+        (sink_state (K.held text.new) (K.taken text.new)) }
     ensures end { OnTrue (is_done result) (IsAtEnd (S.left proof.new)) }
     ensures settled { OnTrue (is_settled result) (K.settled text.new ≡ K.taken text.new) }
     ensures read { CountsFault (S.faults proof.old) (S.faults proof.new) (is_read_fault result) }

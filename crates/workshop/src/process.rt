@@ -1,4 +1,4 @@
-//! The program: the real ports by the words of the command line, the top call, and how the process ends.
+//! The program: the real ports for the command-line words, the top call, and the exit status.
 
 use crate::files::Target;
 use crate::help::{put_answer, put_help, question_of, says_help};
@@ -14,19 +14,19 @@ use std::env;
 use std::io::{self, IsTerminal, Write};
 use std::process::ExitCode;
 
-/// The status of a line of words that can't be read, which no call of the program sees.
+/// The exit status for words that can't be read, which no call of the program sees.
 const UNREAD: u8 = 1;
 
-/// How the process ends. The line of a status other than `Done` goes to standard error, and the exit status is its
-/// number; an error is want of memory. Where the words aren't in the grammar, what helps stands behind the line, for a person: where standard error
-/// is a terminal, or a word is `--help`.
+/// The exit status of the process: the number of `status`; an error counts as `NoMemory`. The line of a status
+/// other than `Done` goes to standard error. If the words aren't in the grammar, help follows the line, for a
+/// person: if standard error is a terminal, or a word is `--help`.
 pub fn exit_code(rt: &HostRuntime, words: &[String], status: io::Result<Status>) -> ExitCode {
     let status = match status {
         Ok(status) => status,
         Err(_) => Status::NoMemory,
     };
     if status != Status::Done {
-        // Where standard error fails, the number alone tells the status.
+        // If standard error fails, the number alone reports the status.
         let _ = eprintln!(rt; "workshop: {status}");
     }
     if let Status::Usage { .. } = status {
@@ -40,8 +40,8 @@ pub fn exit_code(rt: &HostRuntime, words: &[String], status: io::Result<Status>)
     ExitCode::from(status.code())
 }
 
-/// How the process ends where the words of the command line can't be read: one of them isn't UTF-8, which no name of a file may be that is handed to the
-/// system here, or memory ran out.
+/// The exit status if the command-line words can't be read: a word isn't UTF-8, as every file name handed to the
+/// system here has to be, or memory ran out.
 pub fn unread(rt: &HostRuntime, error: &io::Error) -> ExitCode {
     if error.kind() == io::ErrorKind::InvalidData {
         let _ = eprintln!(rt; "workshop: usage: a word isn't UTF-8");
@@ -50,8 +50,8 @@ pub fn unread(rt: &HostRuntime, error: &io::Error) -> ExitCode {
     exit_code(rt, &[], Ok(Status::NoMemory))
 }
 
-/// Answers on standard output what the words ask of the program about itself: `--help`, `help COMMAND` or `--version`. `None` where they ask nothing
-/// of the kind.
+/// Answers a question about the program itself (`--help`, `help COMMAND` or `--version`) on standard output. `None`
+/// if the words ask no such question.
 pub fn told(rt: &HostRuntime, words: &[String]) -> Option<Status> {
     let question = question_of(words)?;
     let mut text = String::new(rt.alloc());
@@ -64,7 +64,7 @@ pub fn told(rt: &HostRuntime, words: &[String]) -> Option<Status> {
     }
 }
 
-/// The words of the command line behind the program's name.
+/// The command-line words after the program's name.
 pub fn words_of(rt: &HostRuntime) -> io::Result<Vec<String>> {
     let mut words = Vec::new(rt.alloc());
     let mut is_name = true;
@@ -77,7 +77,7 @@ pub fn words_of(rt: &HostRuntime) -> io::Result<Vec<String>> {
     Ok(words)
 }
 
-/// The file that the word of this number names.
+/// The file that word `word` names.
 fn file_of(word: Option<usize>, words: &[String]) -> io::Result<Target> {
     match word.and_then(|number| words.get(number)) {
         Some(name) => Ok(Target::File(name.clone()?)),
@@ -85,7 +85,7 @@ fn file_of(word: Option<usize>, words: &[String]) -> io::Result<Target> {
     }
 }
 
-/// The names of the files of a run, but for that of the word of this number: an output is none of them. Standard input and standard
+/// The names of the run's files except that of word `own`: an output is none of them. Standard input and standard
 /// output have names on every system that the program is built for.
 fn others_of(
     alloc: Global,
@@ -114,7 +114,7 @@ fn others_of(
     Ok(others)
 }
 
-/// What gives the pictures: the file that the word of this number names, or standard input where the word is a lone dash.
+/// The source of the pictures: the file that word `word` names, or standard input if the word is a lone dash.
 fn pictures_of(word: Option<usize>, words: &[String]) -> io::Result<Target> {
     match word.and_then(|number| words.get(number)) {
         Some(name) if name.as_str() == "-" => Ok(Target::Standard),
@@ -122,8 +122,8 @@ fn pictures_of(word: Option<usize>, words: &[String]) -> io::Result<Target> {
     }
 }
 
-/// Does what these words say, over the files that they name. `decode` tells these monitors of the pictures; other
-/// commands leave the list as it was. An error is want of memory.
+/// Runs the command over the files that the words name. `decode` reports each picture to `monitors`; other commands
+/// leave the list unchanged. An error means that memory ran out.
 pub fn program(
     rt: &HostRuntime,
     words: &[String],
@@ -157,7 +157,7 @@ pub fn program(
     ))
 }
 
-/// The program where no monitor is told of pictures, for stored runs.
+/// The program without monitors, for stored runs.
 pub fn run_alone(rt: &HostRuntime) -> ExitCode {
     match words_of(rt) {
         Ok(words) => {

@@ -1,4 +1,4 @@
-//! Numbers of options, frame rates, and the form of raw planar pictures.
+//! Numbers of options, frame rates, and the format of raw planar pictures.
 
 ghost use Rattle.std.specs.Prelude.{◌≡◌, ◌≤◌, ◌<◌, ◌==◌, IfSome, option_map, length, position};
 ghost use Rattle.pic_y4m.specs.Values.{number_within};
@@ -10,7 +10,7 @@ use pic_y4m::{Head, MAX_RATE_DEN, MAX_RATE_NUM};
 use pw_planes::{AlphaKind, Chroma, Depth, Interlace, MAX_HEIGHT, MAX_WIDTH};
 use pw_text::read_decimal;
 
-/// The decimal number that the bytes spell, if it is from `low` to `high`. Zeros may stand in front of it.
+/// The decimal number in `bytes`, if it is from `low` to `high`. Leading zeros are allowed.
 pub(crate) fn number_within(bytes: &[u8], low: u64, high: u64) -> Option<u64>
     ensures value { result ≡ number_within low high bytes.now }
     ensures limits { IfSome result (λ n. (low ≤ n) × (n ≤ high)) }
@@ -21,7 +21,7 @@ pub(crate) fn number_within(bytes: &[u8], low: u64, high: u64) -> Option<u64>
     }
 }
 
-/// The place of the first byte of this value.
+/// The position of the first byte equal to `byte`.
 fn place_of(bytes: &[u8], byte: u8) -> Option<usize>
     ensures value { result ≡ position (λ b. b == byte) bytes.now }
     ensures inside { IfSome result (λ n. n < length bytes.now) }
@@ -29,7 +29,7 @@ fn place_of(bytes: &[u8], byte: u8) -> Option<usize>
     bytes.iter().position(|b| *b == byte)
 }
 
-/// What stands in front of the first byte of this value, and what stands behind it.
+/// What precedes the first byte equal to `byte`, and what follows it.
 pub(crate) fn cut(bytes: &[u8], byte: u8) -> Option<(&[u8], &[u8])>
     ensures { option_map (λ parts. (parts.0.now, parts.1.now)) result ≡ cut byte bytes.now }
 {
@@ -37,7 +37,7 @@ pub(crate) fn cut(bytes: &[u8], byte: u8) -> Option<(&[u8], &[u8])>
     Some((&bytes[..at], &bytes[at + 1..]))
 }
 
-/// Two numbers from 1 up to these, and the first such byte between them.
+/// Two numbers, separated by `byte`: 1 to `most`, and 1 to `most_behind`.
 #[tactic(auto, unfolding(crate::specs::Options::pair_within))]
 fn pair_within(bytes: &[u8], byte: u8, most: u64, most_behind: u64) -> Option<(u64, u64)>
     ensures value { result ≡ pair_within byte most most_behind bytes.now }
@@ -66,7 +66,7 @@ pub(crate) fn rate_in(bytes: &[u8]) -> Option<Rate>
     })
 }
 
-/// How chroma is sampled, by its number.
+/// The chroma format with this number.
 fn chroma_in(bytes: &[u8]) -> Option<Chroma>
     ensures { result ≡ chroma_in bytes.now }
 {
@@ -77,7 +77,7 @@ fn chroma_in(bytes: &[u8]) -> Option<Chroma>
     }
 }
 
-/// The number of bits of luma and chroma samples.
+/// The bit depth of luma and chroma with this number.
 pub(crate) fn depth_in(bytes: &[u8]) -> Option<Depth>
     ensures { result ≡ depth_in bytes.now }
 {
@@ -89,7 +89,7 @@ pub(crate) fn depth_in(bytes: &[u8]) -> Option<Depth>
     }
 }
 
-/// The number of bits of alpha samples, 0 for no alpha.
+/// The bit depth of alpha, 0 for no alpha.
 fn alpha_in(bytes: &[u8]) -> Option<AlphaKind>
     ensures { result ≡ alpha_in bytes.now }
 {
@@ -101,7 +101,7 @@ fn alpha_in(bytes: &[u8]) -> Option<AlphaKind>
     }
 }
 
-/// The form of raw planar pictures, `WxH:CHROMA:DEPTH:ALPHA:NUM/DEN`, as if they were progressive.
+/// The format of raw planar pictures, `WxH:CHROMA:DEPTH:ALPHA:NUM/DEN`, as progressive ones.
 #[tactic(auto, unfolding(crate::specs::Options::raw_form))]
 pub(crate) fn raw_form(bytes: &[u8]) -> Option<Head>
     ensures value { result ≡ raw_form bytes.now }

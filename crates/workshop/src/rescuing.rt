@@ -17,7 +17,7 @@ use pw_outside::{ByteSink, ByteStore};
 use rescue_run::{RescueEnd, rescue_run};
 use std::alloc::Global;
 
-/// The answer with the fields of a run's end.
+/// The status of a run's outcome.
 fn status_of(end: RescueEnd) -> Status
     ensures { result ≡ status_of end }
 {
@@ -30,7 +30,7 @@ fn status_of(end: RescueEnd) -> Status
     }
 }
 
-/// Makes a movie of the frames that stand in a file, and prints where they are.
+/// Makes a movie of the frames in a file, and prints where they are.
 pub(crate) fn rescue<M: ByteStore, K: ByteSink>(
     alloc: Global,
     rate: Rate,
@@ -47,14 +47,19 @@ pub(crate) fn rescue<M: ByteStore, K: ByteSink>(
         → (Rose (K.faults out.old) (K.faults out.new) → ⊥) → (Rose (K.faults text.old) (K.faults text.new) → ⊥)
         → CompletesRescue file result) }
     ensures read_again { Told (M.bytes movie.old) (λ file. OnTrue (is_done result)
-        ((bytes : List ℕ) × Puts (sink_state (K.held out.old) (K.taken out.old)) (sink_state (K.held out.new) (K.taken out.new)) bytes × IsMovieOf file bytes)) }
+        ((bytes : List ℕ) × Puts (sink_state (K.held out.old) (K.taken out.old))
+        (sink_state (K.held out.new) (K.taken out.new)) bytes × IsMovieOf file bytes)) }
     ensures usage { usage_of result ≡ None }
-    ensures out_extends { Extends (sink_state (K.held out.old) (K.taken out.old)) (sink_state (K.held out.new) (K.taken out.new)) }
-    ensures text_extends { Extends (sink_state (K.held text.old) (K.taken text.old)) (sink_state (K.held text.new) (K.taken text.new)) }
-    ensures settled { OnTrue (is_settled result) ((K.settled out.new ≡ K.taken out.new) × (K.settled text.new ≡ K.taken text.new)) }
+    ensures out_extends { Extends (sink_state (K.held out.old) (K.taken out.old))
+        (sink_state (K.held out.new) (K.taken out.new)) }
+    ensures text_extends { Extends (sink_state (K.held text.old) (K.taken text.old))
+        (sink_state (K.held text.new) (K.taken text.new)) }
+    ensures settled { OnTrue (is_settled result)
+        ((K.settled out.new ≡ K.taken out.new) × (K.settled text.new ≡ K.taken text.new)) }
     ensures bytes { M.bytes movie.new ≡ M.bytes movie.old }
     ensures read { CountsFault (M.faults movie.old) (M.faults movie.new) (is_read_fault result) }
-    ensures write { CountsFaults (K.faults out.old) (K.faults out.new) (K.faults text.old) (K.faults text.new) (is_write_fault result) }
+    ensures write { CountsFaults (K.faults out.old) (K.faults out.new) (K.faults text.old) (K.faults text.new)
+        (is_write_fault result) }
 {
     status_of(rescue_run(alloc, movie, rate.num, rate.den, out, text))
 }

@@ -1,4 +1,4 @@
-//! What a run answers.
+//! The status of a run.
 
 use pcm_track::SoundKind;
 use pic_y4m::PictureKind;
@@ -7,35 +7,35 @@ use qt_tables::MovieKind;
 use rate_table::ProofKind;
 use std::fmt;
 
-/// What is wrong with the words of the command line.
+/// The kinds of errors of the command-line words.
 #[derive(Clone, Copy, Debug, PartialEq, Eq)]
 pub enum UsageKind {
     /// There are no words.
     NoCommand,
-    /// The first word names no command.
+    /// The first word isn't the name of a command.
     UnknownCommand,
-    /// A word begins with `--` and names no option of the command.
+    /// A word begins with `--` and isn't an option of the command.
     UnknownOption,
-    /// An option that was given before.
+    /// The option was given before.
     RepeatedOption,
-    /// A value that the option doesn't have, or an operand that is no number that it may be.
+    /// The value isn't one of the option's, or the operand isn't a number in its range.
     BadValue,
-    /// An operand more than the command takes.
+    /// An operand too many.
     ExtraOperand,
-    /// Fewer operands than the command takes. The word number is the number of words.
+    /// Too few operands. The word number is the number of words.
     MissingOperand,
-    /// An option is wanting that the command needs. The word number is the number of words.
+    /// A required option is missing. The word number is the number of words.
     MissingOption,
-    /// Values that don't go together. The word number is the number of words.
+    /// Values that contradict each other. The word number is the number of words.
     Conflict,
 }
 
-/// How a run ended.
+/// The status of a run.
 #[derive(Clone, Copy, Debug, PartialEq, Eq)]
 pub enum Status {
-    /// The whole run was done, and its input was read to its end.
+    /// The run is complete, and its input was read to its end.
     Done,
-    /// The words aren't in the grammar: the kind and the number of the first word with a fault.
+    /// The words aren't in the grammar: the kind of the first error, and the number of its word.
     Usage {
         kind: UsageKind,
         word: usize,
@@ -46,42 +46,43 @@ pub enum Status {
     ReadFault,
     /// A port that the command writes failed.
     WriteFault,
-    /// The pictures have this first fault, at this byte.
+    /// The pictures' first error, at byte `place`.
     BadPictures {
         kind: PictureKind,
         place: u64,
     },
-    /// No choice fits for the group that begins at this frame, and the least number of bytes that any has.
+    /// No choice fits for the group that begins at `frame`; the smallest choice has `least` bytes.
     TooSmall {
         frame: u32,
         least: u64,
     },
-    /// The layers of the table of the group that begins at this frame number more than 2^25 pairs; the table of `plan` is frame 0.
+    /// The table of the group that begins at `frame` has more than 2^25 pairs in its Pareto frontiers; the table of
+    /// `plan` is frame 0.
     LayersFull {
         frame: u32,
     },
-    /// The movie has this first fault, at this byte.
+    /// The movie's first error, at byte `place`.
     BadMovie {
         kind: MovieKind,
         place: u64,
     },
-    /// The sample of this number, from 0, has this first fault, at this byte of the sample.
+    /// The first error of sample `sample`, counted from 0, at byte `place` of the sample.
     BadFrame {
         sample: u32,
         kind: FrameKind,
         place: u64,
     },
-    /// The table or the proof has this first fault, at this byte.
+    /// The first error of the table or the proof, at byte `place`.
     BadProof {
         kind: ProofKind,
         place: u64,
     },
-    /// This clause is the first that the proof fails, at the frame of this number, from 0.
+    /// The proof fails `clause` first, at frame `frame`, counted from 0.
     Refused {
         frame: u32,
         clause: u8,
     },
-    /// The WAV has this first fault, at this byte.
+    /// The WAV's first error, at byte `place`.
     BadSound {
         kind: SoundKind,
         place: u64,
@@ -92,7 +93,7 @@ impl Status {
     ghost use Rattle.std.specs.Prelude.{◌≡◌};
     ghost use Rattle.workshop.specs.Status.{code_of};
 
-    /// The number with which the program ends.
+    /// The exit status of the program.
     pub fn code(&self) -> u8
         ensures { result ≡ code_of self.now }
     {
@@ -114,7 +115,7 @@ impl Status {
     }
 }
 
-/// The line that tells the status, without its line feed; `Done` has none.
+/// The line of the status, without its line feed; `Done` has none.
 impl fmt::Display for Status {
     fn fmt<W: fmt::Write>(&self, f: &mut fmt::Formatter<W>) -> fmt::Result {
         match self {

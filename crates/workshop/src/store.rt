@@ -12,10 +12,10 @@ use std::fs::{self, OpenFile};
 use std::io::{self, Read, Seek, SeekFrom};
 use std::rt::Files;
 
-/// How many bytes are read where nothing says that those behind them come next: the head of an atom, and some more.
+/// Number of bytes to read at a position that doesn't continue the window: the head of an atom, and some more.
 const HEAD: usize = 512;
 
-/// A file that keeps its bytes, its length when it was opened, and a window of its bytes.
+/// An open file that can be read again, its length when it was opened, and a window of its bytes.
 #[derive(Drop)]
 struct OpenStore<F: Drop> {
     file: F,
@@ -25,8 +25,8 @@ struct OpenStore<F: Drop> {
     window_len: usize,
 }
 
-/// A store over a regular file or a block device, opened at its first use, which counts its faults and tells no content. It keeps a
-/// window of bytes at hand. A file that keeps no bytes, as a pipe or a terminal, is a fault.
+/// A store over a regular file or a block device, opened at its first use. It counts its faults, its contents are
+/// opaque, and it buffers a window of bytes. Any other file, as a pipe or a terminal, is a fault.
 #[derive(Drop)]
 pub struct StorePort<R: Files + AllocGlobal + Drop> {
     rt: R,
@@ -35,7 +35,7 @@ pub struct StorePort<R: Files + AllocGlobal + Drop> {
     faults: u64,
 }
 
-/// A read that was interrupted is tried again.
+/// Reads, and retries after an interrupt.
 fn read_file<F: Read>(file: &mut F, piece: &mut [u8]) -> io::Result<usize>
     ensures count { ReadsAtMost result piece.new }
 {
@@ -49,7 +49,7 @@ fn read_file<F: Read>(file: &mut F, piece: &mut [u8]) -> io::Result<usize>
 }
 
 impl<F: Read + Seek + OpenFile + Drop> OpenStore<F> {
-    /// A file whose length says that it has no bytes, and which gives one all the same, doesn't tell its length.
+    /// A file of length 0 that can still be read has no known length, and is an error.
     fn new(alloc: Global, file: F) -> io::Result<Self> {
         let mut file = file;
         if !keeps_bytes(&file.metadata()?) {
@@ -70,7 +70,7 @@ impl<F: Read + Seek + OpenFile + Drop> OpenStore<F> {
         })
     }
 
-    /// The bytes that stand in the window from a place of the file on.
+    /// The bytes of the window from `place` on.
     fn at_hand(&self, place: u64) -> &[u8] {
         let within = match place.checked_sub(self.window_at) {
             Some(skipped) => skipped,
@@ -82,7 +82,8 @@ impl<F: Read + Seek + OpenFile + Drop> OpenStore<F> {
         }
     }
 
-    /// Moves the window to a place of the file. Where the place stands behind the window's end, the window is filled.
+    /// Moves the window to `place`. If it continues the old window, the whole window is filled; otherwise only its
+    /// first bytes.
     fn move_window(&mut self, place: u64) -> io::Result<()> {
         let goes_on = place.checked_sub(self.window_at) == Some(self.window_len as u64);
         let wanted = if goes_on { PIECE } else { HEAD };
@@ -95,7 +96,7 @@ impl<F: Read + Seek + OpenFile + Drop> OpenStore<F> {
         Ok(())
     }
 
-    /// Bytes from a place on: a large piece at once, and others by the window.
+    /// Reads bytes from `place` on: a large piece directly, others through the window.
     fn read_from(&mut self, place: u64, piece: &mut [u8]) -> io::Result<usize>
         ensures count { ReadsAtMost result piece.new }
     {

@@ -13,7 +13,7 @@ use pw_outside::ByteSink;
 use run_synth::{SynthEnd, SynthWords, synth_run};
 use std::alloc::Global;
 
-/// The answer with the fields of a run's end.
+/// The status of a run's outcome.
 fn status_of(end: SynthEnd) -> Status
     ensures { result ≡ status_of end }
 {
@@ -26,13 +26,15 @@ fn status_of(end: SynthEnd) -> Status
     }
 }
 
-/// Makes pictures up, encodes, decodes and checks them in memory, and prints what that gives.
+/// Generates pictures, encodes, decodes and checks them in memory, and prints the results.
 pub(crate) fn synth<K: ByteSink>(alloc: Global, words: &SynthWords, text: &mut K) -> Status
     requires { AreSynthWords words.now }
-    ensures answer { AnswersSynth words.now result (sink_state (K.held text.old) (K.taken text.old)) (sink_state (K.held text.new) (K.taken text.new)) }
+    ensures answer { AnswersSynth words.now result (sink_state (K.held text.old) (K.taken text.old))
+        (sink_state (K.held text.new) (K.taken text.new)) }
     ensures complete { (Rose (K.faults text.old) (K.faults text.new) → ⊥) → CompletesSynth words.now result }
     ensures usage { usage_of result ≡ None }
-    ensures extends { Extends (sink_state (K.held text.old) (K.taken text.old)) (sink_state (K.held text.new) (K.taken text.new)) }
+    ensures extends { Extends (sink_state (K.held text.old) (K.taken text.old))
+        (sink_state (K.held text.new) (K.taken text.new)) }
     ensures settled { OnTrue (is_settled result) (K.settled text.new ≡ K.taken text.new) }
     ensures read { is_read_fault result ≡ false }
     ensures write { CountsFault (K.faults text.old) (K.faults text.new) (is_write_fault result) }

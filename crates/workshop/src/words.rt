@@ -1,4 +1,4 @@
-//! The words of the command line.
+//! The words of the command line, and their grammar.
 
 ghost use Rattle.std.specs.Prelude.{◌≡◌, ◌<◌, ◌≤◌, [], IfOk, IfSome, drop, length, map, string_bytes};
 ghost use Rattle.workshop.specs.Options.{AreValues, no_values};
@@ -15,7 +15,7 @@ use run_decode::Form;
 use run_encode::EncodeWords;
 use run_synth::SynthWords;
 
-/// No command has more operands.
+/// The largest number of operands of a command.
 const MOST_OPERANDS: usize = 5;
 
 /// A command of the program.
@@ -23,21 +23,22 @@ const MOST_OPERANDS: usize = 5;
 pub enum Command {
     /// `plan TABLE` prints the best choice of a table file.
     Plan,
-    /// `encode PICTURES MOVIE PROOF` makes a movie of pictures, each frame of which is the best within the budget.
+    /// `encode PICTURES MOVIE PROOF` encodes pictures, each group by the best choice within its budget.
     Encode,
     /// `list MOVIE` prints the track of a movie and its samples.
     List,
-    /// `check PROOF` checks the records of a proof, and `check PROOF PICTURES MOVIE` with the pictures and the movie that it is of.
+    /// `check PROOF` checks the records of a proof; `check PROOF PICTURES MOVIE` checks them with the pictures and
+    /// the movie.
     Check,
-    /// `reproof PROOF OUTPUT` writes a proof again in format 2.
+    /// `reproof PROOF OUTPUT` rewrites a proof in format 2.
     Reproof,
-    /// `decode MOVIE OUT` shows the pictures of a movie.
+    /// `decode MOVIE OUT` decodes the pictures of a movie.
     Decode,
-    /// `rescue FILE OUT` makes a movie of the frames that stand in a file.
+    /// `rescue FILE OUT` makes a movie of the frames in a file.
     Rescue,
-    /// `addsound MOVIE WAV OUT` puts the sound of a WAV beside the pictures of a movie.
+    /// `addsound MOVIE WAV OUT` adds the sound of a WAV to the pictures of a movie.
     AddSound,
-    /// `sound MOVIE OUT` takes the sound out of a movie.
+    /// `sound MOVIE OUT` extracts the sound of a movie.
     Sound,
     /// `least TABLE CERT` prints the smallest choice of a table file under a cap on the error, and certifies it.
     Least,
@@ -45,16 +46,16 @@ pub enum Command {
     CheckLeast,
     /// `curve TABLE` prints all undominated pairs of size and error of a table file.
     Curve,
-    /// `synth W H FRAMES SEED BUDGET` makes pictures up, encodes, decodes and checks them.
+    /// `synth W H FRAMES SEED BUDGET` generates pictures, encodes, decodes and checks them.
     Synth,
 }
 
-/// What the words say of a run of `decode`.
+/// The options of a run of `decode`.
 #[derive(Clone, Copy, Debug, PartialEq, Eq)]
 pub struct DecodeWords {
-    /// The number of bits of the samples that are written.
+    /// Bit depth of the decoded samples.
     pub depth: Depth,
-    /// How pictures are written.
+    /// The output format of pictures.
     pub form: Form,
 }
 
@@ -68,14 +69,14 @@ pub struct Names {
     pub cert: Option<usize>,
 }
 
-/// A fault of the words, and the number of the first word that has it.
+/// An error of the words, and the number of the first word that has it.
 #[derive(Clone, Copy, Debug, PartialEq, Eq)]
 pub struct BadWords {
     pub kind: UsageKind,
     pub word: usize,
 }
 
-/// What is to be done.
+/// What to run, with its parameters.
 #[derive(Clone, Copy, Debug, PartialEq, Eq)]
 pub enum Task {
     Plan,
@@ -86,7 +87,7 @@ pub enum Task {
     CheckAll,
     Reproof,
     Decode(DecodeWords),
-    /// At this rate.
+    /// At this frame rate.
     Rescue(Rate),
     AddSound,
     Sound,
@@ -98,7 +99,7 @@ pub enum Task {
     Synth(SynthWords),
 }
 
-/// What is to be done, with the numbers of the words that are operands.
+/// What to run, with the word numbers of the operands.
 #[derive(Drop)]
 pub(crate) struct Settings {
     pub(crate) task: Task,
@@ -107,7 +108,7 @@ pub(crate) struct Settings {
 
 // The grammar, a row for each command.
 impl Command {
-    /// The command of this name.
+    /// The command with this name.
     pub(crate) fn named(word: &str) -> Option<Command>
         ensures { result ≡ command_named word.now }
     {
@@ -129,7 +130,7 @@ impl Command {
         }
     }
 
-    /// All commands, in the order in which they are told.
+    /// All commands, in the order in which they are printed.
     pub(crate) fn all() -> &'static [Command]
         ensures { result.now ≡ commands }
     {
@@ -150,7 +151,7 @@ impl Command {
         ]
     }
 
-    /// Its word.
+    /// The command's name.
     pub(crate) fn name(self) -> &'static str
         ensures { result.now ≡ name_of self }
     {
@@ -171,7 +172,7 @@ impl Command {
         }
     }
 
-    /// What its operands are called, those that may be absent too.
+    /// The names of the command's operands, with the optional ones.
     pub(crate) fn operands(self) -> &'static [&'static str]
         ensures { length result.now ≡ most_operands self }
     {
@@ -190,7 +191,7 @@ impl Command {
         }
     }
 
-    /// How many operands it may have, rising.
+    /// The numbers of operands that the command allows, rising.
     pub(crate) fn operand_counts(self) -> &'static [usize]
         ensures { result.now ≡ operands_of self }
     {
@@ -207,7 +208,7 @@ impl Command {
         }
     }
 
-    /// The most operands that it may have.
+    /// The largest number of operands that the command allows.
     fn most_operands(self) -> usize
         ensures value { result ≡ most_operands self }
         ensures few { result ≤ 5 }
@@ -215,7 +216,7 @@ impl Command {
         self.operands().len()
     }
 
-    /// Whether it may have so many operands.
+    /// Whether the command allows `operands` operands.
     fn takes(self, operands: usize) -> bool
         ensures { result ≡ takes self operands }
     {
@@ -232,7 +233,7 @@ impl Command {
         }
     }
 
-    /// Its options.
+    /// The command's options.
     pub(crate) fn options(self) -> &'static [OptionName]
         ensures { result.now ≡ options_of self }
     {
@@ -263,7 +264,7 @@ impl Command {
         }
     }
 
-    /// The option that it needs.
+    /// The option that the command requires.
     pub(crate) fn needed(self) -> Option<OptionName>
         ensures { (v : Values) → lacks_option self v ≡ lacks result v }
     {
@@ -284,7 +285,7 @@ impl Command {
         }
     }
 
-    /// Its option of this name.
+    /// The command's option with this name.
     fn option_named(self, name: &[u8]) -> Option<OptionName>
         ensures { result ≡ option_named self name.now }
     {
@@ -297,7 +298,7 @@ impl Command {
         None
     }
 
-    /// Whether an option is wanting that it needs.
+    /// Whether a required option is missing.
     fn lacks_option(self, values: &Values) -> bool
         ensures { result ≡ lacks_option self values.now }
     {
@@ -318,7 +319,7 @@ impl Command {
         }
     }
 
-    /// Whether the values don't go together.
+    /// Whether the values contradict each other.
     fn clash(self, values: &Values) -> bool
         requires { AreValues values.now }
         ensures { result ≡ clash self values.now }
@@ -346,7 +347,7 @@ impl Command {
         }
     }
 
-    /// What it is to do, with so many operands.
+    /// What the command runs with `operands` operands.
     fn task(self, operands: usize, values: &Values) -> Task
         ensures { result ≡ task_of self operands values.now }
     {
@@ -368,7 +369,7 @@ impl Command {
         }
     }
 
-    /// The words that name its files, where these words are its operands.
+    /// The words that name the command's files, if `operands` are the numbers of its operands.
     fn names(self, operands: &[usize]) -> Names
         ensures { result ≡ ports_of self operands.now }
     {
@@ -413,8 +414,8 @@ impl Command {
         }
     }
 
-    /// The values with what an operand says, with so many in front of it: of `synth` a number, if the bytes are one that it may be, and of every other
-    /// command a file, which is no value.
+    /// The values with operand number `operand`: a number for `synth`, if `word` is one in its range; for every
+    /// other command a file, which is no value.
     fn operand_values(self, operand: usize, word: &[u8], values: Values) -> Option<Values>
         requires { AreValues values }
         ensures value { result ≡ operand_values self operand word.now values }
@@ -439,7 +440,7 @@ impl Command {
 }
 
 impl Task {
-    /// The command that does it.
+    /// The command that runs this.
     fn command(self) -> Command
         ensures { result ≡ command_of self }
     {
@@ -460,7 +461,7 @@ impl Task {
         }
     }
 
-    /// Whether monitors are told of pictures.
+    /// Whether pictures are reported to monitors.
     fn tells_monitors(self) -> bool
         ensures { result ≡ is_decode self }
     {
@@ -497,7 +498,7 @@ impl Names {
     }
 }
 
-/// The form of raw planar pictures, with how their frames are made of pictures.
+/// The format of raw planar pictures, with their interlace mode.
 fn raw_in(values: &Values) -> Option<Head>
     ensures { result ≡ raw_in values.now }
 {
@@ -510,7 +511,7 @@ fn raw_in(values: &Values) -> Option<Head>
     }
 }
 
-/// The values of the options of `encode`, and of those that are absent.
+/// The options of `encode`, with defaults.
 fn encode_words(values: &Values) -> EncodeWords
     ensures { result ≡ encode_words values.now }
 {
@@ -526,7 +527,7 @@ fn encode_words(values: &Values) -> EncodeWords
     }
 }
 
-/// The values of the options of `decode`, and of those that are absent.
+/// The options of `decode`, with defaults.
 fn decode_words(values: &Values) -> DecodeWords
     ensures { result ≡ decode_words values.now }
 {
@@ -536,7 +537,7 @@ fn decode_words(values: &Values) -> DecodeWords
     }
 }
 
-/// The numbers of `synth`, each of which stands as an operand.
+/// The numeric operands of `synth`.
 fn synth_words(values: &Values) -> SynthWords
     ensures { result ≡ synth_words values.now }
 {
@@ -559,7 +560,7 @@ fn has_odd_form(form: Option<Head>) -> bool
     }
 }
 
-/// The values with that of this option, which the word of this number gives, and which may stand once.
+/// The values with that of `option`, given by word `at`; an option may be given once.
 #[tactic(auto, unfolding(crate::specs::Words::with_option_value))]
 fn with_option_value(
     option: OptionName,
@@ -586,7 +587,7 @@ fn with_option_value(
     }
 }
 
-/// The values with that of the option `--NAME=VALUE`, the word of this number.
+/// The values with that of the option `--NAME=VALUE`, word `at`.
 #[tactic(auto, unfolding(crate::specs::Words::with_option))]
 fn with_option(command: Command, word: &[u8], at: usize, values: Values) -> Result<Values, BadWords>
     requires word { 2 ≤ length word.now }
@@ -607,7 +608,7 @@ fn with_option(command: Command, word: &[u8], at: usize, values: Values) -> Resu
     with_option_value(option, value, at, values)
 }
 
-/// The values with what an operand says, the word of this number, with so many operands in front of it.
+/// The values with operand number `operand`, word `at`.
 #[tactic(auto, unfolding(crate::specs::Words::with_operand))]
 fn with_operand(
     command: Command,
@@ -629,7 +630,7 @@ fn with_operand(
     }
 }
 
-/// What the words say, where so many words have been read and no more are left.
+/// The result for all words: `at` words were read, and none is left.
 #[tactic(auto, unfolding(crate::specs::Words::ended), using(crate::proofs::Tasks::task_allowed))]
 fn ended(
     command: Command,
@@ -656,7 +657,7 @@ fn ended(
     Err(BadWords { kind, word: at })
 }
 
-/// What the words behind the command say, or their first fault.
+/// The result for the words after the command, or their first error.
 fn walk(command: Command, words: &[String]) -> Result<Settings, BadWords>
     requires { 0 < length words.now }
     ensures value { IsWalk settled result (walk command (map string_bytes (drop 1 words.now)) 1 [] no_values) }
@@ -681,7 +682,7 @@ fn walk(command: Command, words: &[String]) -> Result<Settings, BadWords>
     ended(command, words.len(), operands, &values)
 }
 
-/// What is to be done, or the first fault of the words.
+/// What to run, or the first error of the words.
 pub(crate) fn settings_of(words: &[String]) -> Result<Settings, BadWords>
     ensures value { IsWalk settled result (said words.now) }
     ensures limits { IfOk result (λ s. IsTask s.task) }
@@ -701,8 +702,8 @@ pub(crate) fn settings_of(words: &[String]) -> Result<Settings, BadWords>
     walk(command, words)
 }
 
-/// For each port the number of the word that names its file: that of its operand where the words are in the
-/// grammar, and none elsewhere. It takes no memory.
+/// For each port the number of the word that names its file; none if the words aren't in the grammar. It allocates
+/// no memory.
 pub fn names_of(words: &[String]) -> Names
     ensures { result ≡ names_in (said words.now) }
 {
@@ -712,7 +713,7 @@ pub fn names_of(words: &[String]) -> Names
     }
 }
 
-/// Whether what the words say tells monitors of pictures: `decode` alone does. It takes no memory.
+/// Whether the command reports pictures to monitors; only `decode` does. It allocates no memory.
 pub fn tells_monitors(words: &[String]) -> bool
     ensures { result ≡ tells_monitors (said words.now) }
 {

@@ -6,8 +6,8 @@ use std::io;
 use std::process::ExitCode;
 use workshop::{Status, exit_code, program, tells_monitors, told, unread, words_of};
 
-/// Does what the command line says, or tells what it asks of the program itself. `decode` has four monitors, in the order of
-/// their reports; other commands have none.
+/// Runs the command line, or answers a question about the program itself. `decode` has four monitors, in the order
+/// of their reports; other commands have none.
 fn run(rt: &HostRuntime, words: &[String]) -> io::Result<Status> {
     let alloc = rt.alloc();
     if let Some(status) = told(rt, words) {

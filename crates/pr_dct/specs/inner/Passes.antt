@@ -3,11 +3,11 @@ use Rattle.std.specs.Prelude.{ℕ, ◌≡◌, ◌/◌, ◌%◌, ◌<◌, List, m
 use Rattle.std.specs.List.{range_with_len}
 use Rattle.pr_dct.specs.Transform.{total, cosines, cell, at}
 
--- row p % 8 of a block, weighed by row p / 8 of a table
+-- row p % 8 of a block times row p / 8 of a table
 unfoldable pub row_sum : List (List ℤ) → List ℤ → ℕ → ℤ
 row_sum table b p = total 8 (λ n. cell table (p / 8) n *ℤ at b (p % 8) n)
 
--- each row of a block, weighed by each row of a table: the sums of row y stand in column y
+-- each row of a block times each row of a table: the sums of row y are in column y
 abbrev pub row_sums : List (List ℤ) → List ℤ → List ℤ
 row_sums table b = map (row_sum table b) (range_with_len 0 64)
 

@@ -4,7 +4,7 @@ use Rattle.pr_geom.specs.declared.places.SlicePlace.{SlicePlace}
 use Rattle.pw_planes.specs.Plane.{Raster, with_block}
 use Rattle.pr_frame.specs.Shown.{Placed}
 
--- the plane with these blocks written at their corners, one after the other
+-- the plane with these blocks written at their corners, in order
 unfoldable pub with_placed : Raster → List Placed → Raster
 with_placed p [] = p
 with_placed p (b ∷ bs) = with_placed (with_block p b.corner.0 b.corner.1 b.samples) bs

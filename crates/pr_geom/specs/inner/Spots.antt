@@ -1,7 +1,7 @@
 -- A slice of a row by its number.
 use Rattle.std.specs.Prelude.{ℕ, zero, suc, ◌+◌, ◌-◌, ◌*◌, ◌/◌, ◌%◌, ◌^◌, nat_lt, if◌then◌else◌}
 
--- where a slice of a row of so many macroblocks begins, and its width, without the slices before it
+-- where a slice of a row of macroblocks begins, and its width, without the slices before it
 abbrev pub spot : ℕ → ℕ → ℕ → ℕ × ℕ
 spot columns zero number = (number, 1)
 spot columns (suc log2) number =

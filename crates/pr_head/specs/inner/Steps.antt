@@ -1,5 +1,5 @@
 -- Reading step by step, as the calls of this crate do. A source that ends too early has a fault of its own here;
--- under the conditions of the calls none does, and these steps are then the definitions by places.
+-- under the conditions of the calls none does, and these steps are then the definitions by offsets.
 use Rattle.std.specs.Prelude.{ℕ, zero, suc, ◌+◌, ◌-◌, ◌*◌, ◌/◌, Bool, nat_lt, if◌then◌else◌, List, [], ◌∷◌, length, take, drop, replicate, sum, Ok}
 use Rattle.pw_outside.specs.Reading.{Rest, Read, ◌>>=◌, bad, refuse}
 use Rattle.pr_head.specs.declared.fault.FrameKind.{FrameKind}
@@ -13,19 +13,19 @@ use Rattle.pr_head.specs.Header.{Opened, start_of, loads_luma, loads_chroma, mat
 use Rattle.pr_head.specs.Picture.{picture_of, picture_fault}
 use Rattle.pr_head.specs.Slice.{least_slice_header, with_last, slice_fault}
 
--- the next n bytes, or this fault where fewer are left
+-- the next n bytes, or this fault if fewer are left
 abbrev pub piece_at : FrameKind → ℕ → ℕ → Rest → Read FrameKind (List ℕ)
 piece_at kind at n s = if nat_lt (length s.bytes) n then bad kind at
     else Ok (take n s.bytes, record { place = s.place + n; bytes = drop n s.bytes })
 
--- n bytes are passed over
+-- n bytes are skipped
 unfoldable pub passed : FrameKind → ℕ → ℕ → Rest → Read FrameKind (Unit {0})
 passed kind at n s = if nat_lt (length s.bytes) n then bad kind at
     else Ok (tt, record { place = s.place + n; bytes = drop n s.bytes })
 
 -- ---- the frame
 
--- a matrix where it is loaded, and the other one else
+-- a matrix if it is loaded, and the other one else
 unfoldable pub matrix_in : Bool → List ℕ → Rest → Read FrameKind (List ℕ)
 matrix_in loaded other s = if loaded then piece_at kinds.FrameSize 0 64 s else Ok (other, s)
 
@@ -38,7 +38,7 @@ start_in n s = do
   _ ← form_fault (start_of bytes.0)
   Ok (start_of bytes.0, bytes.1)
 
--- both matrices, and the spare bytes behind them
+-- both matrices, and the spare bytes after them
 unfoldable pub matrices_in : Start → Rest → Read FrameKind (List ℕ × List ℕ)
 matrices_in r s = do
   luma ← matrix_in (loads_luma r) (replicate 64 4) s
@@ -95,7 +95,7 @@ stated_in fields cr = record {
   alpha = 0;
 }
 
--- the two bytes of Cr where it is stated, and zeros else
+-- the two bytes of Cr if it is stated, and zeros else
 unfoldable pub cr_in : ℕ → Bool → Rest → Read FrameKind (List ℕ)
 cr_in at stated s = if stated then piece_at kinds.SliceHeader at 2 s else Ok (replicate 2 0, s)
 

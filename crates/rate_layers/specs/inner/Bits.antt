@@ -1,9 +1,9 @@
--- Marks as they stand in memory. Our own definitions.
+-- A bit set in memory. Our own definitions.
 use Rattle.std.specs.Prelude.{ℕ, ◌/◌, ◌%◌, ◌==◌, Bool, List, map, slice_index_or}
 use Rattle.std.specs.Int.{bit_at}
 use Rattle.std.specs.List.{range_with_len}
 
--- Whether a mark is set. A word has 64 of them, the first in its lowest bit.
+-- Whether a mark is set. A word holds 64 marks, the first in its lowest bit.
 abbrev pub is_set : List ℕ → ℕ → Bool
 is_set words i = bit_at (slice_index_or words (i / 64) 0) (i % 64) == 1
 

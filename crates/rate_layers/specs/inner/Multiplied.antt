@@ -1,8 +1,8 @@
--- A table whose errors count several times. Our own definitions.
+-- A table with multiplied errors. Our own definitions.
 use Rattle.std.specs.Prelude.{ℕ, ◌-◌, ◌*◌, ◌^◌, List, map, min}
 use Rattle.rate_table.specs.declared.entry.Entry.{Entry}
 
--- the entry with its error so many times, but no more than the greatest error of an entry
+-- the entry with its error multiplied by `times`, capped at the greatest error of an entry
 abbrev pub counted : ℕ → Entry → Entry
 counted times x = record { index = x.index; size = x.size; error = min (x.error * times) (2 ^ 43 - 1) }
 

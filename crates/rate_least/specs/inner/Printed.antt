@@ -1,4 +1,4 @@
--- What is printed, as far as a part of the clauses asks of it.
+-- The parts of a printed record that some clauses concern.
 use Rattle.std.specs.Prelude.{ℕ, List, []}
 use Rattle.rate_least.specs.declared.outcome.WidePair.{WidePair}
 use Rattle.rate_least.specs.Records.{Printed}

@@ -43,7 +43,8 @@ pub record ReadsGroup (j : Job) (old new : AnyReader) (left left' : Option (List
   pub end : IsSome left → length pictures < j.group → left_by old left ≡ in_front pictures no_pictures
   pub read : length pictures < j.group → IsAtEnd left'
 
--- Why a group wasn't read: fewer pictures than a whole group, and then this fault; or a port's fault, or want of memory.
+-- Why a group wasn't read: there are fewer pictures than a whole group, and then this error; or a port failed, or
+-- memory ran out.
 abbrev pub StopsGroup : Job → Pictures → EncodeEnd → Type 0
 StopsGroup j left (ends.BadPictures kind place) = (length left.pictures < j.group) × (left.fault ≡ Some (record { kind = kind; place = place }))
 StopsGroup j left ends.NoMemory = Unit {0}
@@ -60,7 +61,7 @@ frames_lists j number cs choice multiplier layers = record {
   text = part_lines j number (map (λ p. p.1) (shares (frame_slices j) cs choice));
 }
 
--- the best choice of the frames' table, with the multiplier and the layers that it keeps
+-- the best choice of the frames' table, with its multiplier and Pareto frontiers
 pub record IsChosen (j : Job) (cs : List FrameCoefficients) (choice : List Entry) (multiplier : ℕ) (layers : List (List Pair)) : Type 0 where
   pub best : IsBest (table_of_group j cs) choice
   pub layers_are : TellsLayers (table_of_group j cs) (record_of choice multiplier layers)
@@ -109,7 +110,7 @@ pub record HasFitting (t : Table) (choice : List ℕ) : Type 0 where
   pub has_indices : indices entries ≡ choice
   pub fitting : Fits t entries
 
--- indices of a choice of a frame's slices, whose length is that of a sample
+-- indices of a choice of a frame's slices, whose size fits the size field of a sample
 pub record IsFrameChoice (j : Job) (slices : List (List Entry)) (choice : List ℕ) : Type 0 where
   pub entries : List Entry
   pub is_choice : IsChoice slices entries

@@ -1,4 +1,4 @@
--- Which answers a turn of the loop gives. Our own definitions.
+-- Which outcomes an iteration of the loop has. Our own definitions.
 use Rattle.std.specs.Prelude.{◌≡◌, ℕ, ◌≤◌, ◌<◌, Bool, true, false, Result, Ok, Err}
 use Rattle.pic_y4m.specs.declared.head.TheConstants.{MAX_FRAMES}
 use Rattle.pic_raw.specs.declared.any.AnyReader.{AnyReader}
@@ -9,14 +9,14 @@ use Rattle.run_encode.specs.declared.end.EncodeEnd.{EncodeEnd}
 use Rattle.run_encode.specs.Encoding.{is_done, is_read_fault, is_write_fault}
 use Rattle.run_encode.specs.inner.Steps.{Counts}
 
--- whether a whole group was written
+-- whether a whole group was written, and the loop continues
 abbrev pub goes_on : Turn → Bool
 goes_on turns.Whole = true
 goes_on turns.Last = false
 goes_on turns.End = false
 goes_on (turns.Ended _) = false
 
--- whether the pictures came to their end
+-- whether the pictures ended
 abbrev pub is_last : Turn → Bool
 is_last turns.Whole = false
 is_last turns.Last = true
@@ -41,7 +41,7 @@ is_done_turn turns.Whole = false
 is_done_turn turns.Last = false
 is_done_turn turns.End = false
 
--- the same of an answer
+-- the same of an iteration's result
 abbrev pub is_done_end : {X : Type 0} → Result X EncodeEnd → Bool
 is_done_end (Err end) = is_done end
 is_done_end (Ok _) = false

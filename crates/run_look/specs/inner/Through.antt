@@ -1,9 +1,10 @@
--- What reading makes of a source whose bytes are told (our own).
+-- The effect of reading on a source whose bytes are visible (our own).
 use Rattle.std.specs.Prelude.{◌≡◌, ℕ, List, Option, IsSome}
 use Rattle.std.proofs.Common.{refl}
 use Rattle.pw_outside.specs.Reading.{AreBytes, bytes_of}
 
--- It is the same source, it goes on telling its bytes, and those that it gave are below 256. A prime marks what is later.
+-- It is the same source, its bytes stay visible, and those that it returned are below 256. A prime marks the later
+-- state.
 pub record GaveBytes {N : Type 0} (left left' : Option (List ℕ)) (n n' : N) : Type 0 where
   pub same : n' ≡ n
   pub told : IsSome left → IsSome left'

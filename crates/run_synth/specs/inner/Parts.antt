@@ -1,4 +1,4 @@
--- What the parts of a run are given and what they give. Our own definitions.
+-- Inputs and results of the parts of a run. Our own definitions.
 use Rattle.std.specs.Prelude.{◌≡◌, ℕ, List, length, Ok}
 use Rattle.pw_planes.specs.declared.kinds.Depth.TheVariants.{D10}
 use Rattle.pic_synth.specs.Numbered.{synthetic_bytes}
@@ -23,7 +23,7 @@ use Rattle.run_synth.specs.Synthesis.{encode_words, head_in, pictures_read, synt
 abbrev pub bytes_in : SynthWords → List ℕ
 bytes_in w = synthetic_bytes (synthetic_in w)
 
--- These are the movie, the proof and the text that encoding the pictures gives.
+-- The movie, the proof and the text are the result of encoding the pictures.
 pub record AreEncoded (w : SynthWords) (movie proof text : List ℕ) : Type 0 where
   pub job : Job
   pub of : IsJobOf (encode_words w) (head_in w) job
@@ -34,13 +34,13 @@ pub record AreEncoded (w : SynthWords) (movie proof text : List ℕ) : Type 0 wh
   pub proof_is : proof ≡ lists.proof
   pub text_is : text ≡ lists.text
 
--- What encoding the pictures gave: all three, or a text and an answer, or that memory ran out.
+-- The result of encoding the pictures: all three files, or a text and an outcome, or out of memory.
 abbrev pub AreCoded : SynthWords → Coded → Type 0
 AreCoded w (coded.Whole files) = AreEncoded w files.movie.bytes.items files.proof.bytes.items files.text.bytes.items
 AreCoded w (coded.Cut said) = PrintsOn w said.end said.text.bytes.items
 AreCoded w coded.NoMemory = Unit {0}
 
--- Decoding these bytes, as raw planes of 10 bits, is done and shows so many pictures.
+-- Decoding `file`, as raw planes of 10 bits, is done and shows `pictures` pictures.
 pub record IsDecodable (file : List ℕ) (pictures : ℕ) : Type 0 where
   pub movie : Movie
   pub is_movie : movie_in file ≡ Ok movie

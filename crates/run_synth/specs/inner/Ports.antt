@@ -1,4 +1,4 @@
--- What the ports of the parts of a run tell.
+-- The contents and counts of the ports of a run's parts.
 use Rattle.std.proofs.Common.{arith, le_refl}
 use Rattle.std.specs.Prelude.{ℕ, ◌≤◌, min, List, drop, length, Option, None, Some}
 use Rattle.pw_outside.specs.Ports.{last, IsBound}
@@ -12,7 +12,7 @@ abbrev pub left_in : Input → Option (List ℕ)
 left_in (inputs.Synthetic bytes) = Some bytes
 left_in (inputs.Held m) = Some (drop m.at m.bytes.items)
 
--- how many
+-- their number
 abbrev pub most_in : Input → Option ℕ
 most_in (inputs.Synthetic bytes) = Some (length bytes)
 most_in (inputs.Held m) = Some (length (drop m.at m.bytes.items))
@@ -21,12 +21,12 @@ pub most_bound : (i : Input) → IsBound (most_in i) (left_in i)
 most_bound (inputs.Synthetic bytes) = le_refl (length bytes)
 most_bound (inputs.Held m) = le_refl (length (drop m.at m.bytes.items))
 
--- the bytes that are held
+-- the stored bytes
 abbrev pub held_in : Output → Option (List ℕ)
 held_in (outputs.Held m) = Some m.bytes.items
 held_in (outputs.Counted n) = None
 
--- how many were taken, all of which are settled
+-- the number of bytes taken, all of which are flushed
 abbrev pub taken_in : Output → ℕ
 taken_in (outputs.Held m) = min (length m.bytes.items) last
 taken_in (outputs.Counted n) = min n last

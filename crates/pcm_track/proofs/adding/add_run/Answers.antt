@@ -5,7 +5,8 @@ use Rattle.pw_outside.specs.Writing.{sink_state}
 use Rattle.pcm_track.specs.declared.end.SoundEnd.TheVariants as ends
 use Rattle.pcm_track.specs.Ends.{PutsUntil, is_read_fault, is_write_fault}
 use Rattle.pcm_track.specs.Adding.{added, added_line, parts_in, two_tracks_bytes}
-use Rattle.pcm_track.proofs.Sinks.{none_front, puts_until, front_until, until_extends, line_end, puts_more_none}
+use Rattle.pcm_track.proofs.Sinks.{puts_until, front_until, until_extends, line_end}
+use Rattle.pw_outside.proofs.Puts.{front_none, puts_then_none}
 use Rattle.pcm_track.proofs.AddedRuns.{WasRead, added-bad, added-bad-sound, run-answer, run-out, run-front, run-text}
 use Rattle.pcm_track.proofs.Completing.{completes, none-failed, none-since, never}
 use Rattle.pcm_track.proofs.adding.add_run.Goals as goal
@@ -59,7 +60,7 @@ returns-in-Ok-write_movie-clause-out g c h i =
     } in
     let xs = c.in-Ok-plan_of.ensures.parts ∙ ap (λ p. parts_in m p) c.form.ensures in
     let moov = c.in-Ok-plan_of.ensures.moov ∙ ap (λ p. two_tracks_bytes m p) c.form.ensures in
-    puts_until c.finish.result _ _ _ (puts_more_none _ _ _ _ (run-out _ _ _ _ m s.form s.place c.in-Ok-plan_of.plan.parts.items c.in-Ok-plan_of.plan.moov _ _ r xs moov c.in-Ok-write_movie.ensures.ok h i) c.finish.ensures.out)
+    puts_until c.finish.result _ _ _ (puts_then_none (run-out _ _ _ _ m s.form s.place c.in-Ok-plan_of.plan.parts.items c.in-Ok-plan_of.plan.moov _ _ r xs moov c.in-Ok-write_movie.ensures.ok h i) c.finish.ensures.out)
 
 pub returns-in-Ok-write_movie-clause-text : goal.returns-in-Ok-write_movie-clause-text
 returns-in-Ok-write_movie-clause-text g c h i =
@@ -76,7 +77,7 @@ returns-in-Ok-write_movie-clause-text g c h i =
     (line ∙ run-text _ _ _ _ m s.form s.place r h i) c.finish.ensures.text
 
 pub returns-in-Ok-write_movie-clause-out_extends : goal.returns-in-Ok-write_movie-clause-out_extends
-returns-in-Ok-write_movie-clause-out_extends g c = (c.in-Ok-write_movie.ensures.ok.bytes, puts_more_none _ _ _ _ c.in-Ok-write_movie.ensures.ok.puts c.finish.ensures.out)
+returns-in-Ok-write_movie-clause-out_extends g c = (c.in-Ok-write_movie.ensures.ok.bytes, puts_then_none c.in-Ok-write_movie.ensures.ok.puts c.finish.ensures.out)
 
 pub returns-in-Ok-write_movie-clause-text_extends : goal.returns-in-Ok-write_movie-clause-text_extends
 returns-in-Ok-write_movie-clause-text_extends g c = until_extends c.finish.result _ _ _ c.finish.ensures.text
@@ -117,4 +118,4 @@ returns-clause-out g c h i =
 pub returns-clause-text : goal.returns-clause-text
 returns-clause-text g c h i =
     let few : g.K.ByteSink.taken c.args.text.now ≤ last = search rules in
-    front_until c.in-Err.end _ _ _ c.in-Err.ensures.not_done (none_front _ _ few)
+    front_until c.in-Err.end _ _ _ c.in-Err.ensures.not_done (front_none _ _ few)

@@ -1,5 +1,6 @@
 use Rattle.std.proofs.Common.{arith, ◌≤◌, ℕ, length, ap}
 use Rattle.std.proofs.lemmas.List.{length-map}
+use Rattle.qt_tables.specs.declared.tables.TheConstants.{MAX_SAMPLES}
 use Rattle.qt_tables.specs.Samples.{samples}
 use Rattle.qt_tables.specs.declared.runs.Sample.{Sample}
 use Rattle.pcm_track.specs.Adding.{first_place, picture_places}
@@ -10,7 +11,7 @@ use Rattle.pcm_track.proofs.plan.picture_track.Goals as goal
 pub picture_places-requires-clause-few : goal.picture_places-requires-clause-few
 picture_places-requires-clause-few c =
     let t = c.args.movie.now.tables in
-    let few : length (samples t) ≤ 1000000 = omega (arith, ap length c.requires.samples, c.requires.few) in
+    let few : length (samples t) ≤ MAX_SAMPLES = omega (arith, ap length c.requires.samples, c.requires.few) in
     omega (arith, ap length c.requires.parts, parts-of-few t.timescale c.args.pcm (samples t) few)
 
 pub returns-clause-fits : goal.returns-clause-fits

@@ -1,4 +1,5 @@
 use Rattle.std.proofs.Common.{arith, ◌≤◌, ℕ, length, ap, ◌∙◌}
+use Rattle.qt_tables.specs.declared.tables.TheConstants.{MAX_SAMPLES}
 use Rattle.qt_tables.specs.Samples.{samples}
 use Rattle.qt_tables.proofs.Again.{samples_counted}
 use Rattle.pcm_track.specs.Adding.{first_place, chunk_frames}
@@ -9,26 +10,26 @@ use Rattle.pcm_track.proofs.plan.sound_track.Goals as goal
 pub runs_of-requires : goal.runs_of-requires
 runs_of-requires c =
     let t = c.args.movie.now.tables in
-    let few : length (samples t) ≤ 1000000 = omega (arith, samples_counted t c.requires.tables, c.requires.tables.few_samples) in
+    let few : length (samples t) ≤ MAX_SAMPLES = omega (arith, samples_counted t c.requires.tables, c.requires.tables.few_samples) in
     omega (arith, ap length c.deref.ensures.value, ap length c.in_ok-frames.ensures, ap (λ l. length (chunk_frames l)) c.requires.parts, chunks-of-few t.timescale c.args.pcm (samples t) few)
 
 pub chunk_runs-requires : goal.chunk_runs-requires
 chunk_runs-requires c =
     let t = c.args.movie.now.tables in
-    let few : length (samples t) ≤ 1000000 = omega (arith, samples_counted t c.requires.tables, c.requires.tables.few_samples) in
+    let few : length (samples t) ≤ MAX_SAMPLES = omega (arith, samples_counted t c.requires.tables, c.requires.tables.few_samples) in
     let same = ap counted (c.deref-2.ensures.value ∙ c.in_ok-runs.ensures) in
     omega (arith, same, runs-counted c.deref.result.now, ap length c.deref.ensures.value, ap length c.in_ok-frames.ensures, ap (λ l. length (chunk_frames l)) c.requires.parts, chunks-of-few t.timescale c.args.pcm (samples t) few)
 
 pub sound_places-requires-clause-few : goal.sound_places-requires-clause-few
 sound_places-requires-clause-few c =
     let t = c.args.movie.now.tables in
-    let few : length (samples t) ≤ 1000000 = omega (arith, samples_counted t c.requires.tables, c.requires.tables.few_samples) in
+    let few : length (samples t) ≤ MAX_SAMPLES = omega (arith, samples_counted t c.requires.tables, c.requires.tables.few_samples) in
     omega (arith, ap length c.requires.parts, parts-of-few t.timescale c.args.pcm (samples t) few)
 
 pub returns-clause-fits : goal.returns-clause-fits
 returns-clause-fits c =
     let t = c.args.movie.now.tables in
-    let few : length (samples t) ≤ 1000000 = omega (arith, samples_counted t c.requires.tables, c.requires.tables.few_samples) in
+    let few : length (samples t) ≤ MAX_SAMPLES = omega (arith, samples_counted t c.requires.tables, c.requires.tables.few_samples) in
     let chunks = chunks-of-few t.timescale c.args.pcm (samples t) few in
     let parts = ap (λ l. length (chunk_frames l)) c.requires.parts in
     record {

@@ -6,7 +6,8 @@ use Rattle.pcm_track.specs.Ends.{AnswersUnlessOutside, PutsUntil, is_read_fault,
 use Rattle.pcm_track.specs.Writing.{sound_line}
 use Rattle.pcm_track.specs.Sounding.{sounded}
 use Rattle.pcm_track.proofs.Completing.{completes, never, none-failed, none-failed-since, none-since}
-use Rattle.pcm_track.proofs.Sinks.{none_front, puts_until, front_until, line_end, puts_more_none}
+use Rattle.pcm_track.proofs.Sinks.{puts_until, front_until, line_end}
+use Rattle.pw_outside.proofs.Puts.{front_none, puts_then_none}
 use Rattle.pcm_track.proofs.SoundedRuns.{sounded-bad, sounded-end, sounded-out, sounded-text}
 use Rattle.pcm_track.proofs.sounding.sound_run.Goals as goal
 
@@ -30,7 +31,7 @@ returns-in-Ok-write_wav-clause-out g c h =
     let ok = rw c.in-Ok.ensures.bytes at there in
     subst (λ l. PutsUntil c.finish.result l (sink_state (g.K.ByteSink.held c.args.out.now) (g.K.ByteSink.taken c.args.out.now)) (sink_state (g.K.ByteSink.held c.finish.new.out) (g.K.ByteSink.taken c.finish.new.out)))
     (sounded-out _ _ c.in-Ok-sound_of.sound.frames (value h) c.in-Ok-sound_of.ensures.frames)
-    (puts_until c.finish.result _ _ _ (puts_more_none _ _ _ _ (ok h) c.finish.ensures.out))
+    (puts_until c.finish.result _ _ _ (puts_then_none (ok h) c.finish.ensures.out))
 
 pub returns-in-Ok-write_wav-clause-text : goal.returns-in-Ok-write_wav-clause-text
 returns-in-Ok-write_wav-clause-text g c h =
@@ -59,7 +60,7 @@ returns-clause-out g c h =
 pub returns-clause-text : goal.returns-clause-text
 returns-clause-text g c h =
     let few : g.K.ByteSink.taken c.args.text.now ≤ last = search rules in
-    front_until c.in-Err.end _ _ _ c.in-Err.ensures.not_done (none_front _ _ few)
+    front_until c.in-Err.end _ _ _ c.in-Err.ensures.not_done (front_none _ _ few)
 
 pub returns-in-Err-Bad-clause-complete : goal.returns-in-Err-Bad-clause-complete
 returns-in-Err-Bad-clause-complete g c h rm ro rt = completes _ _ (returns-in-Err-Bad-clause-answer g c h) (λ e. absurd cc) (λ e. absurd cc)

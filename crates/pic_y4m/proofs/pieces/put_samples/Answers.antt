@@ -1,10 +1,11 @@
 use Rattle.std.proofs.Common.{arith, ◌∙◌}
-use Rattle.pic_y4m.proofs.Written.{err-any, piece-more, piece-part}
+use Rattle.pw_outside.proofs.Results.{any_err}
+use Rattle.pic_y4m.proofs.Written.{piece-more, piece-part}
 use Rattle.pic_y4m.proofs.pieces.put_samples.Goals as goal
 
 pub returns-in_err-put_piece-clause-err : goal.returns-in_err-put_piece-clause-err
 returns-in_err-put_piece-clause-err g c =
-    err-any c.from_residual.result (piece-part c.args.size c.args.samples.now c.loop-at.at c.min-count.result c.loop-at.invariant.puts c.in_err-put_piece.ensures.err)
+    any_err c.from_residual.result (piece-part c.args.size c.args.samples.now c.loop-at.at c.min-count.result c.loop-at.invariant.puts c.in_err-put_piece.ensures.err)
 
 pub loop-at-preserved : goal.loop-at-preserved
 loop-at-preserved g c =

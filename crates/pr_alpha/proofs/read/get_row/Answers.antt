@@ -1,7 +1,8 @@
 use Rattle.std.proofs.Common.{◌+◌, ◌∙◌, Ok, ap, sym, arith}
+use Rattle.std.proofs.lemmas.Result.{IfOk-weaker, IfErr-weaker}
 use Rattle.pw_bits.specs.Reading.{unread}
 use Rattle.pr_alpha.specs.Reading.{Fault, Found, value_behind, run_at, step_behind}
-use Rattle.pr_alpha.proofs.ReadLemmas.{fault_whole, past_is, step_fails, step_last, step_run, step_past, step_run_fails, if_ok_weaker, if_err_weaker}
+use Rattle.pr_alpha.proofs.ReadLemmas.{fault_whole, past_is, step_fails, step_last, step_run, step_past, step_run_fails}
 use Rattle.pr_alpha.proofs.read.get_row.Goals as goal
 
 pub returns-in-Err-clause-fault : goal.returns-in-Err-clause-fault
@@ -20,7 +21,7 @@ returns-in-Ok-get_run-clause-value g c =
     let l = unread c.args.reader.now (g.S.ByteSource.left c.args.source.now) in
     let m = unread c.get_value.new.reader (g.S.ByteSource.left c.get_value.new.source) in
     let rest = unread c.get_run.new.reader (g.S.ByteSource.left c.get_run.new.source) in
-    if_ok_weaker c.row_of.result (λ r is told.
+    IfOk-weaker c.row_of.result _ _ (λ r is told.
     step_run c.args.bits c.args.before c.args.wanting c.args.long l c.in-Ok.value c.in-Ok-get_run.run' m rest (c.in-Ok.ensures.value told) (omega arith) (c.in-Ok-get_run.ensures.value (c.in-Ok.ensures.told told)) is.2
     ∙ ap (λ v. Ok (let f : Found = record { value = v; count = c.in-Ok-get_run.run' + 1; rest = rest } in f)) (sym is.0)
     ∙ ap (λ k. Ok (let f : Found = record { value = r.value; count = k; rest = rest } in f)) (sym is.1)) c.row_of.ensures.value
@@ -30,7 +31,7 @@ returns-in-Ok-get_run-clause-fault g c =
     let l = unread c.args.reader.now (g.S.ByteSource.left c.args.source.now) in
     let m = unread c.get_value.new.reader (g.S.ByteSource.left c.get_value.new.source) in
     let rest = unread c.get_run.new.reader (g.S.ByteSource.left c.get_run.new.source) in
-    if_err_weaker c.row_of.result (λ e is told.
+    IfErr-weaker c.row_of.result _ _ (λ e is told.
     past_is e (step_behind c.args.bits c.args.before c.args.wanting c.args.long l) is.0
     (step_past c.args.bits c.args.before c.args.wanting c.args.long l c.in-Ok.value c.in-Ok-get_run.run' m rest (c.in-Ok.ensures.value told) (omega arith) (c.in-Ok-get_run.ensures.value (c.in-Ok.ensures.told told)) is.1)) c.row_of.ensures.fault
 

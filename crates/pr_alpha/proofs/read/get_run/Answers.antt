@@ -1,7 +1,8 @@
 use Rattle.std.proofs.Common.{◌≡◌, ◌∷◌, ◌∙◌, Ok, false, ap, arith}
+use Rattle.std.proofs.lemmas.Result.{IfOk-weaker, IfErr-weaker}
 use Rattle.pw_bits.specs.Reading.{unread}
 use Rattle.pr_alpha.specs.Reading.{number_at, run_at}
-use Rattle.pr_alpha.proofs.ReadLemmas.{fault_whole, end_whole, run_none, run_end, run_brief, run_wide, run_fails, if_ok_weaker, if_err_weaker}
+use Rattle.pr_alpha.proofs.ReadLemmas.{fault_whole, end_whole, run_none, run_end, run_brief, run_wide, run_fails}
 use Rattle.pr_alpha.proofs.read.get_run.Goals as goal
 
 pub returns-in-Ok-true-clause-value : goal.returns-in-Ok-true-clause-value
@@ -19,7 +20,7 @@ returns-in-Ok-eq0-clause-value g c =
     let l = unread c.args.reader.now (g.S.ByteSource.left c.args.source.now) in
     let m = unread c.get_bit.new.reader (g.S.ByteSource.left c.get_bit.new.source) in
     let rest = unread c.get_number.new.reader (g.S.ByteSource.left c.get_number.new.source) in
-    if_ok_weaker c.get_number-in-Ok-eq0.result (λ k is told.
+    IfOk-weaker c.get_number-in-Ok-eq0.result _ _ (λ k is told.
     let first : l ≡ false ∷ m = c.in-Ok-false.ensures.value told ∙ ap (λ b. b ∷ m) c.in-Ok-false.field-0-test in
     let zero4 : c.in-Ok-eq0.field-0 ≡ 0 = omega arith in
     run_wide l m rest first (c.in-Ok-eq0.ensures.value (c.in-Ok-false.ensures.told told) ∙ ap (λ k. Ok (k, rest)) zero4)
@@ -30,7 +31,7 @@ returns-in-Ok-eq0-clause-fault g c =
     let l = unread c.args.reader.now (g.S.ByteSource.left c.args.source.now) in
     let m = unread c.get_bit.new.reader (g.S.ByteSource.left c.get_bit.new.source) in
     let rest = unread c.get_number.new.reader (g.S.ByteSource.left c.get_number.new.source) in
-    if_err_weaker c.get_number-in-Ok-eq0.result (λ e is told.
+    IfErr-weaker c.get_number-in-Ok-eq0.result _ _ (λ e is told.
     let first : l ≡ false ∷ m = c.in-Ok-false.ensures.value told ∙ ap (λ b. b ∷ m) c.in-Ok-false.field-0-test in
     let zero4 : c.in-Ok-eq0.field-0 ≡ 0 = omega arith in
     fault_whole e (number_at 11 rest) (run_at l)

@@ -1,7 +1,7 @@
 use Rattle.std.proofs.Common.{◌≡◌, ◌+◌, ◌-◌, ◌<◌, ◌++◌, ◌∷◌, [], length, replicate, Ok, arith, refl, sym, ap, ◌∙◌, subst, length-append}
 use Rattle.std.proofs.lemmas.List.{take_all, length-replicate}
 use Rattle.pw_bits.specs.Reading.{unread}
-use Rattle.pw_bits.proofs.ReadingLemmas.{Lowers-trans, Lowers-same}
+use Rattle.pw_outside.proofs.Loops.{Lowers-then, Lowers-same}
 use Rattle.pr_alpha.specs.Alpha.{greatest, AreBelow}
 use Rattle.pr_alpha.specs.Reading.{Fault, wanting, step_behind, step_at, values_at}
 use Rattle.pr_alpha.proofs.ReadLemmas.{with_front, with_front-nil, rows_read, values_fail, values_end, fault_whole, end_whole, set_front, below_more, below_none}
@@ -118,7 +118,7 @@ rows-preserved g c =
           rows_read n (length c.rows.values) c.args.bits c.rows.last row.value c.rows.done row.count inv.turns c.rows.long inv.front l rest start inv.same inv.inside inv.enough (inv.reads told) (c.in-Ok.ensures.value (inv.told told))
           ∙ ap (λ r. with_front (inv.front ++ more) (values_at (inv.turns - 1) c.args.bits row.value (n - end) r)) (c.in-Ok-get_bit.ensures.value (c.in-Ok.ensures.told (inv.told told)));
       becomes = λ first h. c.in-Ok-get_bit.ensures.becomes first (c.in-Ok.ensures.becomes first (inv.becomes first h));
-      most = Lowers-trans (g.S.ByteSource.most c.args.source.now) (g.S.ByteSource.most c.get_row.new.source) (g.S.ByteSource.most c.get_bit.new.source) 0 0
-          (Lowers-trans (g.S.ByteSource.most c.args.source.now) (g.S.ByteSource.most c.rows.source) (g.S.ByteSource.most c.get_row.new.source) 0 0 inv.most c.in-Ok.ensures.most) c.in-Ok-get_bit.ensures.most;
+      most = Lowers-then (g.S.ByteSource.most c.args.source.now) (g.S.ByteSource.most c.get_row.new.source) (g.S.ByteSource.most c.get_bit.new.source) 0 0
+          (Lowers-then (g.S.ByteSource.most c.args.source.now) (g.S.ByteSource.most c.rows.source) (g.S.ByteSource.most c.get_row.new.source) 0 0 inv.most c.in-Ok.ensures.most) c.in-Ok-get_bit.ensures.most;
       kept = c.in-Ok-get_bit.ensures.cause.kept ∙ c.in-Ok.ensures.cause.kept ∙ inv.kept;
     }

@@ -3,7 +3,7 @@ use Rattle.std.proofs.lemmas.Result.{on_ok_weaker, on_err_weaker}
 use Rattle.pw_bits.specs.Writing.{written, Writes, Begins}
 use Rattle.pw_bits.proofs.WritingLemmas.{Writes-Writes, Begins-first, Begins-second}
 use Rattle.pr_alpha.specs.Alpha.{row_words, run_word, run_of}
-use Rattle.pr_alpha.proofs.CodingLemmas.{any_err}
+use Rattle.pw_outside.proofs.Results.{any_err}
 use Rattle.pr_alpha.proofs.write.put_row.Goals as goal
 
 pub returns-in_err-bits-clause-err : goal.returns-in_err-bits-clause-err

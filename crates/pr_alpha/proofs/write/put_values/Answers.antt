@@ -3,7 +3,8 @@ use Rattle.std.proofs.lemmas.List.{take_all, take_more}
 use Rattle.pw_bits.specs.Writing.{written, Begins}
 use Rattle.pw_bits.proofs.WritingLemmas.{Writes-nil, Writes-Writes, Writes-short}
 use Rattle.pr_alpha.specs.inner.Writing.{words_behind, Codes}
-use Rattle.pr_alpha.proofs.CodingLemmas.{any_err, Codes-nil, Codes-Codes, cut_values, value_cut}
+use Rattle.pw_outside.proofs.Results.{any_err}
+use Rattle.pr_alpha.proofs.CodingLemmas.{Codes-nil, Codes-Codes, cut_values, value_cut}
 use Rattle.pr_alpha.proofs.write.put_values.Goals as goal
 
 pub loop-value-init : goal.loop-value-init

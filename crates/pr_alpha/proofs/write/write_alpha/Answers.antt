@@ -6,7 +6,9 @@ use Rattle.pw_bits.specs.Bits.{bytes, padding}
 use Rattle.pw_bits.specs.Writing.{Writer, written, Writes, Begins}
 use Rattle.pw_bits.proofs.WritingLemmas.{Writes-Writes, Writes-padded, Begins-first, Begins-second}
 use Rattle.pr_alpha.specs.Alpha.{spelling, alpha, row_words}
-use Rattle.pr_alpha.proofs.CodingLemmas.{row, words_all, words_first, any_err, padding_behind, front_of, all_of}
+use Rattle.pw_bits.proofs.Written.{padding_after, front_of, all_of}
+use Rattle.pw_outside.proofs.Results.{any_err}
+use Rattle.pr_alpha.proofs.CodingLemmas.{row, words_all, words_first}
 use Rattle.pr_alpha.proofs.write.write_alpha.Goals as goal
 
 pub returns-in_err-put_values-clause-err : goal.returns-in_err-put_values-clause-err
@@ -69,4 +71,4 @@ returns-clause-err g c =
     let both : Writes before w2 (spelling n vs) = subst (Writes before w2) all (Writes-Writes first.2 c.in_ok-put_row.ensures.ok) in
     let w3 = written (g.K.ByteSink.held c.pad.new.sink) (g.K.ByteSink.taken c.pad.new.sink) c.pad.new.self.pending in
     on_err_weaker c.pad.result (λ b. front_of {before = before} {after = w3} (spelling n vs) (Begins-second both b) none
-    (ap (λ p. spelling n vs ++ p) (padding_behind both none))) c.pad.ensures.err
+    (ap (λ p. spelling n vs ++ p) (padding_after both none))) c.pad.ensures.err

@@ -1,6 +1,6 @@
 use Rattle.std.proofs.Common.{◌≡◌, ◌+◌, ◌-◌, ◌*◌, ◌≤◌, ◌++◌, ◌∷◌, [], pos, nat_abs, length, replicate, set, false, arith, refl, sym, ap, ◌∙◌, subst, length-append}
 use Rattle.pw_bits.specs.Reading.{unread}
-use Rattle.pw_bits.proofs.ReadingLemmas.{Lowers-trans}
+use Rattle.pw_outside.proofs.Loops.{Lowers-then}
 use Rattle.pr_coeff.specs.Component.{places, listed}
 use Rattle.pr_coeff.proofs.CodingLemmas.{kept_value}
 use Rattle.pr_coeff.proofs.SetLemmas.{put_at}
@@ -77,6 +77,6 @@ loop-index-preserved g c =
           ∙ ap (λ m. with_front (inv.ds ++ v ∷ []) (firsts_at m v u.negative u.code now)) (let e : n - i - 1 ≡ n - (i + 1) = omega arith in e)
           ∙ ap (λ x. with_front (inv.ds ++ v ∷ []) (firsts_at (n - (i + 1)) x u.negative u.code now)) (sym last.0);
       becomes = λ first h. c.in-Ok-get_difference.ensures.becomes first (inv.becomes first h);
-      most = Lowers-trans (g.S.ByteSource.most c.args.source.now) (g.S.ByteSource.most c.loop-index.source) (g.S.ByteSource.most c.get_difference.new.source) 0 0 inv.most c.in-Ok-get_difference.ensures.most;
+      most = Lowers-then (g.S.ByteSource.most c.args.source.now) (g.S.ByteSource.most c.loop-index.source) (g.S.ByteSource.most c.get_difference.new.source) 0 0 inv.most c.in-Ok-get_difference.ensures.most;
       kept = c.in-Ok-get_difference.ensures.cause.kept ∙ inv.kept;
     }

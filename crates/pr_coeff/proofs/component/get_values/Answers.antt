@@ -2,7 +2,8 @@ use Rattle.std.proofs.Common.{◌≡◌, suc, ◌+◌, ◌-◌, ◌*◌, ◌<◌
 use mir.Val.{to_z, of_z}
 use mir.Syntax.{w16}
 use Rattle.pw_bits.specs.Reading.{unread}
-use Rattle.pw_bits.proofs.ReadingLemmas.{Lowers-trans, Lowers-same, told-bound}
+use Rattle.pw_outside.proofs.Loops.{Lowers-then, Lowers-same}
+use Rattle.pw_bits.proofs.ReadingLemmas.{told-bound}
 use Rattle.pr_coeff.specs.Component.{places, listed}
 use Rattle.pr_coeff.proofs.CodingLemmas.{kept_value}
 use Rattle.pr_coeff.proofs.SetLemmas.{put_at}
@@ -81,7 +82,7 @@ triples-preserved g c =
           ∙ ap (λ m. values_front (inv.front ++ more) (values_at (inv.turns - 1) m t.run (suc t.level) now)) behind
           ∙ ap (λ m. values_front (inv.front ++ more) (values_at (inv.turns - 1) (room - (t.run + 1)) t.run m now)) (let e : suc t.level ≡ t.level + 1 = omega arith in e);
       becomes = λ first h. c.in-Ok-Some.ensures.becomes first (inv.becomes first h);
-      most = Lowers-trans (g.S.ByteSource.most c.args.source.now) (g.S.ByteSource.most c.triples.source) (g.S.ByteSource.most c.get_triple.new.source) 0 0 inv.most c.in-Ok-Some.ensures.most;
+      most = Lowers-then (g.S.ByteSource.most c.args.source.now) (g.S.ByteSource.most c.triples.source) (g.S.ByteSource.most c.get_triple.new.source) 0 0 inv.most c.in-Ok-Some.ensures.most;
       kept = c.in-Ok-Some.ensures.cause.kept ∙ inv.kept;
     }
 

@@ -1,11 +1,12 @@
 use Rattle.std.proofs.Common.{◌≡◌, ◌+◌, ◌*◌, ◌++◌, pos, length, replicate, arith, refl, sym, ap, ◌∙◌, Ok, IsSome}
+use Rattle.std.proofs.lemmas.Result.{IfErr-weaker}
 use Rattle.pw_outside.specs.Reading.{bytes_of}
 use Rattle.pw_bits.specs.Bits.{bits}
 use Rattle.pw_bits.specs.Reading.{unread}
 use Rattle.pr_coeff.specs.Component.{places}
 use Rattle.pr_coeff.specs.Reading.{all_firsts_at, values_at, component_at}
 use Rattle.pr_coeff.proofs.FirstLemmas.{fault_whole}
-use Rattle.pr_coeff.proofs.WholeLemmas.{scan_of, component_found, whole_is, firsts_fail, values_fail, on_ok_two, if_err_weaker}
+use Rattle.pr_coeff.proofs.WholeLemmas.{scan_of, component_found, whole_is, firsts_fail, values_fail, on_ok_two}
 use Rattle.pr_coeff.proofs.component.read_component.Goals as goal
 
 pub returns-in-Ok-clause-stands : goal.returns-in-Ok-clause-stands
@@ -34,7 +35,7 @@ returns-in-Ok-clause-fault g c =
     let size : length c.get_firsts.new.blocks ≡ n = omega arith in
     let firsts : IsSome (g.S.ByteSource.left c.args.source.now) → all_firsts_at n l ≡ Ok (first.0, l1) = λ told.
     ap (λ m. all_firsts_at m l) (sym size) ∙ ap (λ k. all_firsts_at (length c.get_firsts.new.blocks) (unread k (g.S.ByteSource.left c.args.source.now))) (sym c.new-reader.ensures) ∙ first.3 told in
-    if_err_weaker c.get_values.result (λ e f told.
+    IfErr-weaker c.get_values.result _ _ (λ e f told.
     fault_whole e (values_at (63 * n + 1) (63 * n) 4 2 l1) (component_at n scan l) (λ x p. values_fail scan n l first.0 l1 x (firsts told) p) (f (c.in-Ok.ensures.told told))) c.get_values.ensures.fault
 
 pub returns-in-Err-clause-fault : goal.returns-in-Err-clause-fault

@@ -6,7 +6,8 @@ use mir.Val.{to_z, of_z}
 use mir.Syntax.{w16}
 use Rattle.pr_codes.specs.Words.{word, book}
 use Rattle.pr_coeff.specs.Component.{AllSmall, column, folded, dc_words}
-use Rattle.pr_coeff.proofs.CodingLemmas.{any_err, all_first, column_drop, kept_value, small_at}
+use Rattle.pw_outside.proofs.Results.{any_err}
+use Rattle.pr_coeff.proofs.CodingLemmas.{all_first, column_drop, kept_value, small_at}
 use Rattle.pr_coeff.proofs.write.put_all_first.Goals as goal
 
 pub returns-in_err-put_first-clause-err : goal.returns-in_err-put_first-clause-err

@@ -10,7 +10,8 @@ use Rattle.pr_codes.specs.Words.{word}
 use Rattle.pr_coeff.specs.inner.Writing.{CodesDc}
 use Rattle.pr_coeff.specs.declared.write.Differences.{Differences}
 use Rattle.pr_coeff.proofs.WovenLemmas.{length-column}
-use Rattle.pr_coeff.proofs.CodingLemmas.{any_err, CodesDc-nil, CodesDc-more, CodesDc-all, cut_differences, column_more, column_cut, kept_value, small_at}
+use Rattle.pw_outside.proofs.Results.{any_err}
+use Rattle.pr_coeff.proofs.CodingLemmas.{CodesDc-nil, CodesDc-more, CodesDc-all, cut_differences, column_more, column_cut, kept_value, small_at}
 use Rattle.pr_coeff.proofs.write.put_differences.Goals as goal
 
 pub loop-block-init : goal.loop-block-init

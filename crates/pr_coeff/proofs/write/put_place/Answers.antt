@@ -3,7 +3,8 @@ use Rattle.pw_bits.specs.Writing.{written, Begins}
 use Rattle.pw_bits.proofs.WritingLemmas.{Writes-nil, Writes-short, Writes-Writes}
 use Rattle.pr_coeff.specs.Component.{column, ac_words}
 use Rattle.pr_coeff.specs.inner.Writing.{Codes}
-use Rattle.pr_coeff.proofs.CodingLemmas.{any_err, Codes-nil, Codes-Codes, cut_values, column_more, column_split, kept_value, small_at}
+use Rattle.pw_outside.proofs.Results.{any_err}
+use Rattle.pr_coeff.proofs.CodingLemmas.{Codes-nil, Codes-Codes, cut_values, column_more, column_split, kept_value, small_at}
 use Rattle.pr_coeff.proofs.write.put_place.Goals as goal
 
 pub loop-block-init : goal.loop-block-init

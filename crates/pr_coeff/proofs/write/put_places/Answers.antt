@@ -6,7 +6,8 @@ use Rattle.pr_coeff.specs.Component.{column, listed, ac_words}
 use Rattle.pr_coeff.specs.inner.Writing.{Codes}
 use Rattle.pr_coeff.specs.declared.write.Coding.{Coding}
 use Rattle.pr_coeff.proofs.WovenLemmas.{column_small}
-use Rattle.pr_coeff.proofs.CodingLemmas.{any_err, Codes-nil, Codes-Codes, Codes-all, cut_values, listed_more, listed_cut}
+use Rattle.pw_outside.proofs.Results.{any_err}
+use Rattle.pr_coeff.proofs.CodingLemmas.{Codes-nil, Codes-Codes, Codes-all, cut_values, listed_more, listed_cut}
 use Rattle.pr_coeff.proofs.write.put_places.Goals as goal
 
 pub loop-place-init : goal.loop-place-init

@@ -5,7 +5,8 @@ use Rattle.pw_bits.specs.Bits.{bits_of}
 use Rattle.pw_bits.specs.Writing.{written, Writes, Begins}
 use Rattle.pw_bits.proofs.WritingLemmas.{Writes-Writes, Begins-first, Begins-second}
 use Rattle.pr_codes.specs.Words.{word}
-use Rattle.pr_coeff.proofs.CodingLemmas.{words_are, any_err}
+use Rattle.pw_outside.proofs.Results.{any_err}
+use Rattle.pr_coeff.proofs.CodingLemmas.{words_are}
 use Rattle.pr_coeff.proofs.write.put_triple.Goals as goal
 
 pub returns-in_err-put_code-clause-err : goal.returns-in_err-put_code-clause-err

@@ -9,7 +9,9 @@ use Rattle.pw_outside.specs.Ports.{taken_more}
 use Rattle.pr_coeff.specs.Component.{places, column, listed, all_dc_words, ac_words, spelling, component}
 use Rattle.pr_coeff.proofs.WovenLemmas.{column_small}
 use Rattle.pr_coeff.proofs.WholeLemmas.{scan_of, places_inside}
-use Rattle.pr_coeff.proofs.CodingLemmas.{any_err, padding_behind, front_of, all_of, three_parts}
+use Rattle.pw_bits.proofs.Written.{padding_after, front_of, all_of}
+use Rattle.pw_outside.proofs.Results.{any_err}
+use Rattle.pr_coeff.proofs.CodingLemmas.{three_parts}
 use Rattle.pr_coeff.proofs.write.write_component.Goals as goal
 
 pub put_all_first-requires-clause-small : goal.put_all_first-requires-clause-small
@@ -83,4 +85,4 @@ returns-clause-err g c =
     let both : Writes before w2 (dc ++ ac) = Writes-Writes c.in_ok-put_all_first.ensures.ok second in
     let w3 = written (g.K.ByteSink.held c.pad.new.sink) (g.K.ByteSink.taken c.pad.new.sink) c.pad.new.self.pending in
     on_err_weaker c.pad.result (λ b. front_of {before = before} {after = w3} (dc ++ ac) (Begins-second both b) none
-    (ap (λ p. (dc ++ ac) ++ p) (padding_behind both none))) c.pad.ensures.err
+    (ap (λ p. (dc ++ ac) ++ p) (padding_after both none))) c.pad.ensures.err

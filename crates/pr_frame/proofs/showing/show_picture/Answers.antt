@@ -7,11 +7,11 @@ use Rattle.pr_frame.specs.declared.coded.CodedPicture.{CodedPicture}
 use Rattle.pr_frame.specs.Forms.{places_in}
 use Rattle.pr_frame.specs.Coded.{IsCodedPicture}
 use Rattle.pr_frame.specs.Reading.{ahead, coded_slices_at}
-use Rattle.pr_frame.specs.inner.Screen.{AreSlicesOf}
+use Rattle.pr_frame.specs.inner.Output.{AreSlicesOf}
 use Rattle.pr_frame.proofs.Rests.{picture-rest, table-rest}
 use Rattle.pr_head.proofs.Passing.{ahead-ahead}
 use Rattle.pr_frame.proofs.PictureSteps.{slices-rest, layout-places, layout-count, picture-fails, table-fails, slices-fails, picture-value, behind-table, picture-end, enough-table, enough-slices}
-use Rattle.pr_frame.proofs.ShowSteps.{layout_allowed, screen_written}
+use Rattle.pr_frame.proofs.ShowSteps.{layout_allowed, output_written}
 use Rattle.pr_frame.proofs.showing.show_picture.Goals as goal
 
 pub returns-in_err-picture-clause-found : goal.returns-in_err-picture-clause-found
@@ -35,9 +35,9 @@ returns-in_err-sizes-clause-found g c =
     let e1 = enough-table F s t1 r (enough h) c.in_ok-picture.ensures.within (picture-rest F hd s r t1 head).1 in
     table-fails F hd s r t1 head fault (subst (λ n. Fails told_fault fault (table_at r n t1)) count ((c.in_err-sizes.ensures.bytes (λ k. e1)).answer (first.told h))))
 
-pub returns-in_err-screen-clause-found : goal.returns-in_err-screen-clause-found
-returns-in_err-screen-clause-found g c =
-    let p = err_from_is_err_and c.from_residual-in_err-screen.result c.from_residual-in_err-screen.ensures.1 in
+pub returns-in_err-output-clause-found : goal.returns-in_err-output-clause-found
+returns-in_err-output-clause-found g c =
+    let p = err_from_is_err_and c.from_residual-in_err-output.result c.from_residual-in_err-output.ensures.1 in
     let F = c.args.frame in
     let hd = c.args.header.now in
     let r = c.in_ok-picture.picture in
@@ -48,7 +48,7 @@ returns-in_err-screen-clause-found g c =
     let l = c.in_ok-picture.layout in
     let is = c.in_ok-picture.ensures.layout in
     let count : c.slices.result ≡ slices_in hd r = c.slices.ensures.value ∙ layout-count l hd r is in
-    let fault = c.in_err-screen.field-0.0 in
+    let fault = c.in_err-output.field-0.0 in
     let same : c.deref.result.now ≡ sizes = c.deref.ensures.value in
     rw (p.1, p.2) (λ enough h.
     let first = c.in_ok-picture.ensures.bytes enough in
@@ -58,7 +58,7 @@ returns-in_err-screen-clause-found g c =
     let table0 = second.answer (first.told h) in
     let table = subst (λ n. table_at r n t1 ≡ Ok (sizes, t2)) count table0 in
     let e2 : sum sizes ≤ length t2.bytes = enough-slices r t1 t2 sizes c.slices.result e1 (table-rest r c.slices.result t1 sizes t2 table0).1 c.in_ok-sizes.ensures.count c.in_ok-sizes.ensures.within in
-    let failed = c.in_err-screen.ensures.found (λ k. subst (λ zs. sum zs ≤ length t2.bytes) (sym same) e2) (second.told (first.told h)) in
+    let failed = c.in_err-output.ensures.found (λ k. subst (λ zs. sum zs ≤ length t2.bytes) (sym same) e2) (second.told (first.told h)) in
     slices-fails F hd s r t1 head sizes t2 table fault
     (subst (λ zs. Fails told_fault fault (coded_slices_at hd (places_in hd r.log2) zs t2)) same (subst (λ ps. Fails told_fault fault (coded_slices_at hd ps c.deref.result.now t2)) (layout-places l hd r.log2 is) failed)))
 
@@ -77,12 +77,12 @@ returns-clause-found g c =
     let is = c.in_ok-picture.ensures.layout in
     let count : c.slices.result ≡ slices_in hd r = c.slices.ensures.value ∙ layout-count l hd r is in
     let same : c.deref.result.now ≡ sizes = c.deref.ensures.value in
-    let xs = c.in_ok-screen.ensures.found.0 in
+    let xs = c.in_ok-output.ensures.found.0 in
     let x : CodedPicture = record { log2 = r.log2; slices = xs } in
-    let put = subst (λ ps. AreSlicesOf hd c.args.depth ps c.in_ok-screen.screen xs) (layout-places l hd r.log2 is) c.in_ok-screen.ensures.found.1 in
+    let put = subst (λ ps. AreSlicesOf hd c.args.depth ps c.in_ok-output.output xs) (layout-places l hd r.log2 is) c.in_ok-output.ensures.found.1 in
     let coded : IsCodedPicture hd x = record { layout = layout_allowed l hd r.log2 is; slices = put.coded } in (
       x,
-      record { coded = coded; is = put.is ∙ screen_written hd c.args.depth x coded },
+      record { coded = coded; is = put.is ∙ output_written hd c.args.depth x coded },
       λ enough h.
           let first = c.in_ok-picture.ensures.bytes enough in
           let head = first.answer h in
@@ -92,7 +92,7 @@ returns-clause-found g c =
           let told2 = second.told (first.told h) in
           let e2 : sum sizes ≤ length t2.bytes = enough-slices r t1 t2 sizes c.slices.result e1 (table-rest r c.slices.result t1 sizes t2 table0).1 c.in_ok-sizes.ensures.count c.in_ok-sizes.ensures.within in
           let e3 : sum c.deref.result.now ≤ length t2.bytes = subst (λ zs. sum zs ≤ length t2.bytes) (sym same) e2 in
-          let third = c.in_ok-screen.ensures.found.2 (λ k. e3) told2 in
+          let third = c.in_ok-output.ensures.found.2 (λ k. e3) told2 in
           let table = subst (λ n. table_at r n t1 ≡ Ok (sizes, t2)) count table0 in
           let read : coded_slices_at hd (places_in hd r.log2) sizes t2 ≡ Ok (xs, t3) =
           subst (λ zs. coded_slices_at hd (places_in hd r.log2) zs t2 ≡ Ok (xs, t3)) same (subst (λ ps. coded_slices_at hd ps c.deref.result.now t2 ≡ Ok (xs, t3)) (layout-places l hd r.log2 is) third.1) in

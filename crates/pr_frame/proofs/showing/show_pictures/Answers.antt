@@ -35,13 +35,13 @@ returns-in_err-second-clause-found g c =
     let a = picture-ahead F hd s first.0 t read.1 in
     second_fails F hd s first.0 t read.1 hd.interlace two c.in_err-second.field-0.0 (c.in_err-second.ensures.found (λ k. end-kept F a.0 s t a.1 (enough h)) read.0))
 
-pub whole_screen-requires-clause-first : goal.whole_screen-requires-clause-first
-whole_screen-requires-clause-first g c =
+pub whole_output-requires-clause-first : goal.whole_output-requires-clause-first
+whole_output-requires-clause-first g c =
     let found = c.in_ok-first.ensures.found in
     field_size c.args.header.now c.args.depth c.in_ok-first.first found.0 found.1.is
 
-pub whole_screen-requires-clause-second : goal.whole_screen-requires-clause-second
-whole_screen-requires-clause-second g c =
+pub whole_output-requires-clause-second : goal.whole_output-requires-clause-second
+whole_output-requires-clause-second g c =
     let found = c.in_ok-second.ensures.found in
     field_size c.args.header.now c.args.depth c.in_ok-second.second found.0 found.1.is
 
@@ -57,10 +57,10 @@ returns-clause-found g c =
     let two : hd.interlace ≡ Progressive → ⊥ = search (rules, c.if-eq.ensures) in
     let first = c.in_ok-first.ensures.found in
     let second = c.in_ok-second.ensures.found in
-    woven_found hd c.args.depth F c.whole_screen.result c.in_ok-first.first c.in_ok-second.second first.0 second.0 _ left new c.args.place.now c.show_picture-2.new.place two first.1 second.1
+    woven_found hd c.args.depth F c.whole_output.result c.in_ok-first.first c.in_ok-second.second first.0 second.0 _ left new c.args.place.now c.show_picture-2.new.place two first.1 second.1
     (λ enough h.
     let read = first.2 enough h in
     let a = picture-ahead F hd s first.0 t read.1 in
     let behind = second.2 (λ k. end-kept F a.0 s t a.1 (enough h)) read.0 in
     (behind.0, read_two F hd s first.0 t read.1 second.0 u behind.1 hd.interlace two))
-    c.whole_screen.ensures.value c.whole_screen.ensures.error
+    c.whole_output.ensures.value c.whole_output.ensures.error

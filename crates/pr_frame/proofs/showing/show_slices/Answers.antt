@@ -15,7 +15,7 @@ loop-number-init g c = record {
   place = omega arith;
   told = λ e h. h;
   more = λ e h. e h;
-  put = put_none c.args.header.now c.args.depth (slices_of c.args.layout.now) c.args.sizes.now c.in_ok-screen.screen _ (rest_of c.args.place.now (g.S.ByteSource.left c.args.source.now)) c.in_ok-screen.ensures.value;
+  put = put_none c.args.header.now c.args.depth (slices_of c.args.layout.now) c.args.sizes.now c.in_ok-output.output _ (rest_of c.args.place.now (g.S.ByteSource.left c.args.source.now)) c.in_ok-output.ensures.value;
   most = lowers_same _;
   becomes = λ first h. h;
   cause = refl;
@@ -29,7 +29,7 @@ read_slice-requires-clause-room g c =
 pub put_slice-requires-clause-alpha : goal.put_slice-requires-clause-alpha
 put_slice-requires-clause-alpha g c =
     let i = c.loop-number.invariant in
-    has_alpha_put c.args.header.now c.args.depth (slices_of c.args.layout.now) i.put.front c.loop-number.screen i.put.is
+    has_alpha_put c.args.header.now c.args.depth (slices_of c.args.layout.now) i.put.front c.loop-number.output i.put.is
 
 pub returns-in_err-slice-clause-found : goal.returns-in_err-slice-clause-found
 returns-in_err-slice-clause-found g c =
@@ -58,7 +58,7 @@ loop-number-preserved g c =
       place = omega (arith, i.place, step, c.in_ok-slice.ensures.place);
       told = λ e h. (c.in_ok-slice.ensures.bytes (λ k. omega (arith, i.more e h, step))).told (i.told e h);
       more = λ e h. omega (arith, i.more e h, step, ahead-length size s t (coded-rest c.args.header.now c.slice-spot.result size s x t ((c.in_ok-slice.ensures.bytes (λ k. omega (arith, i.more e h, step))).answer (i.told e h))));
-      put = put_more c.args.header.now c.args.depth places c.args.sizes.now n c.loop-number.screen _ _ s t _ c.slice-spot.result size x in_places lt c.slice-spot.ensures.value refl
+      put = put_more c.args.header.now c.args.depth places c.args.sizes.now n c.loop-number.output _ _ s t _ c.slice-spot.result size x in_places lt c.slice-spot.ensures.value refl
           c.in_ok-slice.ensures.slice c.put_slice.ensures (λ a. (c.in_ok-slice.ensures.bytes (λ k. omega (arith, i.more a.0 a.1, step))).answer (i.told a.0 a.1)) i.put;
       most = lowers_then _ _ _ _ _ i.most c.in_ok-slice.ensures.most;
       becomes = λ first h. c.in_ok-slice.ensures.becomes first (i.becomes first h);

@@ -2,7 +2,8 @@ use Rattle.std.proofs.Common.{refl, ◌∙◌, arith}
 use Rattle.pw_outside.specs.Writing.{sink_state}
 use Rattle.pw_outside.proofs.Puts.{puts_none}
 use Rattle.pr_frame.specs.Written.{picture_bytes, picture_length}
-use Rattle.pr_frame.proofs.PutSteps.{err-any, list-more, list-front, list-all, one-length}
+use Rattle.pw_outside.proofs.Results.{any_err}
+use Rattle.pr_frame.proofs.PutSteps.{list-more, list-front, list-all, one-length}
 use Rattle.pr_frame.proofs.write.write_pictures.Goals as goal
 
 pub loop-picture-init : goal.loop-picture-init
@@ -17,7 +18,7 @@ returns-in_err-write_picture-clause-err g c =
     let xs = c.args.pictures.now in
     let n = c.loop-picture.picture-index in
     let x = c.picture-item.result in
-    err-any c.from_residual.result (list-front (picture_bytes c.args.mode c.args.alpha) xs n x c.loop-picture-test.true c.picture-item.is c.loop-picture.invariant.puts c.in_err-write_picture.ensures.err)
+    any_err c.from_residual.result (list-front (picture_bytes c.args.mode c.args.alpha) xs n x c.loop-picture-test.true c.picture-item.is c.loop-picture.invariant.puts c.in_err-write_picture.ensures.err)
 
 pub loop-picture-preserved : goal.loop-picture-preserved
 loop-picture-preserved g c =

@@ -2,7 +2,8 @@ use Rattle.std.proofs.Common.{refl, ◌∙◌, arith}
 use Rattle.pw_outside.specs.Writing.{sink_state}
 use Rattle.pw_outside.proofs.Puts.{puts_none}
 use Rattle.pr_frame.specs.Written.{slice_bytes}
-use Rattle.pr_frame.proofs.PutSteps.{err-any, list-more, list-front, list-all}
+use Rattle.pw_outside.proofs.Results.{any_err}
+use Rattle.pr_frame.proofs.PutSteps.{list-more, list-front, list-all}
 use Rattle.pr_frame.proofs.write.write_slices.Goals as goal
 
 pub loop-slice-init : goal.loop-slice-init
@@ -17,7 +18,7 @@ returns-in_err-write_coded-clause-err g c =
     let xs = c.args.slices.now in
     let n = c.loop-slice.slice-index in
     let x = c.slice-item.result in
-    err-any c.from_residual.result (list-front (slice_bytes c.args.mode c.args.alpha) xs n x c.loop-slice-test.true c.slice-item.is c.loop-slice.invariant.puts c.in_err-write_coded.ensures.err)
+    any_err c.from_residual.result (list-front (slice_bytes c.args.mode c.args.alpha) xs n x c.loop-slice-test.true c.slice-item.is c.loop-slice.invariant.puts c.in_err-write_coded.ensures.err)
 
 pub loop-slice-preserved : goal.loop-slice-preserved
 loop-slice-preserved g c =

@@ -2,7 +2,8 @@ use Rattle.std.proofs.Common.{refl, ◌∙◌, arith}
 use Rattle.pw_outside.specs.Writing.{sink_state}
 use Rattle.pw_outside.proofs.Puts.{puts_none}
 use Rattle.pr_frame.specs.Written.{slice_length}
-use Rattle.pr_frame.proofs.PutSteps.{err-any, table-more, table-front, table-all}
+use Rattle.pw_outside.proofs.Results.{any_err}
+use Rattle.pr_frame.proofs.PutSteps.{table-more, table-front, table-all}
 use Rattle.pr_frame.proofs.write.write_table.Goals as goal
 
 pub loop-slice-init : goal.loop-slice-init
@@ -17,7 +18,7 @@ returns-in_err-write_size-clause-err g c =
     let xs = c.args.slices.now in
     let n = c.loop-slice.slice-index in
     let x = c.slice-item.result in
-    err-any c.from_residual.result (table-front (slice_length c.args.mode c.args.alpha) xs n x c.loop-slice-test.true c.slice-item.is c.loop-slice.invariant.puts c.in_err-write_size.ensures.err)
+    any_err c.from_residual.result (table-front (slice_length c.args.mode c.args.alpha) xs n x c.loop-slice-test.true c.slice-item.is c.loop-slice.invariant.puts c.in_err-write_size.ensures.err)
 
 pub loop-slice-preserved : goal.loop-slice-preserved
 loop-slice-preserved g c =

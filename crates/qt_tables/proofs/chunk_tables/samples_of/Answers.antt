@@ -1,4 +1,4 @@
-use Rattle.std.proofs.Common.{arith, ◌≡◌, ◌<◌, ◌+◌, length, ap, sym, subst}
+use Rattle.std.proofs.Common.{arith, ◌≡◌, ◌<◌, ◌+◌, length, ap, sym}
 use Rattle.std.specs.Prelude.{IfSome, slice_get}
 use Rattle.qt_tables.specs.declared.runs.ChunkRun.{ChunkRun}
 use Rattle.qt_tables.proofs.Chunks.{run-at}

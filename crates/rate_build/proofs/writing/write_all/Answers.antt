@@ -2,7 +2,8 @@ use Rattle.std.proofs.Common.{refl, get_or, sym, ap, ◌∙◌, arith}
 use Rattle.pw_outside.specs.Writing.{sink_state}
 use Rattle.pw_outside.proofs.Puts.{puts_none}
 use Rattle.pr_frame.specs.Written.{slice_bytes}
-use Rattle.pr_frame.proofs.PutSteps.{err-any, list-more, list-front, list-all}
+use Rattle.pw_outside.proofs.Results.{any_err}
+use Rattle.pr_frame.proofs.PutSteps.{list-more, list-front, list-all}
 use Rattle.rate_build.specs.Coding.{coded_slice, coded_slices, weights_in}
 use Rattle.rate_build.proofs.Lengths.{coded_number}
 use Rattle.rate_build.proofs.Straight.{coded_at}
@@ -24,7 +25,7 @@ returns-in_err-write_one-clause-err g c =
     let n = c.loop-i.i in
     let x = coded_slice w (get_or choice n 0) c.index-slices-i.result in
     let is = ap (coded_slice w (get_or choice n 0)) c.index-slices-i.is ∙ sym (coded_at w slices choice n c.index-slices-i.result x c.requires.number c.loop-i-test.true) in
-    err-any c.from_residual.result
+    any_err c.from_residual.result
     (list-front (slice_bytes h.interlace h.alpha) (coded_slices w slices choice) n x (omega (arith, c.loop-i-test.true, coded_number w slices choice c.requires.number)) is c.loop-i.invariant.puts c.in_err-write_one.ensures.err)
 
 pub loop-i-preserved : goal.loop-i-preserved

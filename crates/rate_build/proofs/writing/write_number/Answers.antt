@@ -6,7 +6,7 @@ use Rattle.pr_geom.specs.Layout.{slices_of}
 use Rattle.pr_frame.specs.declared.coded.CodedPicture.{CodedPicture}
 use Rattle.pr_frame.specs.Ready.{IsReadyAlpha}
 use Rattle.pr_frame.specs.Written.{picture_bytes, picture_length}
-use Rattle.pr_frame.proofs.PutSteps.{on-ok, on-err}
+use Rattle.std.proofs.lemmas.Result.{on_ok_weaker, on_err_weaker}
 use Rattle.rate_build.specs.declared.slices.SliceCoefficients.{SliceCoefficients}
 use Rattle.rate_build.specs.Coefficients.{FrameCoefficients, AreOfLayout}
 use Rattle.rate_build.specs.Coding.{coded_slices, coded_picture, weights_in, IsIndex}
@@ -71,7 +71,7 @@ returns-clause-ok g c =
     let picture =
     picture_is v h choice c.args.number c.slices-count.result c.from.result c.as_slice-all.result.now _ same c.slices-count.ensures.value c.from.ensures c.as_slice-all.ensures refl
     ∙ ap (λ (v : FrameCoefficients). coded_picture v (coded_slices (weights_in h) v.slices choice) c.args.number) c.coefficients.view_is in
-    on-ok c.write_picture.result
+    on_ok_weaker c.write_picture.result
     (subst (λ (p : CodedPicture). Puts (sink_state (g.K.ByteSink.held c.args.sink.now) (g.K.ByteSink.taken c.args.sink.now)) (sink_state (g.K.ByteSink.held c.write_picture.new.sink) (g.K.ByteSink.taken c.write_picture.new.sink)) (picture_bytes h.interlace h.alpha p)) picture)
     c.write_picture.ensures.ok
 
@@ -84,6 +84,6 @@ returns-clause-err g c =
     let picture =
     picture_is v h choice c.args.number c.slices-count.result c.from.result c.as_slice-all.result.now _ same c.slices-count.ensures.value c.from.ensures c.as_slice-all.ensures refl
     ∙ ap (λ (v : FrameCoefficients). coded_picture v (coded_slices (weights_in h) v.slices choice) c.args.number) c.coefficients.view_is in
-    on-err c.write_picture.result
+    on_err_weaker c.write_picture.result
     (subst (λ (p : CodedPicture). PutsFront (sink_state (g.K.ByteSink.held c.args.sink.now) (g.K.ByteSink.taken c.args.sink.now)) (sink_state (g.K.ByteSink.held c.write_picture.new.sink) (g.K.ByteSink.taken c.write_picture.new.sink)) (picture_bytes h.interlace h.alpha p)) picture)
     c.write_picture.ensures.err

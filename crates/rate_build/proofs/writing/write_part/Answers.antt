@@ -1,6 +1,8 @@
 use Rattle.std.proofs.Common.{◌≡◌, ◌+◌, length, refl, sym, ap, subst, ◌∙◌, arith}
 use Rattle.pr_frame.specs.Written.{frame_length_of}
-use Rattle.pr_frame.proofs.PutSteps.{on-ok, on-err, err-any, frame-puts, frame-head, frame-pictures}
+use Rattle.std.proofs.lemmas.Result.{on_ok_weaker, on_err_weaker}
+use Rattle.pw_outside.proofs.Results.{any_err}
+use Rattle.pr_frame.proofs.PutSteps.{frame-puts, frame-head, frame-pictures}
 use Rattle.rate_build.specs.Coefficients.{FrameCoefficients, AreOfLayout}
 use Rattle.rate_build.specs.Coding.{coded_frame}
 use Rattle.rate_build.specs.Tables.{fixed_bytes}
@@ -49,7 +51,7 @@ returns-in_err-write_frame_header-clause-err g c =
     let is = length_is v h c.args.slices.now c.args.choice.now are c.requires.header c.requires.tables c.requires.choice in
     let fixed = c.from.ensures ∙ c.fixed_size.ensures.value ∙ ap (λ (v : FrameCoefficients). fixed_bytes v.layout) c.coefficients.view_is in
     let size : c.from.result + c.sizes_together.result ≡ frame_length_of f = (λ j. fixed j + c.sizes_together.ensures.value j) ∙ sym is in
-    err-any c.from_residual.result (frame-head f _ f.pictures size refl c.in_err-write_frame_header.ensures.err)
+    any_err c.from_residual.result (frame-head f _ f.pictures size refl c.in_err-write_frame_header.ensures.err)
 
 pub returns-clause-ok : goal.returns-clause-ok
 returns-clause-ok g c =
@@ -60,7 +62,7 @@ returns-clause-ok g c =
     let is = length_is v h c.args.slices.now c.args.choice.now are c.requires.header c.requires.tables c.requires.choice in
     let fixed = c.from.ensures ∙ c.fixed_size.ensures.value ∙ ap (λ (v : FrameCoefficients). fixed_bytes v.layout) c.coefficients.view_is in
     let size : c.from.result + c.sizes_together.result ≡ frame_length_of f = (λ j. fixed j + c.sizes_together.ensures.value j) ∙ sym is in
-    on-ok c.write_pictures.result (frame-puts f _ f.pictures size refl c.in_ok-write_frame_header.ensures.ok) c.write_pictures.ensures.ok
+    on_ok_weaker c.write_pictures.result (frame-puts f _ f.pictures size refl c.in_ok-write_frame_header.ensures.ok) c.write_pictures.ensures.ok
 
 pub returns-clause-err : goal.returns-clause-err
 returns-clause-err g c =
@@ -71,4 +73,4 @@ returns-clause-err g c =
     let is = length_is v h c.args.slices.now c.args.choice.now are c.requires.header c.requires.tables c.requires.choice in
     let fixed = c.from.ensures ∙ c.fixed_size.ensures.value ∙ ap (λ (v : FrameCoefficients). fixed_bytes v.layout) c.coefficients.view_is in
     let size : c.from.result + c.sizes_together.result ≡ frame_length_of f = (λ j. fixed j + c.sizes_together.ensures.value j) ∙ sym is in
-    on-err c.write_pictures.result (frame-pictures f _ f.pictures size refl c.in_ok-write_frame_header.ensures.ok) c.write_pictures.ensures.err
+    on_err_weaker c.write_pictures.result (frame-pictures f _ f.pictures size refl c.in_ok-write_frame_header.ensures.ok) c.write_pictures.ensures.err

@@ -3,7 +3,8 @@ use Rattle.pw_outside.specs.Writing.{sink_state}
 use Rattle.pw_outside.proofs.Puts.{puts_none}
 use Rattle.pr_geom.specs.Slices.{pictures_of}
 use Rattle.pr_frame.specs.Written.{picture_bytes}
-use Rattle.pr_frame.proofs.PutSteps.{err-any, list-more, list-front, list-all}
+use Rattle.pw_outside.proofs.Results.{any_err}
+use Rattle.pr_frame.proofs.PutSteps.{list-more, list-front, list-all}
 use Rattle.rate_build.specs.Coefficients.{FrameCoefficients, AreOfLayout}
 use Rattle.rate_build.specs.Coding.{coded_slices, coded_picture, coded_frame, weights_in}
 use Rattle.rate_build.proofs.Whole.{picture_inside}
@@ -40,7 +41,7 @@ returns-in_err-write_number-clause-err g c =
     let n = c.loop-number.number in
     let lt : n < pictures_of v.layout.interlace = omega (arith, c.loop-number-test.true, c.pictures-number-end.ensures, ap (λ (v : FrameCoefficients). pictures_of v.layout.interlace) c.coefficients.view_is) in
     let x = coded_picture v (coded_slices (weights_in h) v.slices choice) n in
-    err-any c.from_residual.result
+    any_err c.from_residual.result
     (list-front (picture_bytes h.interlace h.alpha) (coded_frame v h choice).pictures n x (picture_within v h choice n lt) (picture_at v h choice n lt x) c.loop-number.invariant.puts c.in_err-write_number.ensures.err)
 
 pub loop-number-preserved : goal.loop-number-preserved

@@ -3,7 +3,8 @@ use Rattle.std.specs.Int.{w16, to_be_bytes}
 use Rattle.std.proofs.lemmas.Slice.Zip.{AllZip-long}
 use Rattle.pw_outside.specs.Writing.{sink_state}
 use Rattle.pw_outside.proofs.Puts.{puts_none}
-use Rattle.pr_frame.proofs.PutSteps.{err-any, list-more, list-front, list-all}
+use Rattle.pw_outside.proofs.Results.{any_err}
+use Rattle.pr_frame.proofs.PutSteps.{list-more, list-front, list-all}
 use Rattle.rate_build.specs.Chosen.{Reaches, sizes_in, size_in}
 use Rattle.rate_build.proofs.Straight.{reach_item, size_item, size_within, sizes_number}
 use Rattle.rate_build.proofs.writing.write_sizes.Goals as goal
@@ -27,7 +28,7 @@ returns-in_err-write_size-clause-err g c =
     let choice = c.args.choice.now in
     let n = c.loop-i.i in
     let item = size_item tables choice n _ c.index-tables-i.result c.requires.each c.loop-i-test.true c.index-tables-i.is in
-    err-any c.from_residual.result
+    any_err c.from_residual.result
     (list-front (to_be_bytes w16) (sizes_in tables choice) n (size_in c.index-tables-i.result (get_or choice n 0)) (size_within tables choice n c.requires.each c.loop-i-test.true) item c.loop-i.invariant.puts c.in_err-write_size.ensures.err)
 
 pub loop-i-preserved : goal.loop-i-preserved

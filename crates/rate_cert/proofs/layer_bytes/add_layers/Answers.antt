@@ -1,9 +1,10 @@
 use Rattle.std.proofs.Common.{◌+◌, ◌≤◌, List, length, map, drop, sym, subst, ◌∙◌, arith}
 use Rattle.std.specs.List.{flat_map}
+use Rattle.pw_outside.proofs.Results.{any_err}
 use Rattle.rate_table.specs.declared.entry.Pair.{Pair}
 use Rattle.rate_table.specs.Pairs.{RisesAndFalls}
 use Rattle.rate_cert.specs.Layers.{most_pairs, layer_bytes}
-use Rattle.rate_cert.proofs.Gathering.{pairs_in, err-any, partly_more, partly_end, layers_left, one_layer, one_order}
+use Rattle.rate_cert.proofs.Gathering.{pairs_in, partly_more, partly_end, layers_left, one_layer, one_order}
 use Rattle.rate_cert.proofs.layer_bytes.add_layers.Goals as goal
 
 pub add_layer-requires-clause-few : goal.add_layer-requires-clause-few
@@ -20,7 +21,7 @@ returns-in_err-add_layer-clause-err g c =
     let n = c.loop-layer.layer-index in
     let xs = c.args.layers.now in
     let text = c.as_slice.result.now in
-    err-any c.from_residual.result (partly_end (layer_bytes c.args.format text) (flat_map (layer_bytes c.args.format) (map pairs_in (drop (n + 1) xs)))
+    any_err c.from_residual.result (partly_end (layer_bytes c.args.format text) (flat_map (layer_bytes c.args.format) (map pairs_in (drop (n + 1) xs)))
     (layers_left c.args.format xs n c.layer-item.result text c.loop-layer-test.true c.layer-item.is c.as_slice.ensures.value) c.loop-layer.invariant.partly c.in_err-add_layer.ensures.err)
 
 pub loop-layer-preserved : goal.loop-layer-preserved

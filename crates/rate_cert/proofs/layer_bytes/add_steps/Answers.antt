@@ -1,7 +1,8 @@
 use Rattle.std.proofs.Common.{refl, ◌+◌, drop, ◌∙◌, arith}
 use Rattle.pw_outside.specs.Writing.{sink_state}
+use Rattle.pw_outside.proofs.Results.{any_err}
 use Rattle.rate_cert.specs.Layers.{steps_bytes}
-use Rattle.rate_cert.proofs.Gathering.{err-any, partly_start, partly_more, partly_end, partly_all, next, steps_left, order_left, steps_done}
+use Rattle.rate_cert.proofs.Gathering.{partly_start, partly_more, partly_end, partly_all, next, steps_left, order_left, steps_done}
 use Rattle.rate_cert.proofs.layer_bytes.add_steps.Goals as goal
 
 pub loop-pair-init : goal.loop-pair-init
@@ -19,7 +20,7 @@ returns-in_err-add-clause-err g c =
     let b = c.loop-pair.before in
     let lt = c.loop-pair-test.true in
     let text = c.as_slice.result.now in
-    err-any c.from_residual.result (partly_end text (steps_bytes (next b xs n lt) (drop (n + 1) xs)) (steps_left b xs n lt text (c.as_slice.ensures.value ∙ c.bytes_of_step.ensures)) c.loop-pair.invariant.partly c.in_err-add.ensures.err)
+    any_err c.from_residual.result (partly_end text (steps_bytes (next b xs n lt) (drop (n + 1) xs)) (steps_left b xs n lt text (c.as_slice.ensures.value ∙ c.bytes_of_step.ensures)) c.loop-pair.invariant.partly c.in_err-add.ensures.err)
 
 pub loop-pair-preserved : goal.loop-pair-preserved
 loop-pair-preserved g c =

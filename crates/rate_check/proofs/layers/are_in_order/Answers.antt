@@ -4,7 +4,7 @@ use Rattle.std.proofs.lemmas.List.{get_or_default, length-map}
 use Rattle.rate_table.specs.declared.entry.Pair.{Pair}
 use Rattle.rate_table.specs.Pairs.{RisesAndFalls}
 use Rattle.rate_check.proofs.Answered.{no, granted, denied}
-use Rattle.rate_check.proofs.Vectors.{items_of, element}
+use Rattle.rate_table.proofs.Vectors.{items_of, element}
 use Rattle.rate_check.proofs.layers.are_in_order.Goals as goal
 
 pub returns-then-not-rises_and_falls : goal.returns-then-not-rises_and_falls

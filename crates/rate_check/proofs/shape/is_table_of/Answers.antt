@@ -8,7 +8,7 @@ use Rattle.rate_check.proofs.Answered.{no}
 use Rattle.rate_check.proofs.shape.is_table_of.Goals as goal
 use Rattle.rate_check.proofs.shape.is_table_of.Goals.{then-frames-lt1-via-then-frames-lt1, then-frames-lt1-via-else-frames-lt1+then-from-frames}
 
--- there is one number of frames at most
+-- the number of frames is unique
 frames_are : (s : Settings) (t : Table) (n count : ℕ) → n ≡ frame_slices s → 0 < n → count ≡ length t.slices → (i : IsTableOf s t) → (count / n ≡ i.frames) × (i.frames * n ≡ count)
 frames_are s t n count e some c i =
     let w : i.frames * n ≡ count = ap (λ x. i.frames * x) e ∙ sym i.slices ∙ sym c in

@@ -7,7 +7,7 @@ use Rattle.rate_table.specs.Pairs.{RisesAndFalls, rest}
 use Rattle.rate_check.specs.inner.Printed.{of_layers}
 use Rattle.rate_check.proofs.Answered.{yes, no, granted, denied}
 use Rattle.rate_check.proofs.Covered.{same_product}
-use Rattle.rate_check.proofs.Vectors.{items_of, element}
+use Rattle.rate_table.proofs.Vectors.{items_of, element}
 use Rattle.rate_check.proofs.Stepped.{StepsAt, entries_at, bound_next, taken_next, costs_next, least_few, until_more, step_is, all_by_number, number_of_all}
 use Rattle.rate_check.proofs.steps.all_step.Goals as goal
 

@@ -4,7 +4,7 @@ use Rattle.rate_table.specs.Pairs.{rest}
 use Rattle.rate_check.proofs.Stepped.{StepsUntil}
 use Rattle.rate_check.proofs.steps.all_step.Given as goal
 
--- the steps so far, and the least sizes and costs of the slices to come
+-- the steps so far, and the least sizes and costs of the remaining slices
 abbrev pub invariant-loop-k : goal.invariant-loop-k
 invariant-loop-k l = record {
   steps : StepsUntil l.fn.table l.fn.multiplier l.fn.error (map (λ v. v.items) l.layers) l.k;

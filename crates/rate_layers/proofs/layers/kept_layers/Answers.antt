@@ -1,8 +1,9 @@
-use Rattle.std.proofs.Common.{◌≡◌, ℕ, ◌+◌, ◌^◌, ◌<◌, List, [], ◌∷◌, ◌++◌, Vec, Global, length, get_or, map, sym, ap, ◌∙◌, subst, arith}
+use Rattle.std.proofs.Common.{◌≡◌, ◌+◌, ◌^◌, ◌<◌, List, [], ◌∷◌, ◌++◌, Vec, Global, length, get_or, sym, ap, ◌∙◌, subst, arith}
 use Rattle.std.specs.List.{All}
-use Rattle.std.proofs.lemmas.List.{get_or-map, length-map}
+use Rattle.std.proofs.lemmas.List.{length-map}
 use Rattle.std.proofs.lemmas.List.Sums.{sum_by-cons, sum_by_push}
 use Rattle.std.proofs.lemmas.Result.{err_from_is_err_and}
+use Rattle.rate_table.proofs.Vectors.{items_of, element}
 use Rattle.rate_table.specs.declared.entry.Pair.{Pair}
 use Rattle.rate_table.specs.Table.{Table, IsTable}
 use Rattle.rate_table.specs.Pairs.{RisesAndFalls}
@@ -11,14 +12,6 @@ use Rattle.rate_layers.specs.inner.Bound.{IsBoundOf}
 use Rattle.rate_layers.proofs.Bounds.{front_first}
 use Rattle.rate_layers.proofs.Assembled.{Assembled, Further, further, assembled_first, assembled_end, assembled_below, errors_small}
 use Rattle.rate_layers.proofs.layers.kept_layers.Goals as goal
-
--- the pairs of each vector
-abbrev items_of : List (Vec Pair Global) → List (List Pair)
-items_of vs = map (λ v. v.items) vs
-
--- what an index gives, as an element of the list of lists
-element : (vs : List (Vec Pair Global)) (k : ℕ) (v : Vec Pair Global) (xs : List Pair) → k < length vs → v ≡ get_or vs k v → xs ≡ v.items → xs ≡ get_or (items_of vs) k []
-element vs k v xs n is e = e ∙ ap (λ (w : Vec Pair Global). w.items) is ∙ sym (get_or-map (λ (w : Vec Pair Global). w.items) vs k v [] n)
 
 -- one list more
 more_pairs : (layers : List (List Pair)) (next : List Pair) → pairs_in (layers ++ next ∷ []) ≡ pairs_in layers + length next

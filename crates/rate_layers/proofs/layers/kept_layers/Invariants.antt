@@ -5,7 +5,7 @@ use Rattle.rate_layers.specs.Layers.{pairs_in}
 use Rattle.rate_layers.proofs.Assembled.{Assembled}
 use Rattle.rate_layers.proofs.layers.kept_layers.Given as goal
 
--- the layers so far, and the least sizes and costs of the slices to come
+-- the frontiers so far, and the least sizes and costs of the remaining slices
 abbrev pub invariant-loop-k : goal.invariant-loop-k
 invariant-loop-k l = record {
   layers : Assembled l.fn.table l.fn.multiplier l.fn.error (map (λ v. v.items) l.layers.items) l.k;

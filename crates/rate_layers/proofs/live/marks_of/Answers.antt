@@ -1,8 +1,9 @@
 use Rattle.std.proofs.Common.{◌≡◌, suc, ◌+◌, ◌-◌, ◌<◌, [], ◌∷◌, ◌++◌, false, true, replicate, length, get_or, refl, sym, ap, ◌∙◌, subst, arith}
 use Rattle.std.proofs.lemmas.List.{length-map, get_or_default}
+use Rattle.rate_table.proofs.Vectors.{items_of, element}
 use Rattle.rate_table.specs.Table.{Table}
 use Rattle.rate_layers.specs.Layers.{Rises}
-use Rattle.rate_layers.proofs.Found.{MarkedFrom, items_of, element, entries_at, marks_first, marks_last, marks_more, marks_end, layer_rises}
+use Rattle.rate_layers.proofs.Found.{MarkedFrom, entries_at, marks_first, marks_last, marks_more, marks_end, layer_rises}
 use Rattle.rate_layers.proofs.live.marks_of.Goals as goal
 
 pub loop-k-init : goal.loop-k-init

@@ -2,7 +2,7 @@ use Rattle.std.proofs.Common.{map, ◌≤◌, length}
 use Rattle.rate_layers.proofs.Found.{MarkedFrom}
 use Rattle.rate_layers.proofs.live.marks_of.Given as goal
 
--- the layers from k on have their marks
+-- the frontiers from k on have their marks
 abbrev pub invariant-loop-k : goal.invariant-loop-k
 invariant-loop-k l = record {
   within : l.k ≤ length l.fn.table.slices;

@@ -1,11 +1,12 @@
 use Rattle.std.proofs.Common.{◌≡◌, suc, ◌+◌, ◌-◌, [], ◌∷◌, ◌++◌, length, get_or, sym, ap, ◌∙◌, subst, arith}
 use Rattle.std.proofs.lemmas.List.{length-map, get_or_default}
+use Rattle.rate_table.proofs.Vectors.{items_of, element}
 use Rattle.rate_table.specs.Table.{Table, IndicesRise}
 use Rattle.rate_table.specs.Pairs.{joined}
 use Rattle.rate_layers.specs.Layers.{Rises}
 use Rattle.rate_layers.specs.inner.Live.{LeadsOn, IsFirstOn, marked}
 use Rattle.rate_layers.proofs.Fronts.{same_pair}
-use Rattle.rate_layers.proofs.Found.{Walking, items_of, element, entries_at, layer_rises, walk_first, walk_on, walk_more, walk_small, walk_end}
+use Rattle.rate_layers.proofs.Found.{Walking, entries_at, layer_rises, walk_first, walk_on, walk_more, walk_small, walk_end}
 use Rattle.rate_layers.proofs.live.walk.Goals as goal
 
 pub loop-k-init : goal.loop-k-init

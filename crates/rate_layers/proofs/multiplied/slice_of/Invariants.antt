@@ -5,7 +5,7 @@ use Rattle.rate_table.specs.Body.{last_index}
 use Rattle.rate_layers.specs.inner.Multiplied.{counted}
 use Rattle.rate_layers.proofs.multiplied.slice_of.Given as goal
 
--- the entries so far are a slice, whose last index is that of the last entry that was taken
+-- the entries so far are a slice, and its last index is that of the last entry taken
 abbrev pub invariant-loop-i : goal.invariant-loop-i
 invariant-loop-i l = record {
   from : 1 ≤ l.i;

@@ -4,7 +4,7 @@ use Rattle.rate_table.specs.Table.{size_of}
 use Rattle.rate_layers.specs.Multiplier.{ArePicks}
 use Rattle.rate_layers.proofs.multiplier.least_multiplier.Given as goal
 
--- the picks at the high end fit, and none below the low end do
+-- the minimisers at the high end fit, and none below the low end do
 abbrev pub invariant-loop-low : goal.invariant-loop-low
 invariant-loop-low l = record {
   ends : l.low ≤ l.high;

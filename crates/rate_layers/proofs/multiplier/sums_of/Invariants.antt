@@ -4,7 +4,7 @@ use Rattle.rate_table.specs.Table.{size_of, error_of}
 use Rattle.rate_layers.specs.Multiplier.{ArePicks}
 use Rattle.rate_layers.proofs.multiplier.sums_of.Given as goal
 
--- the sums of the picks so far
+-- the sums of the minimisers so far
 abbrev pub invariant-loop-slice : goal.invariant-loop-slice
 invariant-loop-slice l = record {
   sizes : l.size ≤ 65535 * l.slice-index;

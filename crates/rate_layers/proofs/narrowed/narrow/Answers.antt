@@ -1,10 +1,11 @@
 use Rattle.std.proofs.Common.{◌≡◌, suc, ◌+◌, ◌-◌, ◌<◌, [], length, get_or, drop, sym, ap, ◌∙◌, subst, arith}
 use Rattle.std.proofs.lemmas.List.{length-map}
+use Rattle.rate_table.proofs.Vectors.{items_of}
 use Rattle.rate_table.specs.Table.{Table, least}
 use Rattle.rate_table.specs.Pairs.{cost, rest}
 use Rattle.rate_layers.specs.Layers.{IsKept}
 use Rattle.rate_layers.proofs.Bounds.{sum_step}
-use Rattle.rate_layers.proofs.Found.{items_of, goal_below}
+use Rattle.rate_layers.proofs.Found.{goal_below}
 use Rattle.rate_layers.proofs.Lessened.{kept_vector, set_first, set_more, lessened_end}
 use Rattle.rate_layers.proofs.narrowed.narrow.Goals as goal
 

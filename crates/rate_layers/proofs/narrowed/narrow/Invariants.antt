@@ -3,7 +3,7 @@ use Rattle.rate_table.specs.Pairs.{rest}
 use Rattle.rate_layers.proofs.Lessened.{Lessened}
 use Rattle.rate_layers.proofs.narrowed.narrow.Given as goal
 
--- the layers so far, and the least costs of the slices to come
+-- the frontiers so far, and the least costs of the remaining slices
 abbrev pub invariant-loop-k : goal.invariant-loop-k
 invariant-loop-k l = record {
   layers : Lessened l.fn.table l.fn.multiplier l.fn.goal.error (map (λ v. v.items) l.fn.layers.items) (map (λ v. v.items) l.layers.items) l.k;

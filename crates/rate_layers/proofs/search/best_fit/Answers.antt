@@ -1,4 +1,4 @@
-use Rattle.rate_layers.proofs.Found.{items_of}
+use Rattle.rate_table.proofs.Vectors.{items_of}
 use Rattle.rate_layers.proofs.Concluded.{tells_best, tells_good, not_passed}
 use Rattle.rate_layers.proofs.search.best_fit.Goals as goal
 

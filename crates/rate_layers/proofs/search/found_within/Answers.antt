@@ -1,7 +1,8 @@
 use Rattle.std.proofs.Common.{◌≡◌, ◌-◌, List, [], ◌∷◌, ◌++◌, length, get_or, ap, subst, arith}
 use Rattle.std.proofs.lemmas.List.{length-map}
+use Rattle.rate_table.proofs.Vectors.{items_of}
 use Rattle.rate_table.specs.declared.entry.Pair.{Pair}
-use Rattle.rate_layers.proofs.Found.{items_of, found_here, none_within, none_ends}
+use Rattle.rate_layers.proofs.Found.{found_here, none_within, none_ends}
 use Rattle.rate_layers.proofs.search.found_within.Goals as goal
 use Rattle.rate_layers.proofs.search.found_within.Goals.{in_default-via-in-Some+else-goal-error, in_default-via-in_default}
 

@@ -1,4 +1,4 @@
-use Rattle.rate_layers.proofs.Found.{items_of}
+use Rattle.rate_table.proofs.Vectors.{items_of}
 use Rattle.rate_layers.proofs.Guessed.{guess_least}
 use Rattle.rate_layers.proofs.search.guess.Goals as goal
 

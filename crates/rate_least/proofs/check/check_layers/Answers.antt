@@ -2,7 +2,7 @@ use Rattle.std.proofs.Common.{◌≡◌, ◌-◌, ◌≤◌, [], length, get_or,
 use Rattle.std.specs.List.{All}
 use Rattle.rate_least.specs.declared.outcome.WidePair.{WidePair}
 use Rattle.rate_check.proofs.Answered.{granted, denied}
-use Rattle.rate_least.proofs.Vectors.{items_of, element}
+use Rattle.rate_table.proofs.Vectors.{items_of, element}
 use Rattle.rate_least.proofs.check.check_layers.Goals as goal
 
 pub returns-then-not-none_is_below-clause-fails : goal.returns-then-not-none_is_below-clause-fails

@@ -3,6 +3,8 @@ use Rattle.std.specs.List.{All}
 use Rattle.std.proofs.lemmas.List.{length-map}
 use Rattle.std.proofs.lemmas.List.Sums.{sum_by-cons, sum_by_push}
 use Rattle.std.proofs.lemmas.Result.{err_from_is_err_and}
+use Rattle.rate_table.proofs.Vectors.{items_of, element}
+use Rattle.rate_check.proofs.Covered.{same_product}
 use Rattle.rate_table.specs.Table.{Table, IsTable}
 use Rattle.rate_least.specs.declared.outcome.WidePair.{WidePair}
 use Rattle.rate_least.specs.declared.bound.Bound.{Bound}
@@ -10,10 +12,8 @@ use Rattle.rate_least.specs.Pairs.{RisesAndFalls}
 use Rattle.rate_least.specs.Records.{IsNarrow}
 use Rattle.rate_least.specs.Layers.{pairs_in}
 use Rattle.rate_least.specs.inner.Covering.{IsBoundOf}
-use Rattle.rate_least.proofs.Covered.{same_product}
 use Rattle.rate_least.proofs.Bounds.{front_first}
 use Rattle.rate_least.proofs.Refused.{capped}
-use Rattle.rate_least.proofs.Found.{items_of, element}
 use Rattle.rate_least.proofs.Assembled.{Assembled, Further, further, assembled_first, assembled_end, assembled_below, layer_narrow, layer_small}
 use Rattle.rate_least.proofs.held.held_layers.Goals as goal
 

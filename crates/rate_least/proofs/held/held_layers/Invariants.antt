@@ -5,7 +5,7 @@ use Rattle.rate_least.specs.Layers.{pairs_in}
 use Rattle.rate_least.proofs.Assembled.{Assembled}
 use Rattle.rate_least.proofs.held.held_layers.Given as goal
 
--- the layers so far, and the bound with the slices to come
+-- the frontiers so far, and the bound with the remaining slices
 abbrev pub invariant-loop-k : goal.invariant-loop-k
 invariant-loop-k l = record {
   layers : Assembled (record { slices = l.fn.table.slices; cap = l.fn.cap }) l.fn.multiplier l.fn.size (map (λ v. v.items) l.layers.items) l.k;

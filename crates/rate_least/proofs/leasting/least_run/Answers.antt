@@ -1,8 +1,9 @@
 use Rattle.std.proofs.Common.{rules, ◌≡◌, ◌∙◌, Ok}
 use Rattle.pw_outside.specs.Reading.{bytes_of}
+use Rattle.pw_outside.proofs.Puts.{none_extends}
 use Rattle.rate_table.specs.Reading.{tabled}
 use Rattle.rate_least.specs.Records.{Certificate, said_by}
-use Rattle.rate_least.proofs.Ran.{certificate_of, wrote, wrote_front, none_extends}
+use Rattle.rate_least.proofs.Ran.{certificate_of, wrote, wrote_front}
 use Rattle.rate_least.proofs.leasting.least_run.Goals as goal
 
 pub returns-in-Ok-certify-clause-written : goal.returns-in-Ok-certify-clause-written

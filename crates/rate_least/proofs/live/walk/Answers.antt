@@ -1,15 +1,16 @@
 use Rattle.std.proofs.Common.{◌≡◌, suc, ◌+◌, ◌-◌, [], ◌∷◌, ◌++◌, length, get_or, sym, ap, ◌∙◌, subst, arith}
 use Rattle.std.proofs.lemmas.List.{length-map}
+use Rattle.rate_table.proofs.Vectors.{items_of, element}
 use Rattle.rate_table.specs.Table.{Table, IndicesRise}
 use Rattle.rate_least.specs.Pairs.{joined}
 use Rattle.rate_least.specs.Layers.{Rises}
 use Rattle.rate_least.specs.inner.Live.{LeadsOn, IsFirstOn, marked}
 use Rattle.rate_least.proofs.Fronts.{same_pair}
-use Rattle.rate_least.proofs.Found.{Walking, items_of, element, marks_in, mark_element, entries_at, layer_rises, walk_first, walk_on, walk_more, walk_small, walk_end}
+use Rattle.rate_least.proofs.Found.{Walking, entries_at, layer_rises, walk_first, walk_on, walk_more, walk_small, walk_end}
 use Rattle.rate_least.proofs.live.walk.Goals as goal
 
 pub loop-k-init : goal.loop-k-init
-loop-k-init c = walk_first c.args.table.now.slices c.args.goal (items_of c.args.layers.now) (marks_in c.args.marks.now) c.requires c.new-choice.result.items c.new-choice.ensures.items
+loop-k-init c = walk_first c.args.table.now.slices c.args.goal (items_of c.args.layers.now) (items_of c.args.marks.now) c.requires c.new-choice.result.items c.new-choice.ensures.items
 
 pub first_lead-requires-clause-next : goal.first_lead-requires-clause-next
 first_lead-requires-clause-next c =
@@ -35,7 +36,7 @@ first_lead-requires-clause-count c =
     let s : suc i + k ≡ length t.slices = omega (arith, ap length same, c.loop-k-test.true) in
     let k1 : k + 1 ≡ suc k = omega arith in
     let el = subst (λ j. c.deref.result.now ≡ get_or (items_of ls) j []) k1 (element ls (k + 1) c.index-layers-k.result c.deref.result.now (omega (arith, s, c.requires.found.kept.0, length-map ls (λ w. w.items))) c.index-layers-k.is c.deref.ensures.value) in
-    let em = mark_element ms i c.index-marks-slices.result c.deref-in-loop-k.result.now (omega (arith, s, c.requires.count, length-map ms (λ w. w.items))) c.index-marks-slices.is c.deref-in-loop-k.ensures.value in
+    let em = element ms i c.index-marks-slices.result c.deref-in-loop-k.result.now (omega (arith, s, c.requires.count, length-map ms (λ w. w.items))) c.index-marks-slices.is c.deref-in-loop-k.ensures.value in
     ap length em ∙ (c.requires.each i (suc k) (omega (arith, s))).count ∙ sym (ap length el)
 
 pub unreachable-requires : goal.unreachable-requires
@@ -49,10 +50,10 @@ unreachable-requires c =
     let s : suc i + k ≡ length t.slices = omega (arith, ap length same, c.loop-k-test.true) in
     let k1 : k + 1 ≡ suc k = omega arith in
     let el = subst (λ j. c.deref.result.now ≡ get_or (items_of ls) j []) k1 (element ls (k + 1) c.index-layers-k.result c.deref.result.now (omega (arith, s, c.requires.found.kept.0, length-map ls (λ w. w.items))) c.index-layers-k.is c.deref.ensures.value) in
-    let em = mark_element ms i c.index-marks-slices.result c.deref-in-loop-k.result.now (omega (arith, s, c.requires.count, length-map ms (λ w. w.items))) c.index-marks-slices.is c.deref-in-loop-k.ensures.value in
+    let em = element ms i c.index-marks-slices.result c.deref-in-loop-k.result.now (omega (arith, s, c.requires.count, length-map ms (λ w. w.items))) c.index-marks-slices.is c.deref-in-loop-k.ensures.value in
     let es = entries_at t.slices c.as_slice-slices.result.now k c.index-slices-k.result c.entries.result.now same (omega (arith, s)) c.index-slices-k.is c.entries.ensures.entries in
-    let on = walk_on t.slices c.args.goal (items_of ls) (marks_in ms) c.requires k i c.loop-k.p c.loop-k.choice.items s c.loop-k.invariant in
-    let on1 = subst (λ y. LeadsOn (get_or t.slices k []) (marked (get_or (marks_in ms) i []) y) c.loop-k.p) (sym el) on in
+    let on = walk_on t.slices c.args.goal (items_of ls) (items_of ms) c.requires k i c.loop-k.p c.loop-k.choice.items s c.loop-k.invariant in
+    let on1 = subst (λ y. LeadsOn (get_or t.slices k []) (marked (get_or (items_of ms) i []) y) c.loop-k.p) (sym el) on in
     let on2 = subst (λ y. LeadsOn (get_or t.slices k []) (marked y c.deref.result.now) c.loop-k.p) (sym em) on1 in
     c.in_default.ensures.none (subst (λ y. LeadsOn y (marked c.deref-in-loop-k.result.now c.deref.result.now) c.loop-k.p) (sym es) on2)
 
@@ -67,15 +68,15 @@ overflow_add-p c =
     let s : suc i + k ≡ length t.slices = omega (arith, ap length same, c.loop-k-test.true) in
     let k1 : k + 1 ≡ suc k = omega arith in
     let el = subst (λ j. c.deref.result.now ≡ get_or (items_of ls) j []) k1 (element ls (k + 1) c.index-layers-k.result c.deref.result.now (omega (arith, s, c.requires.found.kept.0, length-map ls (λ w. w.items))) c.index-layers-k.is c.deref.ensures.value) in
-    let em = mark_element ms i c.index-marks-slices.result c.deref-in-loop-k.result.now (omega (arith, s, c.requires.count, length-map ms (λ w. w.items))) c.index-marks-slices.is c.deref-in-loop-k.ensures.value in
+    let em = element ms i c.index-marks-slices.result c.deref-in-loop-k.result.now (omega (arith, s, c.requires.count, length-map ms (λ w. w.items))) c.index-marks-slices.is c.deref-in-loop-k.ensures.value in
     let es = entries_at t.slices c.as_slice-slices.result.now k c.index-slices-k.result c.entries.result.now same (omega (arith, s)) c.index-slices-k.is c.entries.ensures.entries in
     let p = c.loop-k.p in
     let x = c.in-Some.x in
-    let f : IsFirstOn (get_or t.slices k []) (marked (get_or (marks_in ms) i []) (get_or (items_of ls) (suc k) [])) p x =
-    subst (λ y. IsFirstOn (get_or t.slices k []) (marked (get_or (marks_in ms) i []) y) p x) el
+    let f : IsFirstOn (get_or t.slices k []) (marked (get_or (items_of ms) i []) (get_or (items_of ls) (suc k) [])) p x =
+    subst (λ y. IsFirstOn (get_or t.slices k []) (marked (get_or (items_of ms) i []) y) p x) el
     (subst (λ y. IsFirstOn (get_or t.slices k []) (marked y c.deref.result.now) p x) em
     (subst (λ y. IsFirstOn y (marked c.deref-in-loop-k.result.now c.deref.result.now) p x) es c.in-Some.ensures.some)) in
-    let w = walk_small t.slices c.args.goal (items_of ls) (marks_in ms) c.requires i (suc k) (joined p x) (omega arith) f.leads in
+    let w = walk_small t.slices c.args.goal (items_of ls) (items_of ms) c.requires i (suc k) (joined p x) (omega arith) f.leads in
     omega (arith, w.0, c.from.ensures)
 
 pub overflow_add-p-in-loop-k : goal.overflow_add-p-in-loop-k
@@ -89,15 +90,15 @@ overflow_add-p-in-loop-k c =
     let s : suc i + k ≡ length t.slices = omega (arith, ap length same, c.loop-k-test.true) in
     let k1 : k + 1 ≡ suc k = omega arith in
     let el = subst (λ j. c.deref.result.now ≡ get_or (items_of ls) j []) k1 (element ls (k + 1) c.index-layers-k.result c.deref.result.now (omega (arith, s, c.requires.found.kept.0, length-map ls (λ w. w.items))) c.index-layers-k.is c.deref.ensures.value) in
-    let em = mark_element ms i c.index-marks-slices.result c.deref-in-loop-k.result.now (omega (arith, s, c.requires.count, length-map ms (λ w. w.items))) c.index-marks-slices.is c.deref-in-loop-k.ensures.value in
+    let em = element ms i c.index-marks-slices.result c.deref-in-loop-k.result.now (omega (arith, s, c.requires.count, length-map ms (λ w. w.items))) c.index-marks-slices.is c.deref-in-loop-k.ensures.value in
     let es = entries_at t.slices c.as_slice-slices.result.now k c.index-slices-k.result c.entries.result.now same (omega (arith, s)) c.index-slices-k.is c.entries.ensures.entries in
     let p = c.loop-k.p in
     let x = c.in-Some.x in
-    let f : IsFirstOn (get_or t.slices k []) (marked (get_or (marks_in ms) i []) (get_or (items_of ls) (suc k) [])) p x =
-    subst (λ y. IsFirstOn (get_or t.slices k []) (marked (get_or (marks_in ms) i []) y) p x) el
+    let f : IsFirstOn (get_or t.slices k []) (marked (get_or (items_of ms) i []) (get_or (items_of ls) (suc k) [])) p x =
+    subst (λ y. IsFirstOn (get_or t.slices k []) (marked (get_or (items_of ms) i []) y) p x) el
     (subst (λ y. IsFirstOn (get_or t.slices k []) (marked y c.deref.result.now) p x) em
     (subst (λ y. IsFirstOn y (marked c.deref-in-loop-k.result.now c.deref.result.now) p x) es c.in-Some.ensures.some)) in
-    let w = walk_small t.slices c.args.goal (items_of ls) (marks_in ms) c.requires i (suc k) (joined p x) (omega arith) f.leads in
+    let w = walk_small t.slices c.args.goal (items_of ls) (items_of ms) c.requires i (suc k) (joined p x) (omega arith) f.leads in
     omega (arith, w.1)
 
 pub loop-k-preserved : goal.loop-k-preserved
@@ -111,22 +112,22 @@ loop-k-preserved c =
     let s : suc i + k ≡ length t.slices = omega (arith, ap length same, c.loop-k-test.true) in
     let k1 : k + 1 ≡ suc k = omega arith in
     let el = subst (λ j. c.deref.result.now ≡ get_or (items_of ls) j []) k1 (element ls (k + 1) c.index-layers-k.result c.deref.result.now (omega (arith, s, c.requires.found.kept.0, length-map ls (λ w. w.items))) c.index-layers-k.is c.deref.ensures.value) in
-    let em = mark_element ms i c.index-marks-slices.result c.deref-in-loop-k.result.now (omega (arith, s, c.requires.count, length-map ms (λ w. w.items))) c.index-marks-slices.is c.deref-in-loop-k.ensures.value in
+    let em = element ms i c.index-marks-slices.result c.deref-in-loop-k.result.now (omega (arith, s, c.requires.count, length-map ms (λ w. w.items))) c.index-marks-slices.is c.deref-in-loop-k.ensures.value in
     let es = entries_at t.slices c.as_slice-slices.result.now k c.index-slices-k.result c.entries.result.now same (omega (arith, s)) c.index-slices-k.is c.entries.ensures.entries in
     let p = c.loop-k.p in
     let x = c.in-Some.x in
-    let f : IsFirstOn (get_or t.slices k []) (marked (get_or (marks_in ms) i []) (get_or (items_of ls) (suc k) [])) p x =
-    subst (λ y. IsFirstOn (get_or t.slices k []) (marked (get_or (marks_in ms) i []) y) p x) el
+    let f : IsFirstOn (get_or t.slices k []) (marked (get_or (items_of ms) i []) (get_or (items_of ls) (suc k) [])) p x =
+    subst (λ y. IsFirstOn (get_or t.slices k []) (marked (get_or (items_of ms) i []) y) p x) el
     (subst (λ y. IsFirstOn (get_or t.slices k []) (marked y c.deref.result.now) p x) em
     (subst (λ y. IsFirstOn y (marked c.deref-in-loop-k.result.now c.deref.result.now) p x) es c.in-Some.ensures.some)) in
     let rise = subst IndicesRise (sym c.entries.ensures.entries ∙ es) c.entries.ensures.slice.rises in
-    let w = walk_more t.slices c.args.goal (items_of ls) (marks_in ms) c.requires k i p x c.loop-k.choice.items s rise c.loop-k.invariant f in
+    let w = walk_more t.slices c.args.goal (items_of ls) (items_of ms) c.requires k i p x c.loop-k.choice.items s rise c.loop-k.invariant f in
     let q = same_pair (joined p x) (record { size = p.size + c.from.result; error = p.error + x.error }) (omega (arith, c.from.ensures)) (omega arith) in
-    let w1 = subst (λ j. Walking t.slices c.args.goal (items_of ls) (marks_in ms) j (joined p x) (c.loop-k.choice.items ++ x.index ∷ [])) (sym k1) w in
-    let w2 = subst (λ y. Walking t.slices c.args.goal (items_of ls) (marks_in ms) (k + 1) y (c.loop-k.choice.items ++ x.index ∷ [])) q w1 in
-    subst (λ l. Walking t.slices c.args.goal (items_of ls) (marks_in ms) (k + 1) (record { size = p.size + c.from.result; error = p.error + x.error }) l) (sym c.in_ok-push.ensures.items) w2
+    let w1 = subst (λ j. Walking t.slices c.args.goal (items_of ls) (items_of ms) j (joined p x) (c.loop-k.choice.items ++ x.index ∷ [])) (sym k1) w in
+    let w2 = subst (λ y. Walking t.slices c.args.goal (items_of ls) (items_of ms) (k + 1) y (c.loop-k.choice.items ++ x.index ∷ [])) q w1 in
+    subst (λ l. Walking t.slices c.args.goal (items_of ls) (items_of ms) (k + 1) (record { size = p.size + c.from.result; error = p.error + x.error }) l) (sym c.in_ok-push.ensures.items) w2
 
 pub returns : goal.returns
 returns c =
     let same : c.as_slice-slices.result.now ≡ c.args.table.now.slices = c.as_slice-slices.ensures.slices ∙ ap (λ (t : Table). t.slices) c.table.view_is in
-    walk_end c.args.table.now.slices c.args.goal (items_of c.args.layers.now) (marks_in c.args.marks.now) c.requires c.loop-k.k c.loop-k.p c.loop-k.choice.items (omega (arith, ap length same, c.loop-k-test.false)) c.loop-k.invariant
+    walk_end c.args.table.now.slices c.args.goal (items_of c.args.layers.now) (items_of c.args.marks.now) c.requires c.loop-k.k c.loop-k.p c.loop-k.choice.items (omega (arith, ap length same, c.loop-k-test.false)) c.loop-k.invariant

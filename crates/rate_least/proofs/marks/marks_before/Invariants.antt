@@ -1,6 +1,6 @@
 use Rattle.rate_least.proofs.Marked.{MarkedSo}
 use Rattle.rate_least.proofs.marks.marks_before.Given as goal
 
--- the sources of the first pairs of the next layer have a mark
+-- the sources of the first pairs of the next frontier are marked
 abbrev pub invariant-loop-i : goal.invariant-loop-i
 invariant-loop-i l = MarkedSo l.slice l.next l.next_marks l.layer l.marks.items l.i

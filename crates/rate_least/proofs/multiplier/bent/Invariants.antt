@@ -4,7 +4,7 @@ use Rattle.rate_table.specs.Pairs.{cost}
 use Rattle.rate_least.specs.inner.Bent.{Wins}
 use Rattle.rate_least.proofs.multiplier.bent.Given as goal
 
--- the best so far is an entry, and is taken rather than each so far
+-- the best so far is an entry, and is preferred to each so far
 abbrev pub invariant-loop-x : goal.invariant-loop-x
 invariant-loop-x l = record {
   within : Contains l.entries l.best;

@@ -2,7 +2,7 @@ use Rattle.std.proofs.Common.{◌-◌, ◌≤◌, ◌^◌, ℕ}
 use Rattle.rate_least.specs.Held.{BendMeets}
 use Rattle.rate_least.proofs.multiplier.greatest_multiplier.Given as goal
 
--- the bend at the low end meets the cap, and none above the high end does
+-- the minimisers at the low end meet the cap, and none above the high end do
 abbrev pub invariant-loop-low : goal.invariant-loop-low
 invariant-loop-low l = record {
   ends : l.low ≤ l.high;

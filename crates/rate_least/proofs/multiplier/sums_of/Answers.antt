@@ -1,10 +1,10 @@
 use Rattle.std.proofs.Common.{[], ◌∷◌, ◌++◌, sym, subst, take, arith}
 use Rattle.std.proofs.lemmas.List.{take_more}
 use Rattle.std.proofs.lemmas.List.Elements.{All-contains}
+use Rattle.rate_layers.proofs.Grown.{sum_push}
 use Rattle.rate_table.specs.declared.entry.Entry.{Entry}
 use Rattle.rate_table.specs.Table.{IsEntry}
 use Rattle.rate_least.specs.Held.{IsBent, IsBend}
-use Rattle.rate_least.proofs.Grown.{sum_push}
 use Rattle.rate_least.proofs.Bends.{bend_push}
 use Rattle.rate_least.proofs.multiplier.sums_of.Goals as goal
 

@@ -1,12 +1,13 @@
 use Rattle.std.proofs.Common.{◌≡◌, suc, ◌+◌, ◌-◌, ◌<◌, [], length, get_or, drop, sym, ap, ◌∙◌, subst, arith}
 use Rattle.std.proofs.lemmas.List.{length-map}
+use Rattle.rate_table.proofs.Vectors.{items_of}
+use Rattle.rate_check.proofs.Covered.{same_product}
+use Rattle.rate_layers.proofs.Bounds.{sum_step}
 use Rattle.rate_table.specs.Table.{Table, least}
 use Rattle.rate_table.specs.Pairs.{cost, rest}
 use Rattle.rate_least.specs.inner.Live.{Capped}
 use Rattle.rate_least.proofs.Asked.{IsKept}
-use Rattle.rate_least.proofs.Bounds.{sum_step}
-use Rattle.rate_least.proofs.Covered.{same_product}
-use Rattle.rate_least.proofs.Found.{items_of, goal_below}
+use Rattle.rate_least.proofs.Found.{goal_below}
 use Rattle.rate_least.proofs.Lessened.{kept_vector, set_first, set_more, lessened_end}
 use Rattle.rate_least.proofs.narrowed.narrow.Goals as goal
 

@@ -1,16 +1,16 @@
 use Rattle.std.proofs.Common.{◌≡◌, ◌+◌, ◌<◌, ◌∷◌, [], ◌++◌, List, Vec, Global, length, get_or, sym, ap, ◌∙◌, subst, arith}
 use Rattle.std.specs.List.{All}
+use Rattle.rate_check.proofs.Stepped.{entries_at}
 use Rattle.rate_table.specs.declared.entry.Entry.{Entry}
 use Rattle.rate_table.specs.Table.{Table, IsTable}
 use Rattle.rate_least.specs.declared.outcome.WidePair.{WidePair}
 use Rattle.rate_least.specs.declared.bound.Bound.{Bound}
 use Rattle.rate_least.specs.Records.{IsNarrow}
 use Rattle.rate_least.specs.inner.Merge.{IsNext}
-use Rattle.rate_least.proofs.Stepped.{entries_at}
 use Rattle.rate_least.proofs.Curved.{Curved, curved_first, curved_push, joins_small, points_narrow, points_small, curves_pass, curves_stay, curve_is}
 use Rattle.rate_least.proofs.points.curve.Goals as goal
 
--- the bound that each pair stays within
+-- the bound that prunes no pair
 abbrev every : Bound
 every = record { errors = 0; cap = 18446744073709551615; floor = 0; most = 18446744073709551616; multiplier = 0 }
 

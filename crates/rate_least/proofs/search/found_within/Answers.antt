@@ -1,8 +1,9 @@
 use Rattle.std.proofs.Common.{◌≡◌, ◌-◌, List, [], ◌∷◌, length, get_or, ap, subst, arith}
 use Rattle.std.proofs.lemmas.List.{length-map}
+use Rattle.rate_table.proofs.Vectors.{items_of}
 use Rattle.rate_least.specs.declared.outcome.WidePair.{WidePair}
 use Rattle.rate_least.proofs.Refused.{capped}
-use Rattle.rate_least.proofs.Found.{items_of, found_here, none_within, none_ends}
+use Rattle.rate_least.proofs.Found.{found_here, none_within, none_ends}
 use Rattle.rate_least.proofs.search.found_within.Goals as goal
 use Rattle.rate_least.proofs.search.found_within.Goals.{in_default-via-in-Some+else-goal-size, in_default-via-in_default}
 

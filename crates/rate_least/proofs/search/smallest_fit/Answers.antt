@@ -1,5 +1,5 @@
 use Rattle.std.proofs.Common.{refl}
-use Rattle.rate_least.proofs.Found.{items_of}
+use Rattle.rate_table.proofs.Vectors.{items_of}
 use Rattle.rate_least.proofs.Concluded.{tells_smallest, tells_good, tells_said, tells_widths, not_passed}
 use Rattle.rate_least.proofs.search.smallest_fit.Goals as goal
 

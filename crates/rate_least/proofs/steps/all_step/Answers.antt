@@ -1,6 +1,8 @@
 use Rattle.std.proofs.Common.{◌≡◌, ◌+◌, ◌-◌, ◌*◌, ◌<◌, suc, [], refl, Vec, Global, length, get_or, drop, sym, ap, ◌∙◌, subst, arith}
 use Rattle.std.specs.List.{All}
 use Rattle.std.proofs.lemmas.List.{length-map}
+use Rattle.rate_check.proofs.Covered.{same_product}
+use Rattle.rate_check.proofs.Stepped.{entries_at}
 use Rattle.rate_table.specs.Table.{Table}
 use Rattle.rate_table.specs.Pairs.{rest}
 use Rattle.rate_check.proofs.Answered.{yes, no, granted, denied}
@@ -8,9 +10,8 @@ use Rattle.rate_least.specs.declared.outcome.WidePair.{WidePair}
 use Rattle.rate_least.specs.Pairs.{RisesAndFalls, least_error}
 use Rattle.rate_least.specs.Records.{IsNarrow}
 use Rattle.rate_least.specs.inner.Printed.{of_layers}
-use Rattle.rate_least.proofs.Covered.{same_product}
-use Rattle.rate_least.proofs.Vectors.{items_of, element}
-use Rattle.rate_least.proofs.Stepped.{StepsAt, entries_at, bound_next, errors_next, costs_next, until_more, step_is, all_by_number, number_of_all}
+use Rattle.rate_table.proofs.Vectors.{items_of, element}
+use Rattle.rate_least.proofs.Stepped.{StepsAt, bound_next, errors_next, costs_next, until_more, step_is, all_by_number, number_of_all}
 use Rattle.rate_least.proofs.steps.all_step.Goals as goal
 
 pub loop-k-init : goal.loop-k-init

@@ -4,7 +4,7 @@ use Rattle.rate_least.specs.Pairs.{least_error}
 use Rattle.rate_least.proofs.Stepped.{StepsUntil}
 use Rattle.rate_least.proofs.steps.all_step.Given as goal
 
--- the steps so far, and the least errors and costs of the slices to come
+-- the steps so far, and the least errors and costs of the remaining slices
 abbrev pub invariant-loop-k : goal.invariant-loop-k
 invariant-loop-k l = record {
   steps : StepsUntil l.fn.table.slices l.fn.cap l.fn.multiplier l.fn.size (map (λ v. v.items) l.layers) l.k;

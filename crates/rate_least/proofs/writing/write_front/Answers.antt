@@ -1,7 +1,7 @@
 use Rattle.std.proofs.Common.{List, ℕ, ◌++◌, sym, ap}
 use Rattle.std.proofs.lemmas.Result.{on_err_weaker, on_ok_weaker}
 use Rattle.pw_outside.proofs.Puts.{part_front}
-use Rattle.rate_cert.proofs.Gathering.{err-any}
+use Rattle.pw_outside.proofs.Results.{any_err}
 use Rattle.rate_table.specs.Body.{body_bytes}
 use Rattle.rate_least.proofs.Written.{one_front, two_front, two_all}
 use Rattle.rate_least.proofs.writing.write_front.Goals as goal
@@ -9,7 +9,7 @@ use Rattle.rate_least.proofs.writing.write_front.Goals as goal
 pub returns-in_err-put_all-clause-front : goal.returns-in_err-put_all-clause-front
 returns-in_err-put_all-clause-front g c =
     let body = body_bytes c.args.table.now in
-    err-any c.from_residual.result (one_front c.bytes_of_start.result body _ (ap (λ (l : List ℕ). l ++ body) (sym c.bytes_of_start.ensures)) (part_front c.in_err-put_all.ensures.err))
+    any_err c.from_residual.result (one_front c.bytes_of_start.result body _ (ap (λ (l : List ℕ). l ++ body) (sym c.bytes_of_start.ensures)) (part_front c.in_err-put_all.ensures.err))
 
 pub returns-clause-all : goal.returns-clause-all
 returns-clause-all g c =

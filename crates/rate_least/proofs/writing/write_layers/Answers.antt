@@ -2,7 +2,7 @@ use Rattle.std.proofs.Common.{List, length, ap, sym, ◌∙◌, ◌≤◌, arith
 use Rattle.std.proofs.lemmas.List.{take_all}
 use Rattle.std.specs.List.{flat_map}
 use Rattle.pw_outside.specs.Writing.{Puts, PutsFront}
-use Rattle.rate_cert.proofs.Gathering.{err-any}
+use Rattle.pw_outside.proofs.Results.{any_err}
 use Rattle.rate_cert.specs.Layers.{most_pairs}
 use Rattle.rate_table.proofs.Parts.{parts-more, parts-end}
 use Rattle.rate_least.specs.declared.outcome.WidePair.{WidePair}
@@ -17,7 +17,7 @@ write_layer-requires g c =
 pub returns-in_err-write_layer-clause-front : goal.returns-in_err-write_layer-clause-front
 returns-in_err-write_layer-clause-front g c =
     let xs = c.args.layers.now in
-    err-any c.from_residual.result (subst (PutsFront _ _) (by_vectors xs) (parts-end vector_bytes xs c.loop-layer.layer-index c.layer-item.result c.loop-layer-test.true c.loop-layer.invariant.all
+    any_err c.from_residual.result (subst (PutsFront _ _) (by_vectors xs) (parts-end vector_bytes xs c.loop-layer.layer-index c.layer-item.result c.loop-layer-test.true c.loop-layer.invariant.all
     (subst (PutsFront _ _) (layer_item xs c.loop-layer.layer-index c.layer-item.result c.as_slice.result.now c.layer-item.is c.as_slice.ensures.value) c.in_err-write_layer.ensures.front)))
 
 pub loop-layer-preserved : goal.loop-layer-preserved

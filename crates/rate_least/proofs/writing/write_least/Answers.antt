@@ -2,7 +2,7 @@ use Rattle.std.proofs.Common.{◌∷◌, ◌++◌, sym}
 use Rattle.std.specs.Prelude.{codes}
 use Rattle.std.specs.Int.{w64, to_be_bytes}
 use Rattle.std.proofs.lemmas.Result.{on_err_weaker, on_ok_weaker}
-use Rattle.rate_cert.proofs.Gathering.{err-any}
+use Rattle.pw_outside.proofs.Results.{any_err}
 use Rattle.rate_table.specs.Body.{body_bytes}
 use Rattle.rate_least.specs.Records.{Certificate, said_by}
 use Rattle.rate_least.specs.Files.{said_bytes, cert_bytes}
@@ -12,7 +12,7 @@ use Rattle.rate_least.proofs.writing.write_least.Goals as goal
 pub returns-in_err-write_front-clause-front : goal.returns-in_err-write_front-clause-front
 returns-in_err-write_front-clause-front g c =
     let w : Certificate = record { table = c.args.table.now; cap = c.args.cap; said = said_by c.args.outcome.now } in
-    err-any c.from_residual.result (one_front ((codes "PWLC" ++ (1 ∷ to_be_bytes w64 w.cap)) ++ body_bytes w.table) (said_bytes w.said) (cert_bytes w) (sym (cert_parts w)) c.in_err-write_front.ensures.front)
+    any_err c.from_residual.result (one_front ((codes "PWLC" ++ (1 ∷ to_be_bytes w64 w.cap)) ++ body_bytes w.table) (said_bytes w.said) (cert_bytes w) (sym (cert_parts w)) c.in_err-write_front.ensures.front)
 
 pub returns-clause-all : goal.returns-clause-all
 returns-clause-all g c =

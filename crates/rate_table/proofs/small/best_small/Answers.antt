@@ -1,4 +1,4 @@
-use Rattle.std.proofs.Common.{◌≡◌, ◌<◌, ◌∙◌, length, sym, ap, subst}
+use Rattle.std.proofs.Common.{◌≡◌, ◌<◌, ◌∙◌, length, ap, subst}
 use Rattle.rate_table.specs.Table.{Table, IsTable, indices}
 use Rattle.rate_table.proofs.Enumerated.{best_of-is_best, best_of-none}
 use Rattle.rate_table.specs.declared.small.Sums.{Sums}

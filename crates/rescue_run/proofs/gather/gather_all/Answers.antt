@@ -2,10 +2,10 @@ use Rattle.std.proofs.Common.{rules, refl, arith, subst}
 use Rattle.std.specs.Prelude.{IsSome, None}
 use Rattle.pw_outside.specs.Reading.{bytes_of}
 use Rattle.pw_outside.specs.Writing.{SinkState, sink_state}
+use Rattle.pw_outside.proofs.Puts.{none_extends, then_extends}
 use Rattle.rescue_run.specs.inner.Windows.{Shows}
 use Rattle.rescue_run.specs.inner.Steps.{GatheredUpTo}
 use Rattle.rescue_run.proofs.Marks.{empty_shows}
-use Rattle.rescue_run.proofs.Copying.{none_extends, then_extends}
 use Rattle.rescue_run.proofs.Turning.{none_gathered, stopped_here}
 use Rattle.rescue_run.proofs.gather.gather_all.Goals as goal
 

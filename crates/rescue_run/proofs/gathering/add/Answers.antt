@@ -1,6 +1,7 @@
 use Rattle.std.proofs.Common.{arith}
 use Rattle.std.proofs.lemmas.Result.{on_err_weaker}
-use Rattle.rescue_run.proofs.Copying.{head_part, head_then, puts_extends, then_extends}
+use Rattle.pw_outside.proofs.Puts.{puts_extends, then_extends}
+use Rattle.rescue_run.proofs.Copying.{head_part, head_then}
 use Rattle.rescue_run.proofs.gathering.add.Goals as goal
 
 pub returns-in-Err-frame_head-clause-err : goal.returns-in-Err-frame_head-clause-err

@@ -1,7 +1,8 @@
 use Rattle.std.proofs.Common.{rules, ◌≡◌, ◌+◌, ◌≤◌, subst}
 use Rattle.pw_outside.specs.Reading.{bytes_of}
+use Rattle.pw_outside.proofs.Puts.{then_extends}
 use Rattle.rescue_run.specs.inner.Windows.{Shows}
-use Rattle.rescue_run.proofs.Copying.{more_bytes, part_copied, fewer_copied, then_extends}
+use Rattle.rescue_run.proofs.Copying.{more_bytes, part_copied, fewer_copied}
 use Rattle.rescue_run.proofs.gathering.copy_bytes.Goals as goal
 
 pub returns-in-Err-clause-err : goal.returns-in-Err-clause-err

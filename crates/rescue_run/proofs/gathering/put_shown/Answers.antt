@@ -1,5 +1,6 @@
 use Rattle.std.proofs.Common.{arith}
-use Rattle.rescue_run.proofs.Copying.{shown_puts, shown_part, any_err}
+use Rattle.rescue_run.proofs.Copying.{shown_puts, shown_part}
+use Rattle.pw_outside.proofs.Results.{any_err}
 use Rattle.rescue_run.proofs.gathering.put_shown.Goals as goal
 
 pub returns-in_err-put_all-clause-err : goal.returns-in_err-put_all-clause-err

@@ -1,8 +1,8 @@
 use Rattle.pw_outside.specs.Reading.{bytes_of}
-use Rattle.pw_outside.proofs.Puts.{puts_then, then_front, front_more}
+use Rattle.pw_outside.proofs.Results.{any_err}
+use Rattle.pw_outside.proofs.Puts.{puts_then, then_front, front_more, puts_extends, then_extends}
 use Rattle.qt_atoms.specs.Atoms.{bytes_in}
 use Rattle.qt_movie.specs.MovieBytes.{frame_bytes}
-use Rattle.rescue_run.proofs.Copying.{any_err, puts_extends, then_extends}
 use Rattle.rescue_run.proofs.gathering.take_first.Goals as goal
 
 pub returns-in_err-gathered-clause-err : goal.returns-in_err-gathered-clause-err

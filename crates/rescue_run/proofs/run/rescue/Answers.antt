@@ -1,9 +1,9 @@
 use Rattle.std.proofs.Common.{refl, subst, length}
 use Rattle.pw_outside.specs.Reading.{bytes_of}
 use Rattle.pw_outside.specs.Writing.{sink_state}
+use Rattle.pw_outside.proofs.Puts.{none_extends, then_extends}
 use Rattle.rescue_run.specs.Rescuing.{world}
 use Rattle.rescue_run.specs.inner.Steps.{AreKept, GatheredUpTo}
-use Rattle.rescue_run.proofs.Copying.{none_extends, then_extends}
 use Rattle.rescue_run.proofs.Ending.{ran_finished, ran_none, ran_halted, finish_out, finish_text}
 use Rattle.rescue_run.proofs.run.rescue.Goals as goal
 

@@ -1,6 +1,6 @@
 use Rattle.std.proofs.Common.{inr, subst}
 use Rattle.rate_table.specs.Table.{HasNoFit}
-use Rattle.run_encode.proofs.Sinks.{front_none}
+use Rattle.pw_outside.proofs.Puts.{front_none}
 use Rattle.run_encode.proofs.Printing.{none-front}
 use Rattle.run_encode.proofs.coding.encode_frames.Goals as goal
 

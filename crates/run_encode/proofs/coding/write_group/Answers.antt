@@ -1,9 +1,9 @@
 use Rattle.std.proofs.Common.{ap, ◌∙◌}
 use Rattle.std.proofs.lemmas.Result.{on_ok_weaker, on_err_weaker}
-use Rattle.pw_outside.proofs.Puts.{part_front, puts_front}
+use Rattle.pw_outside.proofs.Puts.{part_front, puts_front, front_none}
+use Rattle.pw_outside.proofs.Results.{any_err, any_ok}
 use Rattle.rate_table.specs.Records.{Printed}
 use Rattle.rate_cert.specs.Files.{further}
-use Rattle.run_encode.proofs.Sinks.{any_err, any_ok, front_none}
 use Rattle.run_encode.proofs.Printing.{movie-all, movie-front, proof-all, proof-front}
 use Rattle.run_encode.proofs.Opening.{still-open}
 use Rattle.run_encode.proofs.coding.write_group.Goals as goal

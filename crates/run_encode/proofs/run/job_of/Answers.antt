@@ -7,13 +7,13 @@ use Rattle.pr_quant.specs.Matrices.{IsWeight}
 use Rattle.run_encode.proofs.Layouts.{laid, few-enough, too-many, weights-number}
 use Rattle.run_encode.proofs.run.job_of.Goals as goal
 
-pub returns-then-from-slices-gt131070-clause-none : goal.returns-then-from-slices-gt131070-clause-none
-returns-then-from-slices-gt131070-clause-none c =
+pub returns-then-from-slices-gt-MAX_TABLE_SLICES-clause-none : goal.returns-then-from-slices-gt-MAX_TABLE_SLICES-clause-none
+returns-then-from-slices-gt-MAX_TABLE_SLICES-clause-none c =
     let is = c.in-Ok.ensures.layout in
     let l = laid c.in-Ok.layout _ _ _ _ _ is in
     too-many _ _ _ c.in-Ok.ensures.fault
     (λ i. c.from-2.ensures i * (((c.from.ensures ∙ c.pictures.ensures ∙ ap pictures_of is.interlace) i) * ((c.slices.ensures.value ∙ l) i)))
-    c.if-from-slices-gt131070.true
+    c.if-from-slices-gt-MAX_TABLE_SLICES.true
 
 pub returns-clause-some : goal.returns-clause-some
 returns-clause-some c =
@@ -37,11 +37,11 @@ returns-clause-some c =
         some_group = words.some_group;
         small_group = words.small_group;
         budget = words.budget;
-        slices = subst (λ n. n ≤ 131070) slices c.if-from-slices-gt131070.false;
+        slices = subst (λ n. n ≤ 131070) slices c.if-from-slices-gt-MAX_TABLE_SLICES.false;
         format = words.format;
       },
       record { head = refl; layout = is; luma = c.named.ensures.luma; chroma = c.named.ensures.chroma; lo = refl; hi = refl; budget = refl; group = refl; raw = c.is_some.ensures; format = refl },
       few-enough _ _ _ c.in-Ok.ensures.fault
           (λ i. c.from-2.ensures i * (((c.from.ensures ∙ c.pictures.ensures ∙ ap pictures_of is.interlace) i) * ((c.slices.ensures.value ∙ l) i)))
-          c.if-from-slices-gt131070.false,
+          c.if-from-slices-gt-MAX_TABLE_SLICES.false,
     )

@@ -1,7 +1,7 @@
 use Rattle.std.proofs.Common.{rules, ap, ◌≡◌, ◌+◌}
 use Rattle.std.proofs.lemmas.Result.{IfOk-weaker}
+use Rattle.pw_outside.proofs.Parts.{part_told}
 use Rattle.pr_frame.specs.Stands.{FrameStands}
-use Rattle.run_look.proofs.Placed.{part_told}
 use Rattle.run_look.proofs.agreeing.read_part.Goals as goal
 
 pub returns-clause-stands : goal.returns-clause-stands

@@ -1,12 +1,12 @@
 use Rattle.std.proofs.Common.{◌≡◌, refl, ◌+◌, ◌≤◌, subst, sym, length}
 use Rattle.std.specs.Prelude.{IsSome, IfSome, Some, slice_get}
 use Rattle.pw_outside.specs.Reading.{bytes_of}
+use Rattle.qt_movie.proofs.Inside.{inside_found}
 use Rattle.qt_tables.specs.Samples.{samples}
 use Rattle.pr_head.specs.Faults.{told_fault}
 use Rattle.pr_frame.specs.Reading.{frame_fault}
 use Rattle.pr_frame.specs.Stands.{FrameStands}
 use Rattle.run_look.specs.Agreeing.{sample_bytes}
-use Rattle.run_look.proofs.Placed.{inside_found}
 use Rattle.run_look.proofs.agreeing.read_sample.Goals as goal
 
 pub read_part-requires-clause-inside : goal.read_part-requires-clause-inside

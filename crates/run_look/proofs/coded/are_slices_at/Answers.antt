@@ -1,7 +1,9 @@
 use Rattle.std.proofs.Common.{get_or, length, ap, sym, ◌∙◌, arith}
 use Rattle.rate_build.specs.Coding.{coded_slice, weights_in}
 use Rattle.rate_check.proofs.Answered.{yes, no, denied}
-use Rattle.run_look.proofs.Alike.{coded_number, coded_at, coded_whole}
+use Rattle.rate_build.proofs.Lengths.{coded_number}
+use Rattle.rate_build.proofs.Straight.{coded_at}
+use Rattle.run_look.proofs.Alike.{coded_whole}
 use Rattle.run_look.proofs.coded.are_slices_at.Goals as goal
 
 pub returns-then-coded-slices : goal.returns-then-coded-slices

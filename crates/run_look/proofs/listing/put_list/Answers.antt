@@ -2,9 +2,9 @@ use Rattle.std.proofs.Common.{rules, ◌≡◌, subst}
 use Rattle.std.proofs.lemmas.Result.{on_ok_weaker, on_err_weaker}
 use Rattle.pw_outside.specs.Writing.{sink_state, Puts, PutsPart}
 use Rattle.pw_outside.proofs.Puts.{puts_then, part_front, front_more, then_front}
+use Rattle.pw_outside.proofs.Results.{any_err}
 use Rattle.qt_tables.specs.Samples.{samples}
 use Rattle.run_look.specs.Listing.{track_line, sample_lines}
-use Rattle.run_look.proofs.Numbers.{any_err}
 use Rattle.run_look.proofs.listing.put_list.Goals as goal
 
 pub returns-in_err-put_all-clause-err : goal.returns-in_err-put_all-clause-err

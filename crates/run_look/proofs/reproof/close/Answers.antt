@@ -1,7 +1,7 @@
 use Rattle.std.proofs.Common.{◌∙◌}
 use Rattle.std.proofs.KnownBytes.{Appends-kept}
 use Rattle.pw_outside.proofs.Puts.{puts_front}
-use Rattle.run_look.proofs.Numbers.{any_err}
+use Rattle.pw_outside.proofs.Results.{any_err}
 use Rattle.run_look.proofs.reproof.close.Goals as goal
 
 pub returns-clause-err : goal.returns-clause-err

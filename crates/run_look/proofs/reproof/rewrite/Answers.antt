@@ -1,12 +1,12 @@
 use Rattle.std.proofs.Common.{rules, ap, sym, subst, ◌∙◌}
 use Rattle.std.proofs.lemmas.Result.{err_from_is_err_and}
 use Rattle.pw_outside.specs.Writing.{sink_state, Puts, PutsFront}
-use Rattle.pw_outside.proofs.Puts.{puts_none}
+use Rattle.pw_outside.proofs.Puts.{puts_none, front_extends, then_extends}
 use Rattle.rate_cert.specs.Head.{head_bytes}
 use Rattle.rate_cert.specs.Files.{end_bytes}
 use Rattle.run_look.specs.Ends.{AnswersUnlessOutside}
 use Rattle.run_look.specs.Reproofing.{Reproofed, PutsUntil}
-use Rattle.run_look.proofs.Texts.{front_extends, extends_then, extends_both}
+use Rattle.run_look.proofs.Texts.{extends_then}
 use Rattle.run_look.proofs.Reproofed.{by_head, by_fault, fault_cert, head_part, err_cert, end_part, end_whole, text_done, same_said}
 use Rattle.run_look.proofs.reproof.rewrite.Goals as goal
 
@@ -72,7 +72,7 @@ returns-in-Ok-close-clause-same g c = λ h.
     (c.in_ok-records.ensures.answer (c.in_ok-reader.ensures.bytes.told h)).0 (c.in_ok-records.ensures.written (c.in_ok-reader.ensures.bytes.told h))
 
 pub returns-in-Ok-close-clause-extends : goal.returns-in-Ok-close-clause-extends
-returns-in-Ok-close-clause-extends g c = extends_both _ _ _ (extends_then _ _ _ _ c.in-Ok.ensures.ok c.in_ok-records.ensures.extends) (_, c.in-Ok-close.ensures.ok)
+returns-in-Ok-close-clause-extends g c = then_extends _ _ _ (extends_then _ _ _ _ c.in-Ok.ensures.ok c.in_ok-records.ensures.extends) (_, c.in-Ok-close.ensures.ok)
 
 pub returns-in-Err-clause-cert : goal.returns-in-Err-clause-cert
 returns-in-Err-clause-cert g c = λ h.
@@ -86,4 +86,4 @@ returns-in-Err-clause-cert g c = λ h.
     (end_part _ _ c.in_ok-records.records a b d e (c.in_ok-records.ensures.answer (c.in_ok-reader.ensures.bytes.told h)) head (c.in_ok-records.ensures.cert (c.in_ok-reader.ensures.bytes.told h)) end)
 
 pub returns-in-Err-clause-extends : goal.returns-in-Err-clause-extends
-returns-in-Err-clause-extends g c = extends_both _ _ _ (extends_then _ _ _ _ c.in-Ok.ensures.ok c.in_ok-records.ensures.extends) (front_extends _ _ _ c.in-Err.ensures.err)
+returns-in-Err-clause-extends g c = then_extends _ _ _ (extends_then _ _ _ _ c.in-Ok.ensures.ok c.in_ok-records.ensures.extends) (front_extends _ _ _ c.in-Err.ensures.err)

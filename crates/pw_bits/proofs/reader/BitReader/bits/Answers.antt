@@ -3,7 +3,8 @@ use Rattle.std.proofs.lemmas.Nat.{one_shl}
 use Rattle.pw_bits.specs.Bits.{bits_of}
 use Rattle.pw_bits.specs.Reading.{unread, Takes}
 use Rattle.pw_bits.proofs.BitsLemmas.{length-bits_of}
-use Rattle.pw_bits.proofs.ReadingLemmas.{Lowers-trans, Takes-byte, Takes-front, Takes-short, pushed, split_bits, front_number}
+use Rattle.pw_outside.proofs.Loops.{Lowers-then}
+use Rattle.pw_bits.proofs.ReadingLemmas.{Takes-byte, Takes-front, Takes-short, pushed, split_bits, front_number}
 use Rattle.pw_bits.proofs.reader.BitReader.bits.Goals as goal
 
 pub loop-count-preserved : goal.loop-count-preserved
@@ -19,7 +20,7 @@ loop-count-preserved g c =
       fits = p.0;
       taken = subst (λ k. Takes (bits_of c.self.inside.count c.self.inside.low) (g.S.ByteSource.left c.args.source.now) k (g.S.ByteSource.left c.next_byte.new.source) []) (sym p.1) (Takes-byte byte i.told given.1 i.taken);
       told = λ t. c.in-Ok-Some.ensures.told (i.told t);
-      most = Lowers-trans (g.S.ByteSource.most c.args.source.now) (g.S.ByteSource.most c.loop-count.source) (g.S.ByteSource.most c.next_byte.new.source) 0 1 i.most one;
+      most = Lowers-then (g.S.ByteSource.most c.args.source.now) (g.S.ByteSource.most c.loop-count.source) (g.S.ByteSource.most c.next_byte.new.source) 0 1 i.most one;
       becomes = λ first h. c.in-Ok-Some.ensures.becomes first (i.becomes first h);
       cause = c.in-Ok-Some.ensures.cause.kept ∙ i.cause;
     }

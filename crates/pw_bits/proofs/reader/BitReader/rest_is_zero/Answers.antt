@@ -2,7 +2,8 @@ use Rattle.std.proofs.Common.{◌≡◌, ◌+◌, ◌-◌, ◌*◌, ◌%◌, ◌
 use Rattle.std.proofs.lemmas.Nat.{one_shl}
 use Rattle.pw_bits.specs.Bits.{bits_of, zeros, bits}
 use Rattle.pw_bits.specs.Reading.{Takes}
-use Rattle.pw_bits.proofs.ReadingLemmas.{Lowers-trans, Takes-byte, Takes-end, takes_one, takes_kept, told-bound, bound-lt}
+use Rattle.pw_outside.proofs.Loops.{Lowers-then}
+use Rattle.pw_bits.proofs.ReadingLemmas.{Takes-byte, Takes-end, takes_one, takes_kept, told-bound, bound-lt}
 use Rattle.pw_bits.proofs.reader.BitReader.rest_is_zero.Goals as goal
 
 pub returns-then-front-count-clause-rest : goal.returns-then-front-count-clause-rest
@@ -34,7 +35,7 @@ loop-count-preserved g c =
       taken = record { run = run + front.result; taken = Takes-byte byte i.told given.1 kept };
       bound = told-bound (g.S.ByteSource.most c.loop-count.source) (g.S.ByteSource.most c.next_byte.new.source) 1 one i.bound;
       told = λ t. c.in-Ok-Some.ensures.told (i.told t);
-      lowers = Lowers-trans (g.S.ByteSource.most c.args.source.now) (g.S.ByteSource.most c.loop-count.source) (g.S.ByteSource.most c.next_byte.new.source) 0 1 i.lowers one;
+      lowers = Lowers-then (g.S.ByteSource.most c.args.source.now) (g.S.ByteSource.most c.loop-count.source) (g.S.ByteSource.most c.next_byte.new.source) 0 1 i.lowers one;
       becomes = λ first h. c.in-Ok-Some.ensures.becomes first (i.becomes first h);
       cause = c.in-Ok-Some.ensures.cause.kept ∙ i.cause;
     }

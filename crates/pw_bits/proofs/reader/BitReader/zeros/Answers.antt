@@ -3,7 +3,8 @@ use Rattle.std.proofs.lemmas.Nat.{one_shl}
 use Rattle.pw_bits.specs.Bits.{bits_of, zeros, bits}
 use Rattle.pw_bits.specs.Reading.{Takes}
 use Rattle.pw_bits.proofs.BitsLemmas.{pow_mono_at}
-use Rattle.pw_bits.proofs.ReadingLemmas.{Lowers-trans, Takes-byte, Takes-end, takes_many, takes_one, takes_kept}
+use Rattle.pw_outside.proofs.Loops.{Lowers-then}
+use Rattle.pw_bits.proofs.ReadingLemmas.{Takes-byte, Takes-end, takes_many, takes_one, takes_kept}
 use Rattle.pw_bits.proofs.reader.BitReader.zeros.Goals as goal
 
 pub invariant_of-self : goal.invariant_of-self
@@ -49,7 +50,7 @@ loop-run-preserved g c =
       within = omega (arith, i.within, c.from.ensures, c.from-run.ensures, c.if-from-most.false);
       taken = Takes-byte byte i.told given.1 kept;
       told = λ t. c.in-Ok-Some.ensures.told (i.told t);
-      lowers = Lowers-trans (g.S.ByteSource.most c.args.source.now) (g.S.ByteSource.most c.loop-run.source) (g.S.ByteSource.most c.next_byte.new.source) 0 1 i.lowers one;
+      lowers = Lowers-then (g.S.ByteSource.most c.args.source.now) (g.S.ByteSource.most c.loop-run.source) (g.S.ByteSource.most c.next_byte.new.source) 0 1 i.lowers one;
       becomes = λ first h. c.in-Ok-Some.ensures.becomes first (i.becomes first h);
       cause = c.in-Ok-Some.ensures.cause.kept ∙ i.cause;
     }

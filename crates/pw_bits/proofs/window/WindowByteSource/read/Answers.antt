@@ -1,6 +1,7 @@
 use Rattle.std.proofs.Common.{length, take, drop, arith, length-append, ◌∙◌}
 use Rattle.std.proofs.lemmas.List.{length-drop, length-take}
-use Rattle.pw_bits.proofs.ReadingLemmas.{Lowers-trans, told-read}
+use Rattle.pw_outside.proofs.Loops.{Lowers-then}
+use Rattle.pw_bits.proofs.ReadingLemmas.{told-read}
 use Rattle.pw_bits.proofs.WindowLemmas.{window-consumes, window-end, moved-behind}
 use Rattle.pw_bits.proofs.window.WindowByteSource.read.Goals as goal
 
@@ -30,7 +31,7 @@ returns-clause-becomes g c = λ first m.
     record {
       same = m.same;
       port = λ earlier h. r.becomes earlier (m.port earlier h);
-      bound = Lowers-trans (g.S.ByteSource.most first.source.now) (g.S.ByteSource.most c.args.self.now.source.now) (g.S.ByteSource.most c.read.new.self) 0 k m.bound r.most;
+      bound = Lowers-then (g.S.ByteSource.most first.source.now) (g.S.ByteSource.most c.args.self.now.source.now) (g.S.ByteSource.most c.read.new.self) 0 k m.bound r.most;
       told = λ t. told-read old new (take k c.read.new.piece) r.bytes.0 (m.told t);
       behind = λ t. moved-behind w k old new (take k c.read.new.piece) r.count.1 (omega (arith, r.count.0, c.read.auto.piece, length-take room piece, c.min-room.ensures)) r.bytes.0 (m.told t) ∙ m.behind t;
     }
