@@ -3,7 +3,7 @@
 ghost use Rattle.std.specs.Prelude.{◌≤◌};
 
 use crate::cases::{Case, case_of};
-use crate::ports::{Calls, Port, Ran, ran};
+use crate::ports::{Calls, Port, Ran, run_over};
 use crate::runs::line_of;
 use std::io;
 use workshop::Status;
@@ -55,7 +55,7 @@ fn failed(rt: &HostRuntime, case: &Case, port: Port, call: u64) -> io::Result<Ra
         step: STEP,
         failing: Some((port, call)),
     };
-    ran(rt, &case.words, case.files(), calls)
+    run_over(rt, &case.words, case.files(), calls)
 }
 
 /// Whether each call of a port that fails is told, up to the first number that no call has.
@@ -83,7 +83,7 @@ fn port_answer(
 
 pub(crate) fn fails_answer(rt: &HostRuntime, text: &str) -> io::Result<String> {
     let case = case_of(rt, text)?;
-    let whole = ran(rt, &case.words, case.files(), Calls::of(STEP))?;
+    let whole = run_over(rt, &case.words, case.files(), Calls::of(STEP))?;
     let first = failed(rt, &case, Port::Text, 0)?;
     let mut told = String::new(rt.alloc());
     for port in PORTS {

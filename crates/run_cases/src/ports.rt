@@ -116,7 +116,7 @@ fn sink_for(rt: &HostRuntime, calls: Calls, port: Port) -> io::Result<MemSink>
 }
 
 /// A run of the top call over these files.
-pub(crate) fn ran(
+pub(crate) fn run_over(
     rt: &HostRuntime,
     words: &[String],
     files: Files<'_>,

@@ -3,7 +3,7 @@
 ghost use Rattle.std.specs.Prelude.{◌≤◌};
 
 use crate::cases::{Case, Files, case_of, words_of};
-use crate::ports::{Calls, Ran, ran};
+use crate::ports::{Calls, Ran, run_over};
 use gate_words::{hashed_of, text_line};
 use std::io;
 use workshop::Status;
@@ -32,9 +32,9 @@ pub(crate) fn answer_over(
     words: &[String],
     files: Files<'_>,
 ) -> io::Result<String> {
-    let answer = line_of(rt, &ran(rt, words, files, Calls::of(MANY))?)?;
+    let answer = line_of(rt, &run_over(rt, words, files, Calls::of(MANY))?)?;
     for step in [1, 3] {
-        let other = line_of(rt, &ran(rt, words, files, Calls::of(step))?)?;
+        let other = line_of(rt, &run_over(rt, words, files, Calls::of(step))?)?;
         if other != answer {
             return Ok(format!(in rt.alloc(); "{answer}, but in steps of {step} {other}")?);
         }
@@ -49,7 +49,7 @@ pub(crate) fn run_answer(rt: &HostRuntime, text: &str) -> io::Result<String> {
 
 pub(crate) fn heard_answer(rt: &HostRuntime, text: &str) -> io::Result<String> {
     let case = case_of(rt, text)?;
-    let run = ran(rt, &case.words, case.files(), Calls::of(MANY))?;
+    let run = run_over(rt, &case.words, case.files(), Calls::of(MANY))?;
     let words = words_of(rt, "sound movie wav")?;
     answer_over(rt, &words, Files::of_movie(&run.out))
 }
@@ -94,7 +94,7 @@ pub(crate) fn cuts_answer(rt: &HostRuntime, text: &str) -> io::Result<String> {
     let mut last = String::new(rt.alloc());
     for length in 0..=whole {
         let files = cut_files(&case, port, length);
-        let run = ran(rt, &case.words, files, Calls::of(MANY))?;
+        let run = run_over(rt, &case.words, files, Calls::of(MANY))?;
         let status = status_of(rt, run.status)?;
         if status != last {
             all.push_str(&format!(in rt.alloc(); "{length} {status}; ")?)?;
