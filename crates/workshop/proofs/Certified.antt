@@ -1,7 +1,6 @@
 -- If no port failed, runs over a table or a certificate are done, unless memory runs out.
-use Rattle.std.proofs.Common.{◌≡◌, ◌∙◌, ℕ, List, true, refl, sym, ap, subst, ◌⊎◌, inl, inr, Result, Ok, Err, ⊎_elim}
+use Rattle.std.proofs.Common.{◌≡◌, ℕ, true, refl, ◌⊎◌, inl, inr, Result, Ok, Err, ⊎_elim}
 use Rattle.pw_outside.specs.Reading.{Fault}
-use Rattle.pw_outside.specs.Ports.{Rose}
 use Rattle.rate_table.specs.declared.fault.ProofKind.{ProofKind}
 use Rattle.rate_table.specs.Table.{Table}
 use Rattle.rate_least.specs.declared.end.LeastEnd.{LeastEnd}
@@ -11,10 +10,6 @@ use Rattle.rate_least.specs.Records.{Certificate}
 use Rattle.rate_least.specs.Leasting as leasting
 use Rattle.rate_least.specs.Runs as runs
 use Rattle.rate_least.proofs.Judged.{exactly}
-use Rattle.workshop.specs.declared.words.Task.{Task}
-use Rattle.workshop.specs.declared.words.Task.TheVariants as task
-use Rattle.workshop.specs.Words.{Said, IsLeast, uses_in, uses_of}
-use Rattle.workshop.specs.Faults.{Faults, NoPortFailed}
 use Rattle.workshop.specs.Least.{status_of, CompletesLeast, CompletesCheckLeast, CompletesCurve}
 
 pub least : (cap : ℕ) (input : Result Table (Fault ProofKind)) (end : LeastEnd) → leasting.AnswersLeast cap input end
@@ -53,18 +48,3 @@ curve (Ok t) (ends.Refused clause) h nr nw = absurd h
 -- neither count rose
 pub neither : {A B : Type 0} → (A → ⊥) → (B → ⊥) → A ⊎ B → ⊥
 neither a b r = ⊎_elim a b r
-
--- if no port that `least` uses failed, no count of one rose
-pub quiet : (x : Said) (t : Task × List ℕ) (cap : ℕ) (before now : Faults) → x ≡ Ok t → t.0 ≡ task.Least cap → NoPortFailed (uses_in x) before now
-    → (Rose before.proof now.proof → ⊥) × (Rose before.cert now.cert → ⊥) × (Rose before.text now.text → ⊥)
-quiet x t cap before now e f none =
-    let n = subst (λ u. NoPortFailed u before now) (ap uses_in e ∙ ap uses_of f) none in
-    (λ r. n.proof (refl, r), λ r. n.cert (refl, r), λ r. n.text (refl, r))
-
-abbrev cap-in : ℕ → Task → ℕ
-cap-in other (task.Least cap) = cap
-cap-in other _ = other
-
--- the words are a run of `least` with one cap only
-pub same-cap : (x : Said) (t : Task × List ℕ) (v w : ℕ) → x ≡ Ok t → t.0 ≡ task.Least v → IsLeast w x → v ≡ w
-same-cap x t v w e f is = ap (cap-in v) (sym f ∙ subst (IsLeast w) e is)

@@ -1,7 +1,6 @@
 -- If no port failed, and each group has a fitting choice, a run of `encode` is done.
-use Rattle.std.proofs.Common.{◌≡◌, refl, ℕ, List, ◌⊎◌, inl, inr, Bool, true, false, None, Result, Ok, Err, sym, subst, ◌∙◌, ap}
+use Rattle.std.proofs.Common.{◌≡◌, refl, ◌⊎◌, inl, inr, Bool, true, false, None, Result, Ok, Err, ap}
 use Rattle.std.specs.Bool.{OnTrue}
-use Rattle.pw_outside.specs.Ports.{Rose}
 use Rattle.pw_outside.specs.Reading.{Fault}
 use Rattle.pic_y4m.specs.declared.head.Head.{Head}
 use Rattle.pic_y4m.specs.declared.fault.PictureKind.{PictureKind}
@@ -16,10 +15,6 @@ use Rattle.run_encode.specs.Encoding.{Ran, RanOn, StopsFirst, is_read_fault, is_
 use Rattle.run_encode.specs.Completing.{EachFits}
 use Rattle.workshop.specs.declared.status.Status.TheVariants as s
 use Rattle.workshop.specs.Encoding.{status_of, CompletesEncode}
-use Rattle.workshop.specs.declared.words.Task.{Task}
-use Rattle.workshop.specs.declared.words.Task.TheVariants as task
-use Rattle.workshop.specs.Words.{Said, IsEncode, uses_in, uses_of}
-use Rattle.workshop.specs.Faults.{Faults, NoPortFailed}
 
 on-true : {P : Type 0} (b : Bool) → b ≡ true → OnTrue b P → P
 on-true true e p = p
@@ -55,23 +50,3 @@ complete w (Ok (head, ps)) end a b (inr r) nr nw = λ some e fits.
 -- if no count rose, no port failed
 pub no-fault : (P : Type 0) (b : Bool) → OnTrue b P → (P → ⊥) → b ≡ true → ⊥
 no-fault P b o n e = n (on-true b e o)
-
-none-of : {A B C : Type 0} → (A → ⊥) → (B → ⊥) → (C → ⊥) → A ⊎ B ⊎ C → ⊥
-none-of a b c (inl x) = a x
-none-of a b c (inr (inl x)) = b x
-none-of a b c (inr (inr x)) = c x
-
--- if no port that `encode` uses failed, no count of one rose
-pub quiet : (x : Said) (t : Task × List ℕ) (v : EncodeWords) (before now : Faults) → x ≡ Ok t → t.0 ≡ task.Encode v → NoPortFailed (uses_in x) before now
-    → (Rose before.pictures now.pictures → ⊥) × (Rose before.out now.out ⊎ Rose before.cert now.cert ⊎ Rose before.text now.text → ⊥)
-quiet x t v before now e f none =
-    let n = subst (λ u. NoPortFailed u before now) (ap uses_in e ∙ ap uses_of f) none in
-    (λ r. n.pictures (refl, r), none-of (λ r. n.out (refl, r)) (λ r. n.cert (refl, r)) (λ r. n.text (refl, r)))
-
-abbrev words-in : EncodeWords → Task → EncodeWords
-words-in other (task.Encode w) = w
-words-in other _ = other
-
--- the words are a run of `encode` with one list of options only
-pub same-words : (x : Said) (t : Task × List ℕ) (v w : EncodeWords) → x ≡ Ok t → t.0 ≡ task.Encode v → IsEncode w x → v ≡ w
-same-words x t v w e f is = ap (words-in v) (sym f ∙ subst (IsEncode w) e is)

@@ -2,7 +2,7 @@ pub mod PlanTexts
 pub mod Tasks
 pub mod Encoded
 pub mod Checked
-pub mod Complete
+pub mod ByWords
 pub mod Reproofed
 pub mod Decoded
 pub mod Rescued

@@ -30,6 +30,10 @@ PrintsChecked Is s.Done before after = (records : ℕ) × Is ends.Done records �
 PrintsChecked Is s.WriteFault before after = (records : ℕ) × Is ends.Done records × PutsFront before after (check_text records)
 PrintsChecked Is _ before after = Puts before after []
 
+-- the status and the text
+abbrev pub RunsCheck : Ending → Status → SinkState → SinkState → Type 0
+RunsCheck Is status before after = AnswersCheck Is status × PrintsChecked Is status before after
+
 -- If checking may be done, the status is Done or NoMemory.
 abbrev pub CompletesCheck : Status → Ending → Type 0
 CompletesCheck status Is = (records : ℕ) → Is ends.Done records → (status ≡ s.Done) ⊎ (status ≡ s.NoMemory)

@@ -8,6 +8,7 @@ use Rattle.pr_frame.specs.declared.showing.Shown.{Shown}
 use Rattle.run_decode.specs.declared.end.DecodeEnd.{DecodeEnd}
 use Rattle.run_decode.specs.declared.end.DecodeEnd.TheVariants as ends
 use Rattle.run_decode.specs.Decoding.{Decodes, job_in}
+use Rattle.run_decode.specs.Laws.{WritesFrontsOf}
 use Rattle.run_decode.specs.Running.{World, RanOn}
 use Rattle.workshop.specs.declared.words.DecodeWords.{DecodeWords}
 use Rattle.workshop.specs.declared.status.Status.{Status}
@@ -25,6 +26,11 @@ status_of (ends.BadFrame sample kind place) = s.BadFrame sample kind place
 -- The status, the output and the reports to the monitors are those of a run over this file.
 abbrev pub AnswersDecode : DecodeWords → List ℕ → Result Movie (Fault MovieKind) → Status → World → World → Type 0
 AnswersDecode w file input status before after = (end : DecodeEnd) × (status ≡ status_of end) × RanOn w.form w.depth file input end before after
+
+-- The same; and after every status both sinks have prefixes of the result of decoding, or nothing if the file is no
+-- such movie.
+abbrev pub RunsDecode : DecodeWords → List ℕ → Result Movie (Fault MovieKind) → Status → World → World → Type 0
+RunsDecode w file input status before after = AnswersDecode w file input status before after × WritesFrontsOf w.form w.depth file input before after
 
 -- A movie whose samples all lie in the file and stand for frames like the first is decoded, unless memory runs out.
 abbrev pub CompletesDecode : DecodeWords → List ℕ → Result Movie (Fault MovieKind) → Status → Type 0

@@ -47,12 +47,12 @@ pub record CountsWrites (uses : Ports) (before now : Faults) (failed : Bool) : T
 
 -- The count of no port that the command uses rose.
 pub record NoPortFailed (uses : Ports) (before now : Faults) : Type 0 where
-  pub pictures : RoseOf uses.pictures before.pictures now.pictures → ⊥
-  pub proof : RoseOf uses.proof before.proof now.proof → ⊥
-  pub movie : RoseOf uses.movie before.movie now.movie → ⊥
-  pub out : RoseOf uses.out before.out now.out → ⊥
-  pub cert : RoseOf uses.cert before.cert now.cert → ⊥
-  pub text : RoseOf uses.text before.text now.text → ⊥
+  pub pictures : OnTrue uses.pictures (Rose before.pictures now.pictures → ⊥)
+  pub proof : OnTrue uses.proof (Rose before.proof now.proof → ⊥)
+  pub movie : OnTrue uses.movie (Rose before.movie now.movie → ⊥)
+  pub out : OnTrue uses.out (Rose before.out now.out → ⊥)
+  pub cert : OnTrue uses.cert (Rose before.cert now.cert → ⊥)
+  pub text : OnTrue uses.text (Rose before.text now.text → ⊥)
 
 -- if the command writes the sink, all that it took is flushed
 abbrev pub Settles : Bool → ℕ → ℕ → Type 0

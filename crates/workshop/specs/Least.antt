@@ -9,7 +9,9 @@ use Rattle.rate_least.specs.declared.end.LeastEnd.TheVariants as ends
 use Rattle.rate_least.specs.Records.{Certificate, IsGood}
 use Rattle.rate_least.specs.Answers.{PassesByBend, IsWide}
 use Rattle.rate_least.specs.Curve.{CurvesPass}
+use Rattle.rate_least.specs.Ends.{PrintsLines}
 use Rattle.rate_least.specs.Leasting as run
+use Rattle.rate_least.specs.Runs as runs
 use Rattle.workshop.specs.declared.status.Status.{Status}
 use Rattle.workshop.specs.declared.status.Status.TheVariants as s
 
@@ -31,6 +33,19 @@ Ended status Is = (end : LeastEnd) × (status ≡ status_of end) × Is end
 abbrev pub AnswersLeast : ℕ → Result Table (Fault ProofKind) → Status → (cert cert' text text' : SinkState) → Type 0
 AnswersLeast cap input status cert cert' text text' =
     Ended status (λ end. run.AnswersLeast cap input end × run.WritesLeast end (run.IsCertificateOf cap input) cert cert' text text')
+
+-- the status for a certificate
+abbrev pub AnswersCheckLeast : Result Certificate (Fault ProofKind) → Status → Type 0
+AnswersCheckLeast input status = Ended status (λ end. runs.AnswersCheck input end)
+
+-- After Done the whole line was appended; after a write fault a prefix of it, after every other status nothing.
+abbrev pub PrintsYes : Status → SinkState → SinkState → Type 0
+PrintsYes status before after = Ended status (λ end. PrintsLines end runs.yes_text before after)
+
+-- The status and the lines are those of a run of `curve` over a file.
+abbrev pub RunsCurve : Result Table (Fault ProofKind) → Status → SinkState → SinkState → Type 0
+RunsCurve input status before after = Ended status (λ end. runs.AnswersCurve input end)
+    × Ended status (λ end. runs.PrintsText end (runs.IsCurveText input) before after)
 
 -- done, or memory ran out
 abbrev pub IsDone : Status → Type 0

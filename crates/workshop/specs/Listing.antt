@@ -1,11 +1,14 @@
 -- Status and output of `list`. Our own definitions.
 use Rattle.std.specs.Prelude.{◌≡◌, ◌⊎◌, Result, Ok, Err}
+use Rattle.std.specs.Bool.{OnTrue}
 use Rattle.pw_outside.specs.Reading.{Fault}
+use Rattle.pw_outside.specs.Writing.{SinkState}
 use Rattle.qt_tables.specs.declared.fault.MovieKind.{MovieKind}
 use Rattle.qt_movie.specs.Movie.{Movie}
 use Rattle.run_look.specs.declared.end.LookEnd.{LookEnd}
 use Rattle.run_look.specs.declared.end.LookEnd.TheVariants as ends
-use Rattle.workshop.specs.Status.{AnswersUnlessOutside}
+use Rattle.run_look.specs.Listing.{PrintsList, PrintsListFront}
+use Rattle.workshop.specs.Status.{is_done, AnswersUnlessOutside}
 use Rattle.workshop.specs.declared.status.Status.{Status}
 use Rattle.workshop.specs.declared.status.Status.TheVariants as s
 
@@ -25,6 +28,12 @@ status_of (ends.Refused frame clause) = s.Refused frame clause
 abbrev pub AnswersList : Result Movie (Fault MovieKind) → Status → Type 0
 AnswersList (Err f) status = AnswersUnlessOutside status (s.BadMovie f.kind f.place)
 AnswersList (Ok m) status = AnswersUnlessOutside status s.Done
+
+-- The status for a file, and the text that was appended: all of it after Done, a prefix after every refusal.
+pub record RunsList (input : Result Movie (Fault MovieKind)) (status : Status) (before after : SinkState) : Type 0 where
+  pub answer : AnswersList input status
+  pub text : OnTrue (is_done status) (PrintsList input before after)
+  pub part : PrintsListFront input before after
 
 -- A movie is listed, unless memory runs out.
 abbrev pub CompletesList : Status → Result Movie (Fault MovieKind) → Type 0

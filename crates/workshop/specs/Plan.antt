@@ -1,5 +1,6 @@
 -- Status and output of `plan`. Our own definitions.
 use Rattle.std.specs.Prelude.{◌≡◌, ℕ, List, ◌++◌, length, ◌+◌, ◌*◌, ◌^◌, ◌<◌, ◌⊎◌, Result, Ok, Err, codes}
+use Rattle.std.specs.Bool.{OnTrue}
 use Rattle.std.specs.List.{flat_map}
 use Rattle.std.specs.Fmt.{decimal}
 use Rattle.pw_outside.specs.Reading.{Fault}
@@ -10,7 +11,7 @@ use Rattle.rate_table.specs.Table.{Table, IsBest, HasNoFit, indices, size_of, er
 use Rattle.rate_layers.specs.Best.{PassesByPicks, PassesByBest}
 use Rattle.workshop.specs.declared.status.Status.{Status}
 use Rattle.workshop.specs.declared.status.Status.TheVariants as s
-use Rattle.workshop.specs.Status.{AnswersUnlessOutside}
+use Rattle.workshop.specs.Status.{is_done, is_write_fault, AnswersUnlessOutside}
 use Rattle.rate_layers.specs.declared.outcome.Outcome.{Outcome}
 use Rattle.rate_layers.specs.declared.outcome.Outcome.TheVariants as outcomes
 
@@ -71,6 +72,12 @@ PrintsPlan (Ok t) before after = (text : List ℕ) × IsPlanText t text × Puts 
 abbrev pub PrintsPart : Result Table (Fault ProofKind) → SinkState → SinkState → Type 0
 PrintsPart (Err f) before after = ⊥
 PrintsPart (Ok t) before after = (text : List ℕ) × IsPlanText t text × PutsFront before after text
+
+-- The status for a file, and the text that was appended: all of it after Done, a prefix after a write fault.
+pub record RunsPlan (input : Result Table (Fault ProofKind)) (status : Status) (before after : SinkState) : Type 0 where
+  pub answer : AnswersPlan input status
+  pub text : OnTrue (is_done status) (PrintsPlan input before after)
+  pub part : OnTrue (is_write_fault status) (PrintsPart input before after)
 
 -- The status is Done or NoMemory for a table whose Pareto frontiers, bounded by the error of the Lagrangian
 -- minimisers, have at most 2^25 pairs.

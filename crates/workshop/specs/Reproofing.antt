@@ -20,6 +20,12 @@ WritesUntil s.ReadFault bytes before after = PutsFront before after bytes
 WritesUntil s.WriteFault bytes before after = PutsFront before after bytes
 WritesUntil _ bytes before after = Puts before after bytes
 
+-- The status for a proof, and all that is written: a proof in format 2, and the line with the number of records.
+pub record RunsReproof (bytes : List ℕ) (status : Status) (cert cert' text text' : SinkState) : Type 0 where
+  pub answer : AnswersReproof bytes status
+  pub proof : WritesUntil status (reproofed bytes).cert cert cert'
+  pub line : WritesUntil status (reproofed bytes).text text text'
+
 -- The status is Done or NoMemory for a proof without an error, whose Pareto frontiers all rise in size and fall in
 -- error.
 abbrev pub CompletesReproof : Status → List ℕ → Type 0

@@ -4,6 +4,7 @@ use Rattle.pw_outside.specs.Reading.{AreBytes}
 use Rattle.pw_outside.specs.Writing.{SinkState, Puts, PutsFront}
 use Rattle.pcm_track.specs.declared.end.SoundEnd.{SoundEnd}
 use Rattle.pcm_track.specs.declared.end.SoundEnd.TheVariants as ends
+use Rattle.pcm_track.specs.Ends.{Outcome}
 use Rattle.sound_round.specs.Laws.{IsReadAgain}
 use Rattle.workshop.specs.Status.{AnswersUnlessOutside}
 use Rattle.workshop.specs.declared.status.Status.{Status}
@@ -26,6 +27,12 @@ AnswersSound known status = AnswersUnlessOutside status (status_of known)
 abbrev pub WritesUntilDone : Status → List ℕ → SinkState → SinkState → Type 0
 WritesUntilDone s.Done bytes before after = Puts before after bytes
 WritesUntilDone _ bytes before after = PutsFront before after bytes
+
+-- The status, and what was written of the result: the file to `out`, the line to `text`.
+pub record RunsSound (known : Outcome) (status : Status) (out out' text text' : SinkState) : Type 0 where
+  pub answer : AnswersSound known.end status
+  pub file : WritesUntilDone status known.out out out'
+  pub line : WritesUntilDone status known.text text text'
 
 -- After Done the sink took bytes from which the pictures of the file and the sound of the WAV are read again.
 abbrev pub ReadsAgain : Status → (file wav : List ℕ) → SinkState → SinkState → Type 0

@@ -332,26 +332,6 @@ abbrev pub usage_fault : Said → Option UsageFault
 usage_fault (Ok s) = None
 usage_fault (Err fault) = Some fault
 
--- This is what to run.
-abbrev pub IsRun : Task → Said → Type 0
-IsRun t (Ok s) = s.0 ≡ t
-IsRun t (Err fault) = ⊥
-
-abbrev pub IsEncode : EncodeWords → Said → Type 0
-IsEncode w s = IsRun (task.Encode w) s
-
-abbrev pub IsDecode : DecodeWords → Said → Type 0
-IsDecode w s = IsRun (task.Decode w) s
-
-abbrev pub IsRescue : Rate → Said → Type 0
-IsRescue rate s = IsRun (task.Rescue rate) s
-
-abbrev pub IsLeast : (cap : ℕ) → Said → Type 0
-IsLeast cap s = IsRun (task.Least cap) s
-
-abbrev pub IsSynth : SynthWords → Said → Type 0
-IsSynth w s = IsRun (task.Synth w) s
-
 abbrev pub command_of : Task → Command
 command_of task.Plan = command.Plan
 command_of (task.Encode w) = command.Encode
@@ -372,24 +352,6 @@ command_of (task.Synth w) = command.Synth
 abbrev pub uses_in : Said → Ports
 uses_in (Ok s) = uses_of s.0
 uses_in (Err fault) = no_ports
-
-abbrev pub reads_pictures : Said → Bool
-reads_pictures s = (uses_in s).pictures
-
-abbrev pub reads_proof : Said → Bool
-reads_proof s = (uses_in s).proof
-
-abbrev pub reads_movie : Said → Bool
-reads_movie s = (uses_in s).movie
-
-abbrev pub writes_out : Said → Bool
-writes_out s = (uses_in s).out
-
-abbrev pub writes_cert : Said → Bool
-writes_cert s = (uses_in s).cert
-
-abbrev pub writes_text : Said → Bool
-writes_text s = (uses_in s).text
 
 -- whether the command reports pictures to monitors
 abbrev pub is_decode : Task → Bool
